@@ -6,7 +6,10 @@
 For up to thirty seconds one connection after the other joins a group of one tenant with 2,000,000 bytes of metadata, and closes: 10,000 at
 most. None waits for the end of its member's session, which is thirty minutes away. The process has to stay within 90,000,000 bytes more
 than it began with, and the first join that is refused has to be answered 81 (GROUP_MAX_SIZE_REACHED). A member of another tenant joins,
-is given its assignment, and is answered its heartbeats all the while. It prints `N of M wrong`.
+is given its assignment, and is answered its heartbeats all the while.
+
+Then the settings give one tenant two groups and 3,000,000 bytes. Its second join of that size is answered 81, and its third group 15
+(COORDINATOR_NOT_AVAILABLE); the other tenant has what it had. It prints `N of M wrong`.
 """
 
 import struct
@@ -21,6 +24,13 @@ SECONDS = 30
 METADATA = 2_000_000
 MORE = 90_000_000
 SESSION = 1_800_000
+
+SMALL = """
+[[tenant]]
+name = "a"
+groups = 2
+group_bytes = 3000000
+"""
 
 
 def blob(value):
@@ -99,19 +109,39 @@ def looked_at(broker):
     return sum(not it for it in looks.values()), len(looks)
 
 
+def limited(broker):
+    """What is wrong where the settings limit a tenant's groups."""
+    def code(name, password, group, size):
+        return joined(Client(broker.port, name, password).ask(*join(group, bytes(size))))[0]
+
+    looks = {
+        "a group within its limits": code(b"ann", b"pw1", b"one", METADATA) == 0,
+        "more bytes than it may keep": code(b"ann", b"pw1", b"two", METADATA) == 81,
+        "a second group": code(b"ann", b"pw1", b"two", 100) == 0,
+        "a third group": code(b"ann", b"pw1", b"three", 100) == 15,
+        "three groups of another tenant": [code(b"bob", b"pw2", b"g%d" % n, METADATA) for n in range(3)] == [0, 0, 0],
+    }
+    for name, is_well in looks.items():
+        if not is_well:
+            print(f"wrong: {name}")
+    return sum(not it for it in looks.values()), len(looks)
+
+
 def main(program):
     """Whether groups' memory has its limit."""
-    with tempfile.TemporaryDirectory() as room:
-        broker = Broker(program, room)
-        try:
-            if not broker.listens():
-                print("the broker does not listen")
-                return 1
-            wrong, all_of = looked_at(broker)
-            print(f"{wrong} of {all_of} wrong")
-            return 1 if wrong else 0
-        finally:
-            broker.stop()
+    sums = [0, 0]
+    for more, look in (("", looked_at), (SMALL, limited)):
+        with tempfile.TemporaryDirectory() as room:
+            broker = Broker(program, room, more)
+            try:
+                if not broker.listens():
+                    print(f"the broker does not listen: {broker.log()}")
+                    return 1
+                sums = [before + here for before, here in zip(sums, look(broker))]
+            finally:
+                broker.stop()
+    print(f"{sums[0]} of {sums[1]} wrong")
+    return 1 if sums[0] else 0
 
 
 if __name__ == "__main__":

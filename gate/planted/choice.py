@@ -4,6 +4,7 @@ import os
 import re
 from typing import Dict, List, NamedTuple, Optional
 
+from planted import source
 from planted.libraries import Libraries, lines_of
 from planted.prover import LIB
 
@@ -30,13 +31,13 @@ class Tried(NamedTuple):
 
 
 def edits_of(folder: str, parts: List[str]) -> List[str]:
-    """The crate's edits in these folders; of must-fail those that change code."""
-    found = []
+    """The crate's edits in these folders; of must-fail those that change code, or the definitions of a crate that has nothing else."""
+    found, tried = [], ("src/", "specs/") if source.is_of_laws(folder) else ("src/",)
     for part in parts:
         at = f"{folder}/{part}"
         if os.path.isdir(at):
             edits = [f"{at}/{name}" for name in sorted(os.listdir(at)) if name.endswith(".edit")]
-            found += [it for it in edits if part != "must-fail" or all(file.startswith("src/") for file in files_in(it))]
+            found += [it for it in edits if part != "must-fail" or all(file.startswith(tried) for file in files_in(it))]
     return found
 
 

@@ -29,9 +29,9 @@ class Plan:
     def __init__(self, edit: str, texts: Dict[str, str], before: Dict[str, str]):
         self.edit, self.name = edit, os.path.basename(edit)[: -len(".edit")]
         self.files = set(texts)
-        self.change = source.change(before, texts)
-        bodies = {file: without_bodies(file, text) for file, text in before.items()}
-        outside = any(without_bodies(file, text) != bodies[file] for file, text in texts.items())
+        code = {file: text for file, text in texts.items() if file.startswith("src/")}
+        self.change = source.change(before, code)
+        outside = any(without_bodies(file, text) != without_bodies(file, before[file]) for file, text in code.items())
         # what others read too, as a type or a constant, is changed in a round of its own
         self.is_alone = not self.change.functions or (outside and not self.change.new)
         # what of it gate/tried has: the sum of its texts, its processor seconds, and the clause that a person found false
@@ -69,6 +69,8 @@ class Crate:
         self.name, self.room = crate.name, Room(crate, below, scratch)
         # (where rt ci has kept the crate's own library, all of it is proved as it stands)
         self.is_proved = below.has(crate)
+        # (where there is no code, the definitions are what is tried, and whichever law is false then refuses)
+        self.tried = ("src/", "specs/") if source.is_of_laws(crate.folder) else ("src/",)
         self.calls: Dict[str, set] = {}
         self.goals: Dict[str, set] = {}
         self.rounds = 0
@@ -83,7 +85,7 @@ class Crate:
         plan = Plan(edit, texts or {}, {path: self.before[path] for path in texts or {}})
         if why:
             plan.judge(GONE, why)
-        elif not all(path.startswith("src/") for path in texts):
+        elif not all(path.startswith(self.tried) for path in texts):
             plan.judge(NOT_CODE, "it changes " + ", ".join(sorted(texts)))
         elif plan.change.in_a_contract or plan.change.functions and not plan.change.in_a_body:
             plan.judge(CONTRACT)

@@ -1,4 +1,5 @@
 """The functions of a Rust text: which there are, and which of them an edit changes."""
+import os
 import re
 from collections import Counter
 from typing import Dict, NamedTuple
@@ -140,6 +141,17 @@ def change(before: Dict[str, str], after: Dict[str, str]) -> Change:
         was = constants_in(before[file])
         constants |= {name for name, it in constants_in(text).items() if was.get(name, it) != it}
     return Change(frozenset(changed), in_a_body, in_a_contract, branches, frozenset(new), frozenset(constants))
+
+
+def is_of_laws(folder: str) -> bool:
+    """Whether a crate has definitions and laws alone: each of its functions has an empty body, and says what its contract says."""
+    bodies = []
+    for path, _, names in os.walk(f"{folder}/src"):
+        for name in (it for it in names if it.endswith(".rt")):
+            with open(f"{path}/{name}", encoding="utf-8") as it:
+                text = it.read()
+            bodies += [text[it.body : it.end].split() for it in functions_in(name, text).values()]
+    return bool(bodies) and all(it in (["{}"], ["{", "}"]) for it in bodies)
 
 
 def branches_in(body: str) -> Counter:

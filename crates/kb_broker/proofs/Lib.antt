@@ -32,6 +32,7 @@ pub mod ScriptHush
 pub mod ScriptSaid
 pub mod ScriptTells
 pub mod Stranded
+pub mod Limited
 pub mod Members
 pub mod ScriptEvents
 pub mod ScriptPlay

@@ -1,6 +1,8 @@
 pub mod Able
+pub mod Counts
 pub mod Deadline
 pub mod Hosts
+pub mod Limited
 pub mod Members
 pub mod Opening
 pub mod Parked

@@ -13,6 +13,7 @@ mod broker;
 mod count;
 mod deadline;
 mod engine;
+mod limits;
 mod opening;
 mod parking;
 mod promises;
@@ -23,6 +24,8 @@ mod speakers;
 
 pub use broker::Broker;
 pub use kb_settings::{Settings, User};
+pub use kb_tenants::TenantView;
+pub use limits::group_limits;
 pub use opening::{Listing, OpenFault, OpenRefused, Opened, names_in_order, places_of_names};
 pub use promises::{nobody_is_stranded, opened_alone_is_the_same};
 pub use run::{Event, Written, run_both};

@@ -169,6 +169,8 @@ fn say_limits(tenants: &[TenantLimits], said: &mut Said) -> Result<(), AllocErro
                 "reserved_connections",
                 Number(limits.reserved_connections as i64),
             ),
+            ("groups", Number(limits.groups.groups as i64)),
+            ("group_bytes", Number(limits.groups.bytes as i64)),
         ])?;
     }
     Ok(())
@@ -225,10 +227,13 @@ fn limits(alloc: Global, rest: &str, said: &mut Said) -> Result<(), AllocError> 
 fn say_limits_of(settings: &Settings, names: &str, said: &mut Said) -> Result<(), AllocError> {
     for name in names.split(',') {
         let limits = settings.limits_of(name);
+        let groups = settings.groups_of(name);
         said.fields(&[
             ("limits of", Text(name)),
             ("most", Number(limits.most as i64)),
             ("reserved", Number(limits.reserved as i64)),
+            ("groups", Number(groups.groups as i64)),
+            ("group_bytes", Number(groups.bytes as i64)),
         ])?;
     }
     Ok(())

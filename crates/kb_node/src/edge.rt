@@ -2,6 +2,7 @@
 
 ghost use Rattle.std.specs.Prelude.{◌≡◌, ◌≤◌, ◌<◌, ◌*◌, ◌^◌, Err, Some, IfOk, IfErr, IfSome, vec_len};
 
+mod beside;
 mod closing;
 mod serving;
 mod waiting;

@@ -6,7 +6,13 @@ use toml::value::Array;
 use toml::{Table, Value};
 
 /// The keys of limits.
-const KEYS: [&str; 3] = ["name", "connections", "reserved_connections"];
+const KEYS: [&str; 5] = [
+    "name",
+    "connections",
+    "reserved_connections",
+    "groups",
+    "group_bytes",
+];
 
 /// The most limits.
 const LIMITS: usize = 256;
@@ -67,18 +73,34 @@ fn entry_reason(
     if !is_named(document.get("user"), entry.get("name")) {
         return Ok(Some(String::from_str(alloc, "no user is of this tenant")?));
     }
-    let most = entry.get("connections");
-    if let Some(wrong) = number_reason(alloc, most, 1, connections)? {
-        return Ok(Some(format!(in alloc; "connections: {wrong}")?));
-    }
-    let most = integer_of(most).unwrap_or(connections);
-    if let Some(wrong) = number_reason(alloc, entry.get("reserved_connections"), 0, most)? {
-        return Ok(Some(format!(in alloc; "reserved_connections: {wrong}")?));
+    if let Some(wrong) = numbers_reason(alloc, connections, entry)? {
+        return Ok(Some(wrong));
     }
     match other_key(entry, &KEYS) {
         Some(key) => Ok(Some(format!(in alloc; "there is no such key: {key}")?)),
         None => Ok(None),
     }
+}
+
+/// What is wrong with the first wrong number of an entry, if one is.
+fn numbers_reason(
+    alloc: Global,
+    connections: i64,
+    entry: &Table,
+) -> Result<Option<String>, AllocError> {
+    let most = integer_of(entry.get("connections")).unwrap_or(connections);
+    let numbers = [
+        ("connections", 1, connections),
+        ("reserved_connections", 0, most),
+        ("groups", 0, 1000),
+        ("group_bytes", 1_048_576, i64::MAX),
+    ];
+    for (key, low, high) in numbers {
+        if let Some(wrong) = number_reason(alloc, entry.get(key), low, high)? {
+            return Ok(Some(format!(in alloc; "{key}: {wrong}")?));
+        }
+    }
+    Ok(None)
 }
 
 /// Whether a user is of the tenant of this name.

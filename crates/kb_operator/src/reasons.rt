@@ -1,4 +1,4 @@
-//! What is wrong with a key of the settings, or with a user. No password is told.
+//! What is wrong with a key of the settings, or with a user. No password and no token is told.
 
 use crate::entries::{name_of, numbered, other_key, place_of, shown, text_reason};
 use crate::limits::tenants_reason;
@@ -23,6 +23,9 @@ pub fn field_reason(alloc: Global, text: &str, key: &str) -> Result<String, Allo
     if key == "tenant" {
         return tenants_reason(alloc, &document);
     }
+    if key == "metrics_token" {
+        return token_reason(alloc, document.get(key));
+    }
     let Some(wanted) = wanted(key) else {
         return String::from_str(alloc, ": there is no such key");
     };
@@ -32,6 +35,20 @@ pub fn field_reason(alloc: Global, text: &str, key: &str) -> Result<String, Allo
         }
         Some(value) => format!(in alloc; ": {} is not {wanted}", shown(alloc, value)?),
         None => String::from_str(alloc, ": is missing"),
+    }
+}
+
+/// What is wrong with the token for metrics, which is not told.
+fn token_reason(alloc: Global, token: Option<&Value>) -> Result<String, AllocError> {
+    match token {
+        Some(_) => String::from_str(
+            alloc,
+            ": is not a text of 16 to 255 printable ASCII characters",
+        ),
+        None => String::from_str(
+            alloc,
+            ": is missing, and others than this machine can ask for `metrics`",
+        ),
     }
 }
 
@@ -55,6 +72,7 @@ fn wanted(key: &str) -> Option<&str> {
         "idle_seconds" => Some("a number from 0 to 4294967"),
         "input_bytes" => Some("a number from 8388608 to 4294967295"),
         "stock_clients" => Some("true or false"),
+        "metrics" => Some("HOST:PORT of this machine, with an IPv6 address in brackets"),
         "data" => Some("a path"),
         _ => None,
     }

@@ -2,31 +2,37 @@
 
 use crate::address::address_text;
 use crate::fault::OperatorFault;
-use kb_settings::{Settings, TenantLimits, tenant_names};
-use std::alloc::Global;
+use kb_settings::{Endpoint, Settings, TenantLimits, tenant_names};
+use std::alloc::{AllocError, Global};
 use std::io;
 use std::io::Write;
 
-/// Writes a line for each key, for each user and for each tenant with limits, in the order of the file and without passwords, and
-/// then the counts. The folder is the one that they name.
+/// Writes a line for each key, for each user and for each tenant with limits, in the order of the file and without passwords and the
+/// token for metrics, and then the counts. The folder is the one that they name.
 pub fn write_settings<W: Write>(
     alloc: Global,
     settings: &Settings,
     folder: &str,
     writer: &mut W,
 ) -> Result<(), OperatorFault> {
-    let advertised = match &settings.advertise {
-        Some(told) => Some(address_text(alloc, &told.host, told.port)?),
-        None => None,
-    };
+    let advertised = endpoint_text(alloc, &settings.advertise)?;
+    let metrics = endpoint_text(alloc, &settings.metrics.address)?;
     let tenants = tenant_names(alloc, &settings.users)?.len();
     let written = match write_addresses(settings, advertised.as_deref(), writer) {
-        Ok(()) => write_rest(settings, folder, tenants, writer),
+        Ok(()) => write_rest(settings, metrics.as_deref(), folder, tenants, writer),
         Err(error) => Err(error),
     };
     match written {
         Ok(()) => Ok(()),
         Err(_) => Err(OperatorFault::Write),
+    }
+}
+
+/// `HOST:PORT`, where there is one.
+fn endpoint_text(alloc: Global, endpoint: &Option<Endpoint>) -> Result<Option<String>, AllocError> {
+    match endpoint {
+        Some(told) => Ok(Some(address_text(alloc, &told.host, told.port)?)),
+        None => Ok(None),
     }
 }
 
@@ -44,9 +50,10 @@ fn write_addresses<W: Write>(
     Ok(())
 }
 
-/// The sizes, the folder, the users, the limits of tenants and the counts.
+/// The sizes, where metrics are served, the folder, the users, the limits of tenants and the counts.
 fn write_rest<W: Write>(
     settings: &Settings,
+    metrics: Option<&str>,
     folder: &str,
     tenants: usize,
     writer: &mut W,
@@ -57,6 +64,9 @@ fn write_rest<W: Write>(
     writeln!(writer, "connections = {}", settings.connections)?;
     writeln!(writer, "output_bytes = {}", settings.output_bytes)?;
     write_edge(settings, writer)?;
+    if let Some(metrics) = metrics {
+        writeln!(writer, "metrics = {metrics:?}")?;
+    }
     writeln!(writer, "data = {folder:?}")?;
     for user in &settings.users {
         writeln!(writer, "user {:?} of tenant {:?}", user.name, user.tenant)?;
@@ -87,9 +97,11 @@ fn write_edge<W: Write>(settings: &Settings, writer: &mut W) -> io::Result<()> {
 fn write_limits<W: Write>(limits: &TenantLimits, writer: &mut W) -> io::Result<()> {
     let most = limits.connections;
     let reserved = limits.reserved_connections;
+    let groups = limits.groups.groups;
+    let bytes = limits.groups.bytes;
     writeln!(
         writer,
-        "tenant {:?}: connections = {most}, reserved_connections = {reserved}",
+        "tenant {:?}: connections = {most}, reserved_connections = {reserved}, groups = {groups}, group_bytes = {bytes}",
         limits.name
     )
 }

@@ -7,7 +7,7 @@ use kb_folder::{Folder, FolderCall, FolderFault, FolderStore, HostFolder, Refusa
 use kb_log::{LogFault, Shelf};
 use kb_process::soft_limit;
 use kb_store::{Store, StoreFault, read_file};
-use std::alloc::Global;
+use std::alloc::{AllocError, Global};
 use std::fs;
 use std::process::Abort;
 use std::test::Fail;
@@ -61,16 +61,75 @@ pub(crate) fn remove<S: Store>(alloc: Global, store: &mut S) -> Result<(), Fail>
     Ok(store.remove(0)?)
 }
 
+/// A folder that stores are opened over, one after the other.
+trait Opens {
+    /// A store over it.
+    type Opened: Store + Drop;
+
+    /// The store over the folder as it is now.
+    fn opened(&self) -> Result<Self::Opened, FolderFault>;
+}
+
+/// A folder of the system's.
+#[derive(Clone, Copy)]
+struct OfSystem<'a> {
+    files: HostRuntime,
+    path: &'a str,
+}
+
+impl Opens for OfSystem<'_> {
+    type Opened = FolderStore<HostFolder<HostRuntime>>;
+
+    fn opened(&self) -> Result<FolderStore<HostFolder<HostRuntime>>, FolderFault> {
+        opened(&self.files, self.path)
+    }
+}
+
+/// Writes a file of two pieces in a folder.
+fn leave_written<O: Opens>(alloc: Global, folder: &O) -> Result<(), Fail> {
+    drop(written(alloc, folder.opened()?)?);
+    Ok(())
+}
+
+/// Cuts the only file of a folder to five bytes.
+fn leave_cut<O: Opens>(alloc: Global, folder: &O) -> Result<(), Fail> {
+    cut(alloc, &mut folder.opened()?, 5)
+}
+
+/// Takes the only file of a folder away.
+fn leave_removed<O: Opens>(alloc: Global, folder: &O) -> Result<(), Fail> {
+    remove(alloc, &mut folder.opened()?)
+}
+
+/// Whether the only file of a folder has those bytes.
+fn is_left<O: Opens>(alloc: Global, folder: &O, bytes: &[u8]) -> Result<bool, Fail> {
+    Ok(has(alloc, &mut folder.opened()?, bytes)?)
+}
+
+/// Whether a folder has no file of a log.
+fn is_left_empty<O: Opens>(alloc: Global, folder: &O) -> Result<bool, Fail> {
+    Ok(folder.opened()?.list(alloc)?.is_empty())
+}
+
 /// Each store is over the folder as the one before left it.
+fn is_kept_in<O: Opens>(rt: &impl Abort, alloc: Global, folder: &O) -> Result<(), Fail> {
+    leave_written(alloc, folder)?;
+    assert!(rt; is_left(alloc, folder, b"first second")?);
+    leave_cut(alloc, folder)?;
+    assert!(rt; is_left(alloc, folder, b"first")?);
+    leave_removed(alloc, folder)?;
+    assert!(rt; is_left_empty(alloc, folder)?);
+    Ok(())
+}
+
+/// So they are beside a file that is no log's.
 fn is_kept(files: &HostRuntime, rt: &impl Abort, path: &str, other: &str) -> Result<(), Fail> {
-    let alloc = files.alloc();
-    drop(written(alloc, opened(files, path)?)?);
+    let folder = OfSystem {
+        files: *files,
+        path,
+    };
     fs::write(files, other, "not a log's")?;
-    assert!(rt; has(alloc, &mut opened(files, path)?, b"first second")?);
-    cut(alloc, &mut opened(files, path)?, 5)?;
-    assert!(rt; has(alloc, &mut opened(files, path)?, b"first")?);
-    remove(alloc, &mut opened(files, path)?)?;
-    assert!(rt; opened(files, path)?.list(alloc)?.is_empty());
+    is_kept_in(rt, files.alloc(), &folder)?;
     assert!(rt; fs::read(files, other)?.as_slice() == b"not a log's".as_slice());
     Ok(())
 }
@@ -87,49 +146,123 @@ fn a_folder_is_what_it_was(rt: HostRuntime) -> Result<(), Fail> {
     Ok(())
 }
 
+/// Whether a folder has no file of a log beside a reserve.
+fn is_empty_but_for_a_reserve(files: &HostRuntime, path: &str) -> Result<bool, Fail> {
+    let folder = HostFolder::new(*files, path)?.with_reserve();
+    Ok(
+        FolderStore::new(files.alloc(), folder)?
+            .list(files.alloc())?
+            .is_empty(),
+    )
+}
+
 #[test]
 fn a_reserve_is_no_file_of_the_store(rt: HostRuntime) -> Result<(), Fail> {
-    let (alloc, path) = (rt.alloc(), folder_of_its_own(&rt)?);
-    let folder = HostFolder::new(rt, path.as_str())?.with_reserve();
-    let mut store = FolderStore::new(alloc, folder)?;
-    let reserve = format!(in alloc; "{path}/reserve")?;
-    assert!(rt; store.list(alloc)?.is_empty());
+    let path = folder_of_its_own(&rt)?;
+    assert!(rt; is_empty_but_for_a_reserve(&rt, path.as_str())?);
+    let reserve = format!(in rt.alloc(); "{path}/reserve")?;
     assert!(rt; fs::metadata(&rt, reserve.as_str())?.len() == 4_194_304);
     fs::remove_file(&rt, reserve.as_str())?;
     fs::remove_dir(&rt, path.as_str())?;
     Ok(())
 }
 
+/// A folder of the system's, and what it notes of refusals.
+#[derive(Drop)]
+struct Watched {
+    folder: HostFolder<HostRuntime>,
+    refusals: Refusals,
+}
+
+impl Watched {
+    /// A folder, of which nothing is noted yet.
+    fn new(alloc: Global, folder: HostFolder<HostRuntime>) -> Result<Watched, AllocError> {
+        let refusals = Refusals::new(alloc)?;
+        let folder = folder.noting(refusals.share()?);
+        Ok(Watched { folder, refusals })
+    }
+
+    /// One to write in.
+    fn to_write(files: &HostRuntime, path: &str) -> Result<Watched, Fail> {
+        let folder = HostFolder::new(*files, path)?;
+        Ok(Watched::new(files.alloc(), folder)?)
+    }
+
+    /// One to read in.
+    fn to_read(files: &HostRuntime, path: &str) -> Result<Watched, Fail> {
+        let folder = HostFolder::to_read(*files, path)?;
+        Ok(Watched::new(files.alloc(), folder)?)
+    }
+
+    /// One to write in that keeps in mind what it changes.
+    fn to_sync(files: &HostRuntime, path: &str) -> Result<Watched, Fail> {
+        let folder = HostFolder::new(*files, path)?.syncing();
+        Ok(Watched::new(files.alloc(), folder)?)
+    }
+
+    /// The length of a file.
+    fn len(&mut self, file: u64) -> Result<u64, FolderFault> {
+        self.folder.len(file)
+    }
+
+    /// How many bytes of a file are read, where none are asked for.
+    fn read(&mut self, file: u64) -> Result<usize, FolderFault> {
+        self.folder.read_at(file, 0, &mut [])
+    }
+
+    /// Makes a file.
+    fn create(&mut self, file: u64) -> Result<(), FolderFault> {
+        self.folder.create(file)
+    }
+
+    /// Syncs what was changed.
+    fn sync(&mut self) -> Result<(), FolderFault> {
+        self.folder.sync()
+    }
+
+    /// The file 3 is made, written, synced and removed again: how many bytes were written.
+    fn use_once(&mut self) -> Result<usize, FolderFault> {
+        self.folder.sync_found()?;
+        self.folder.create(3)?;
+        let written = self.folder.write_end(3, 0, b"some")?;
+        self.folder.sync()?;
+        self.folder.remove(3)?;
+        Ok(written)
+    }
+
+    /// One refusal is noted, of that call and that file.
+    fn has_noted(&self, rt: &impl Abort, call: FolderCall, file: Option<u64>) -> Result<(), Fail> {
+        let refusal = self.refusals.take().ok_or("nothing noted")?;
+        assert!(rt; refusal.call == call && refusal.file == file);
+        assert!(rt; self.refusals.take().is_none());
+        Ok(())
+    }
+}
+
 #[test]
 fn a_refusal_is_noted(rt: HostRuntime) -> Result<(), Fail> {
-    let refusals = Refusals::new(rt.alloc())?;
-    let mut folder = HostFolder::to_read(rt, "/nowhere")?.noting(refusals.share()?);
+    let mut folder = Watched::to_read(&rt, "/nowhere")?;
     assert!(rt; folder.len(5) == Err(FolderFault::Refused));
-    let refusal = refusals.take().ok_or("nothing noted")?;
-    assert!(rt; refusal.call == FolderCall::Length && refusal.file == Some(5));
-    assert!(rt; refusals.take().is_none());
-    Ok(())
+    folder.has_noted(&rt, FolderCall::Length, Some(5))
+}
+
+/// A sync is refused, and noted.
+fn is_not_synced(rt: &impl Abort, folder: &mut Watched) -> Result<(), Fail> {
+    assert!(rt; folder.sync() == Err(FolderFault::Refused));
+    folder.has_noted(rt, FolderCall::Sync, None)
 }
 
 /// A folder that keeps in mind what it changes is synced. Where that is refused, so is each later sync, also after the cause is gone.
 #[test]
 fn a_refused_sync_is_the_last(rt: HostRuntime) -> Result<(), Fail> {
-    let (refusals, path) = (Refusals::new(rt.alloc())?, folder_of_its_own(&rt)?);
-    let folder = HostFolder::new(rt, path.as_str())?.syncing();
-    let mut folder = folder.noting(refusals.share()?);
-    folder.sync_found()?;
-    folder.create(3)?;
-    assert!(rt; folder.write_end(3, 0, b"some")? == 4);
-    folder.sync()?;
-    folder.remove(3)?;
+    let path = folder_of_its_own(&rt)?;
+    let mut folder = Watched::to_sync(&rt, path.as_str())?;
+    assert!(rt; folder.use_once()? == 4);
     fs::remove_dir(&rt, path.as_str())?;
     assert!(rt; folder.create(4) == Err(FolderFault::Refused));
-    for _ in 0..2 {
-        assert!(rt; folder.sync() == Err(FolderFault::Refused));
-        let refusal = refusals.take().ok_or("nothing noted")?;
-        assert!(rt; refusal.call == FolderCall::Sync && refusal.file.is_none());
-        let _ = fs::create_dir(&rt, path.as_str());
-    }
+    is_not_synced(&rt, &mut folder)?;
+    fs::create_dir(&rt, path.as_str())?;
+    is_not_synced(&rt, &mut folder)?;
     fs::remove_dir(&rt, path.as_str())?;
     Ok(())
 }
@@ -140,26 +273,19 @@ fn a_folder_in_it_has_no_bytes(rt: HostRuntime) -> Result<(), Fail> {
     let path = folder_of_its_own(&rt)?;
     let inner = format!(in rt.alloc(); "{path}/00000000000000000007.seg")?;
     fs::create_dir(&rt, inner.as_str())?;
-    has_a_folder(&rt, &rt, HostFolder::new(rt, path.as_str())?)?;
-    has_a_folder(&rt, &rt, HostFolder::to_read(rt, path.as_str())?)?;
+    has_a_folder(&rt, &mut Watched::to_write(&rt, path.as_str())?)?;
+    has_a_folder(&rt, &mut Watched::to_read(&rt, path.as_str())?)?;
     fs::remove_dir(&rt, inner.as_str())?;
     fs::remove_dir(&rt, path.as_str())?;
     Ok(())
 }
 
 /// The file 7 of a folder is a folder.
-fn has_a_folder(
-    files: &HostRuntime,
-    rt: &impl Abort,
-    folder: HostFolder<HostRuntime>,
-) -> Result<(), Fail> {
-    let refusals = Refusals::new(files.alloc())?;
-    let mut folder = folder.noting(refusals.share()?);
+fn has_a_folder(rt: &impl Abort, folder: &mut Watched) -> Result<(), Fail> {
     assert!(rt; folder.len(7) == Ok(0));
-    let refusal = refusals.take().ok_or("nothing noted")?;
-    assert!(rt; refusal.call == FolderCall::Length && refusal.file == Some(7));
-    assert!(rt; folder.read_at(7, 0, &mut []) == Ok(0));
-    assert!(rt; refusals.take().is_none());
+    folder.has_noted(rt, FolderCall::Length, Some(7))?;
+    assert!(rt; folder.read(7) == Ok(0));
+    assert!(rt; folder.refusals.take().is_none());
     Ok(())
 }
 

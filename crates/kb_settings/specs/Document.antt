@@ -8,9 +8,11 @@ use Rattle.toml.specs.Data.{Items, no_items, item, Members, no_members, member}
 use Rattle.kb_settings.specs.Names.{in_order}
 use Rattle.kb_settings.specs.Settings.{is_within, is_credential, is_tenant, are_different}
 use Rattle.kb_settings.specs.Address.{is_listened, bare, endpoint_in}
-use Rattle.kb_settings.specs.Limits.{Limits, are_limits}
-use Rattle.kb_settings.specs.Values.{Account, Requests, Values}
+use Rattle.kb_settings.specs.Limits.{Limits, are_limits, standard_groups}
+use Rattle.kb_settings.specs.Metrics.{is_token, is_guarded}
+use Rattle.kb_settings.specs.Values.{Account, Metrics, Requests, Values}
 use Rattle.kb_settings.specs.declared.sync.Sync.{Sync}
+use Rattle.kb_settings.specs.declared.tenant_limits.GroupLimits.{GroupLimits}
 use Rattle.kb_settings.specs.declared.sync.Sync.TheVariants.{Always, Interval, Never}
 
 -- 1. What a value says: nothing where it is wrong
@@ -121,13 +123,14 @@ said_or standard says None = Some standard
 said_or standard says (Some value) = says value
 
 abbrev pub tenant_keys : List (List ℕ)
-tenant_keys = codes "name" ∷ codes "connections" ∷ codes "reserved_connections" ∷ []
+tenant_keys =
+    codes "name" ∷ codes "connections" ∷ codes "reserved_connections" ∷ codes "groups" ∷ codes "group_bytes" ∷ []
 
 -- limits of this name and these numbers, where all are right, and there is no other key
-abbrev pub limits_with : Option (List ℕ) → Option ℕ → Option ℕ → Option (List ℕ) → Option Limits
-limits_with (Some name) (Some connections) (Some reserved) None =
-    Some (record { name = name; connections = connections; reserved_connections = reserved })
-limits_with name connections reserved other = None
+abbrev pub limits_with : Option (List ℕ) → Option ℕ → Option ℕ → Option GroupLimits → Option (List ℕ) → Option Limits
+limits_with (Some name) (Some connections) (Some reserved) (Some groups) None =
+    Some (record { name = name; connections = connections; reserved_connections = reserved; groups = groups })
+limits_with name connections reserved groups other = None
 
 -- how many are reserved: none where it is not said, and no more than there may be at most
 abbrev pub reserved_of : Members → Option ℕ → Option ℕ
@@ -139,11 +142,21 @@ reserved_of entry (Some connections) =
 abbrev pub connections_of : ℕ → Members → Option ℕ
 connections_of standard entry = said_or standard (number_in 1 1000000) (get_member (codes "connections") entry)
 
+abbrev pub groups_with : Option ℕ → Option ℕ → Option GroupLimits
+groups_with (Some groups) (Some bytes) = Some (record { groups = groups; bytes = bytes })
+groups_with groups bytes = None
+
+-- what the groups of an entry's tenant may take
+abbrev pub groups_of : Members → Option GroupLimits
+groups_of entry =
+    groups_with (said_or standard_groups.groups (number_in 0 1000) (get_member (codes "groups") entry))
+    (said_or standard_groups.bytes (number_in 1048576 9223372036854775807) (get_member (codes "group_bytes") entry))
+
 -- an entry of `tenant`
 abbrev pub entry_limits : ℕ → Data → Option Limits
 entry_limits standard (table entry) =
     limits_with (text_of is_tenant (codes "name") entry) (connections_of standard entry)
-    (reserved_of entry (connections_of standard entry)) (other_key tenant_keys entry)
+    (reserved_of entry (connections_of standard entry)) (groups_of entry) (other_key tenant_keys entry)
 entry_limits standard _ = None
 
 abbrev pub limits_before : Option Limits → Option (List Limits) → Option (List Limits)
@@ -171,7 +184,7 @@ settings_keys =
     codes "host" ∷ codes "port" ∷ codes "advertise" ∷ codes "segment_bytes" ∷ codes "cache_batches" ∷ codes "cache_bytes"
     ∷ codes "connections" ∷ codes "output_bytes" ∷ codes "sync" ∷ codes "sync_ms" ∷ codes "login_seconds" ∷ codes "reply_seconds"
     ∷ codes "strangers" ∷ codes "request_seconds" ∷ codes "idle_seconds" ∷ codes "input_bytes" ∷ codes "stock_clients"
-    ∷ codes "data" ∷ codes "user" ∷ codes "tenant" ∷ []
+    ∷ codes "metrics" ∷ codes "metrics_token" ∷ codes "data" ∷ codes "user" ∷ codes "tenant" ∷ []
 
 -- goes on with what is said at a key, or names the key where it is wrong
 abbrev pub go_on : {A B : Type 0} → List ℕ → Option A → (A → Result B (List ℕ)) → Result B (List ℕ)
@@ -223,6 +236,24 @@ requests_in document =
     read_key document (codes "input_bytes") 268435456 (number_in 8388608 4294967295) λ input_bytes.
     Ok (record { request_seconds = request_seconds; idle_seconds = idle_seconds; input_bytes = input_bytes })
 
+-- a token, where one is said
+abbrev pub token_in : Data → Option (Option (List ℕ))
+token_in value = option_map Some (text_in is_token value)
+
+-- where metrics are served and to whom, unless that is to everybody
+abbrev pub guarded : Option (List ℕ × ℕ) → Option (List ℕ) → Option Metrics
+guarded None token = Some (record { address = None; token = token })
+guarded (Some address) token =
+    if is_guarded address.0 (is_some token) then Some (record { address = Some address; token = token }) else None
+
+-- the same of a document, or the first wrong key
+abbrev pub metrics_in : Members → Result Metrics (List ℕ)
+metrics_in document =
+    read_key document (codes "metrics") None advertise_in λ address.
+    read_key document (codes "metrics_token") None token_in λ token.
+    go_on (codes "metrics_token") (guarded address token) λ metrics.
+    Ok metrics
+
 -- the settings, unless there is another key
 abbrev pub no_other : {A : Type 0} → Option (List ℕ) → A → Result A (List ℕ)
 no_other None settings = Ok settings
@@ -242,6 +273,7 @@ settings_in document =
     read_key document (codes "strangers") room.0 (number_in 1 room.0) λ strangers.
     with_part (requests_in document) λ requests.
     read_key document (codes "stock_clients") false as_bool λ stock_clients.
+    with_part (metrics_in document) λ metrics.
     read_key document (codes "data") None folder_in λ folder.
     go_on (codes "user") (option_and_then users_in (get_member (codes "user") document)) λ users.
     read_key document (codes "tenant") [] (tenants_in room.0 users) λ tenants.
@@ -261,6 +293,7 @@ settings_in document =
       strangers = strangers;
       requests = requests;
       stock_clients = stock_clients;
+      metrics = metrics;
       folder = folder;
       users = users;
       tenants = tenants;

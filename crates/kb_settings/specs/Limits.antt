@@ -1,18 +1,29 @@
--- The limits of tenants' connections.
+-- The limits of tenants' connections and groups.
 use Rattle.std.specs.Prelude.{ℕ, List, map, length, Bool, not, ◌&&◌, nat_lt, string_bytes}
 use Rattle.std.specs.List.{list_all, list_any, sum_by}
 use Rattle.std.specs.Str.{bytes_eq}
 use Rattle.kb_settings.specs.Settings.{is_within, are_different}
+use Rattle.kb_settings.specs.declared.tenant_limits.GroupLimits.{GroupLimits}
 use Rattle.kb_settings.specs.declared.tenant_limits.TenantLimits.{TenantLimits}
 
--- a tenant's connections: how many at most, and how many are kept free for it
+-- what a tenant's groups may take, where it is not said
+abbrev pub standard_groups : GroupLimits
+standard_groups = record { groups = 1000; bytes = 67108864 }
+
+-- a tenant's connections: how many at most, and how many are kept free for it; and what its groups may take
 pub record Limits : Type 0 where
   pub name : List ℕ
   pub connections : ℕ
   pub reserved_connections : ℕ
+  pub groups : GroupLimits
 
 abbrev pub limits_in : TenantLimits → Limits
-limits_in t = record { name = string_bytes t.name; connections = t.connections; reserved_connections = t.reserved_connections }
+limits_in t = record {
+  name = string_bytes t.name;
+  connections = t.connections;
+  reserved_connections = t.reserved_connections;
+  groups = t.groups;
+}
 
 -- limits of a tenant that a user names, to no more than all connections
 abbrev pub is_allowed : ℕ → List (List ℕ) → Limits → Bool

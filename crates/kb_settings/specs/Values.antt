@@ -2,14 +2,16 @@
 use Rattle.std.specs.Prelude.{ℕ, List, [], ◌∷◌, ◌++◌, map, Bool, false, Option, None, Some, option_map, unwrap_or, string_bytes, codes}
 use Rattle.std.specs.List.{find}
 use Rattle.std.specs.Str.{bytes_eq}
-use Rattle.kb_settings.specs.Limits.{Limits, limits_in}
+use Rattle.kb_settings.specs.Limits.{Limits, limits_in, standard_groups}
 use Rattle.kb_settings.specs.declared.settings.User.{User}
 use Rattle.kb_settings.specs.declared.endpoint.Endpoint.{Endpoint}
 use Rattle.kb_settings.specs.declared.settings.Settings.{Settings}
 use Rattle.kb_settings.specs.declared.requests.RequestLimits.{RequestLimits}
+use Rattle.kb_settings.specs.declared.metrics.MetricsSettings.{MetricsSettings}
 use Rattle.kb_settings.specs.declared.sync.Sync.{Sync}
 use Rattle.kb_settings.specs.declared.sync.Sync.TheVariants.{Interval}
 use Rattle.kb_settings.specs.declared.tenant_limits.ConnectionLimits.{ConnectionLimits}
+use Rattle.kb_settings.specs.declared.tenant_limits.GroupLimits.{GroupLimits}
 
 pub record Account : Type 0 where
   pub name : List ℕ
@@ -21,6 +23,11 @@ pub record Requests : Type 0 where
   pub request_seconds : ℕ
   pub idle_seconds : ℕ
   pub input_bytes : ℕ
+
+-- where metrics are served, and the token that who asks has to name
+pub record Metrics : Type 0 where
+  pub address : Option (List ℕ × ℕ)
+  pub token : Option (List ℕ)
 
 pub record Values : Type 0 where
   pub host : List ℕ
@@ -38,6 +45,7 @@ pub record Values : Type 0 where
   pub strangers : ℕ
   pub requests : Requests
   pub stock_clients : Bool
+  pub metrics : Metrics
   pub folder : Option (List ℕ)
   pub users : List Account
   pub tenants : List Limits
@@ -50,6 +58,9 @@ host_and_port e = (string_bytes e.host, e.port)
 
 abbrev pub requests_of : RequestLimits → Requests
 requests_of r = record { request_seconds = r.request_seconds; idle_seconds = r.idle_seconds; input_bytes = r.input_bytes }
+
+abbrev pub metrics_of : MetricsSettings → Metrics
+metrics_of m = record { address = option_map host_and_port m.address; token = option_map string_bytes m.token }
 
 abbrev pub values_of : Settings → Values
 values_of s = record {
@@ -68,6 +79,7 @@ values_of s = record {
   strangers = s.strangers;
   requests = requests_of s.requests;
   stock_clients = s.stock_clients;
+  metrics = metrics_of s.metrics;
   folder = option_map string_bytes s.folder;
   users = map account_of s.users.items;
   tenants = map limits_in s.tenants.items;
@@ -84,6 +96,14 @@ limits_or connections (Some t) = record { most = t.connections; reserved = t.res
 -- how many connections a tenant may have: all of them, and none reserved, where no limits name it
 abbrev pub limits_of : List ℕ → Values → ConnectionLimits
 limits_of name v = limits_or v.connections (find (λ t. bytes_eq t.name name) v.tenants)
+
+abbrev pub groups_or : Option Limits → GroupLimits
+groups_or None = standard_groups
+groups_or (Some t) = t.groups
+
+-- what a tenant's groups may take: the standard, where no limits name it
+abbrev pub groups_of : List ℕ → Values → GroupLimits
+groups_of name v = groups_or (find (λ t. bytes_eq t.name name) v.tenants)
 
 abbrev pub ann : Account
 ann = record { name = codes "ann"; password = codes "pw1"; tenant = codes "a" }
@@ -112,6 +132,7 @@ standard = record {
   strangers = 1024;
   requests = standard_requests;
   stock_clients = false;
+  metrics = record { address = None; token = None };
   folder = None;
   users = ann ∷ bob ∷ [];
   tenants = [];

@@ -3,6 +3,7 @@
 ghost use Rattle.std.specs.Prelude.{◌≡◌, ◌≤◌, ◌<◌, option_map, option_and_then, IfSome, IsTrue, false};
 ghost use Rattle.std.specs.List.{list_all};
 ghost use Rattle.kb_settings.specs.Address.{behind, around, is_wildcard, is_listened, bare, is_digit, are_digits, port_in, bracketed, parts, endpoint_in};
+ghost use Rattle.kb_settings.specs.Metrics.{is_dotted, is_guarded, is_in_127, is_loopback};
 
 use crate::limits;
 
@@ -18,6 +19,35 @@ pub fn is_listened(told: bool, host: &str) -> bool
     ensures { result ≡ is_listened told host.now }
 {
     limits::is_host(host) && (!is_wildcard(host) || told)
+}
+
+/// Whether a host is this machine alone: `localhost`, `::1`, or `127.` and then digits and dots.
+fn is_loopback(host: &str) -> bool
+    ensures { result ≡ is_loopback host.now }
+{
+    host == "localhost" || host == "::1" || is_in_127(around(host, '.'))
+}
+
+fn is_in_127(parts: Option<(&str, &str)>) -> bool
+    ensures { result ≡ is_in_127 (option_map (λ parts. (parts.0.now, parts.1.now)) parts.entry) }
+{
+    match parts {
+        Some((net, rest)) => net == "127" && are_dotted(rest.as_bytes()),
+        None => false,
+    }
+}
+
+fn are_dotted(bytes: &[u8]) -> bool
+    ensures { result ≡ list_all is_dotted bytes.now }
+{
+    bytes.iter().all(|byte| is_digit(*byte) || *byte == b'.')
+}
+
+/// Whether a host may be listened on for metrics: this machine alone is served, or who has the token.
+pub fn is_guarded(host: &str, has_token: bool) -> bool
+    ensures { result ≡ is_guarded host.now has_token }
+{
+    is_loopback(host) || has_token
 }
 
 /// A text without the brackets around all of it.

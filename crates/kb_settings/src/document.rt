@@ -7,7 +7,9 @@ ghost use Rattle.toml.specs.Data.{as_bool, as_str, get_member};
 ghost use Rattle.toml.specs.View.{view, table_view};
 ghost use Rattle.kb_settings.specs.Settings.{is_credential, is_tenant};
 ghost use Rattle.kb_settings.specs.Address.{is_listened, endpoint_in};
+ghost use Rattle.kb_settings.specs.Metrics.{is_token};
 ghost use Rattle.kb_settings.specs.Document.{text_in, number_in, host_in, is_told, advertise_in, folder_in, sync_in, said_or, text_of};
+ghost use Rattle.kb_settings.specs.Document.{token_in};
 ghost use Rattle.kb_settings.specs.Document.{other_key};
 ghost use Rattle.kb_settings.specs.declared.sync.Sync.TheVariants.{Interval};
 
@@ -48,15 +50,15 @@ fn host_in(told: bool, value: &Value) -> Option<&str>
     }
 }
 
-/// The host and the port that clients are told, where they are told others than are listened on.
-pub fn advertise(document: &Table) -> Option<Option<(&str, u16)>>
+/// The host and the port at a key, where it is there.
+pub fn address<'a>(document: &'a Table, key: &str) -> Option<Option<(&'a str, u16)>>
     ensures says { option_map (option_map (λ endpoint. (endpoint.0.now, endpoint.1))) result
-        ≡ said_or None advertise_in (get_member (codes "advertise") (table_view document.now)) }
-    ensures told { IfSome result (λ endpoint. is_some endpoint ≡ is_told (table_view document.now)) }
+        ≡ said_or None advertise_in (get_member key.now (table_view document.now)) }
+    ensures told { IfSome result (λ endpoint. is_some endpoint ≡ is_some (get_member key.now (table_view document.now))) }
     ensures host { IfSome result (λ endpoint. IfSome endpoint (λ e. IsTrue (is_listened false e.0.now))) }
     ensures port { IfSome result (λ endpoint. IfSome endpoint (λ e. 1 ≤ e.1)) }
 {
-    match at(document, "advertise") {
+    match at(document, key) {
         None => Some(None),
         Some(value) => Some(Some(endpoint_in(value)?)),
     }
@@ -168,6 +170,30 @@ fn folder_in(value: &Value) -> Option<Option<&str>>
 {
     let text = value.as_str()?;
     Some(Some(text))
+}
+
+/// The token that who asks for metrics has to name, where there is one.
+pub fn token(document: &Table) -> Option<Option<&str>>
+    ensures says { option_map (option_map (λ text. text.now)) result
+        ≡ said_or None token_in (get_member (codes "metrics_token") (table_view document.now)) }
+    ensures fits { IfSome result (λ token. IfSome token (λ text. IsTrue (is_token text.now))) }
+{
+    match at(document, "metrics_token") {
+        None => Some(None),
+        Some(value) => token_in(value),
+    }
+}
+
+fn token_in(value: &Value) -> Option<Option<&str>>
+    ensures says { option_map (option_map (λ text. text.now)) result ≡ token_in (view value.now) }
+    ensures fits { IfSome result (λ token. IfSome token (λ text. IsTrue (is_token text.now))) }
+{
+    let text = value.as_str()?;
+    if limits::is_token(text) {
+        Some(Some(text))
+    } else {
+        None
+    }
 }
 
 /// A user's name or password.

@@ -10,6 +10,7 @@ mod document;
 mod endpoint;
 mod fault;
 mod limits;
+mod metrics;
 mod names;
 mod read;
 mod requests;
@@ -21,8 +22,9 @@ mod users;
 
 pub use endpoint::Endpoint;
 pub use fault::SettingsFault;
+pub use metrics::MetricsSettings;
 pub use names::tenant_names;
 pub use requests::RequestLimits;
 pub use settings::{Settings, User};
 pub use sync::Sync;
-pub use tenant_limits::{ConnectionLimits, TenantLimits};
+pub use tenant_limits::{ConnectionLimits, GroupLimits, TenantLimits};

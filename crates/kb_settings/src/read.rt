@@ -3,15 +3,17 @@
 ghost use Rattle.std.specs.Prelude.{◌≡◌, Some, None, Ok, Err, IfOk, IfErr, IfSome, IsTrue, ◌≤◌, false, is_some, option_map, string_bytes};
 ghost use Rattle.toml.specs.Data.{get_member};
 ghost use Rattle.toml.specs.View.{table_view};
-ghost use Rattle.kb_settings.specs.Values.{values_of, requests_of, host_and_port};
+ghost use Rattle.kb_settings.specs.Values.{values_of, requests_of, metrics_of, host_and_port};
 ghost use Rattle.kb_settings.specs.Address.{is_listened};
 ghost use Rattle.kb_settings.specs.Document.{said_or, number_in, cache_in, room_in, syncs_in, seconds_in};
-ghost use Rattle.kb_settings.specs.Document.{requests_in, settings_in};
+ghost use Rattle.kb_settings.specs.Document.{requests_in, metrics_in, settings_in};
 ghost use Rattle.kb_settings.specs.Reading.{settings_of, IsFaultOf, IsFaultAt, IsFaultIn};
 
-use crate::document::{advertise, flag, folder, host, number, other_key, size, sync};
+use crate::address::is_guarded;
+use crate::document::{address, flag, folder, host, number, other_key, size, sync, token};
 use crate::endpoint::Endpoint;
 use crate::fault::SettingsFault;
+use crate::metrics::MetricsSettings;
 use crate::requests::RequestLimits;
 use crate::settings::Settings;
 use crate::sync::Sync;
@@ -24,7 +26,7 @@ use toml::Table;
 const MIB: u32 = 1_048_576;
 
 /// The keys that there are.
-const KEYS: [&str; 20] = [
+const KEYS: [&str; 22] = [
     "host",
     "port",
     "advertise",
@@ -42,6 +44,8 @@ const KEYS: [&str; 20] = [
     "idle_seconds",
     "input_bytes",
     "stock_clients",
+    "metrics",
+    "metrics_token",
     "data",
     "user",
     "tenant",
@@ -50,10 +54,11 @@ const KEYS: [&str; 20] = [
 impl Settings {
     /// The settings of a TOML text: `host`, `port`, `advertise`, `segment_bytes`, `cache_batches`, `cache_bytes`, `connections`,
     /// `output_bytes`, `sync`, `sync_ms`, `login_seconds`, `reply_seconds`, `strangers`, `request_seconds`, `idle_seconds`,
-    /// `input_bytes`, `stock_clients` and `data`, each as in [`Settings::standard`] where it is missing, but `strangers` as
-    /// `connections`. Then an array of tables `user` with `name`, `password` and `tenant`, and one of tables `tenant` with `name`,
-    /// `connections` and `reserved_connections`, which may be missing, both but the name. `advertise` is `HOST:PORT`, where an
-    /// IPv6 address stands in brackets; around `host` they may be left out.
+    /// `input_bytes`, `stock_clients`, `metrics`, `metrics_token` and `data`, each as in [`Settings::standard`] where it is missing,
+    /// but `strangers` as `connections`. Then an array of tables `user` with `name`, `password` and `tenant`, and one of tables
+    /// `tenant` with `name`, `connections` and `reserved_connections`, which may be missing, both but the name. `advertise` and
+    /// `metrics` are `HOST:PORT`, where an IPv6 address stands in brackets; around `host` they may be left out. `metrics_token` may be
+    /// missing where `metrics` is this machine alone.
     ///
     /// `Text` comes only where the text is no TOML document. `Field` names the first key that is wrong, in this order; keys
     /// that there are not come last, in byte order. Anything wrong with a user, or with the users together, is wrong with
@@ -78,7 +83,7 @@ fn in_document(alloc: Global, document: &Table) -> Result<Settings, SettingsFaul
 {
     let host = said(alloc, "host", host(document))?;
     let port = limited(alloc, document, "port", 9092, 1, 65_535)?;
-    let advertise = said(alloc, "advertise", advertise(document))?;
+    let advertise = said(alloc, "advertise", address(document, "advertise"))?;
     let segment_bytes = limited(alloc, document, "segment_bytes", 16 * MIB, 4096, 1024 * MIB)?;
     let (cache_batches, cache_bytes) = cache(alloc, document)?;
     let (connections, output_bytes) = room(alloc, document)?;
@@ -87,6 +92,7 @@ fn in_document(alloc: Global, document: &Table) -> Result<Settings, SettingsFaul
     let strangers = limited(alloc, document, "strangers", connections, 1, connections)?;
     let requests = requests(alloc, document)?;
     let stock_clients = said(alloc, "stock_clients", flag(document, "stock_clients"))?;
+    let metrics = metrics(alloc, document)?;
     let folder = said(alloc, "data", folder(document))?;
     let users = said(alloc, "user", users(alloc, document)?)?;
     let tenants = tenants(alloc, document, connections, &users)?;
@@ -110,6 +116,7 @@ fn in_document(alloc: Global, document: &Table) -> Result<Settings, SettingsFaul
         strangers,
         requests,
         stock_clients,
+        metrics,
         folder: copied(alloc, folder)?,
         users,
         tenants,
@@ -179,6 +186,24 @@ fn requests(alloc: Global, document: &Table) -> Result<RequestLimits, SettingsFa
         request_seconds: limited(alloc, document, "request_seconds", 30, 1, 3600)?,
         idle_seconds: limited(alloc, document, "idle_seconds", 600, 0, 4_294_967)?,
         input_bytes: limited(alloc, document, "input_bytes", 256 * MIB, 8 * MIB, u32::MAX)?,
+    })
+}
+
+/// Where metrics are served, and to whom.
+fn metrics(alloc: Global, document: &Table) -> Result<MetricsSettings, SettingsFault>
+    ensures ok { IfOk result (λ metrics. metrics_in (table_view document.now) ≡ Ok (metrics_of metrics)) }
+    ensures err { IfErr result (IsFaultIn (metrics_in (table_view document.now))) }
+{
+    let address = said(alloc, "metrics", address(document, "metrics"))?;
+    let token = said(alloc, "metrics_token", token(document))?;
+    if let Some((host, _)) = address
+        && !is_guarded(host, token.is_some())
+    {
+        return Err(wrong(alloc, "metrics_token"));
+    }
+    Ok(MetricsSettings {
+        address: Endpoint::copied(alloc, address)?,
+        token: copied(alloc, token)?,
     })
 }
 

@@ -7,9 +7,10 @@ ghost use Rattle.kb_settings.specs.Names.{in_order};
 ghost use Rattle.kb_settings.specs.Limits.{limits_in, are_limits};
 
 use crate::endpoint::Endpoint;
+use crate::metrics::MetricsSettings;
 use crate::requests::RequestLimits;
 use crate::sync::Sync;
-use crate::tenant_limits::{ConnectionLimits, TenantLimits};
+use crate::tenant_limits::{ConnectionLimits, GroupLimits, TenantLimits};
 use crate::tenants::limits_of;
 use std::alloc::{AllocError, Global};
 
@@ -79,6 +80,8 @@ pub struct Settings {
     pub requests: RequestLimits,
     /// Whether a client that speaks another version of the protocol may be served, as with the flag `--stock-clients`.
     pub stock_clients: bool,
+    /// Where metrics are served, and to whom.
+    pub metrics: MetricsSettings,
     /// The data folder, where there is one.
     pub folder: Option<String>,
     /// 1 to 1,000 users, no two of one name, of at most 256 different tenants.
@@ -105,7 +108,7 @@ pub struct Settings {
 
 impl Settings {
     ghost use Rattle.std.specs.Prelude.{Some, Ok};
-    ghost use Rattle.kb_settings.specs.Values.{values_of, told, limits_of, standard, standard_text};
+    ghost use Rattle.kb_settings.specs.Values.{values_of, told, limits_of, groups_of, standard, standard_text};
     ghost use Rattle.kb_settings.specs.Reading.{settings_of};
 
     /// The settings of a text that names two users alone: `ann` with password `pw1` of tenant `a`, and `bob` with password
@@ -113,7 +116,7 @@ impl Settings {
     /// of 67,108,864 bytes at most, 1,024 clients are connected at most, 268,435,456 bytes of output are kept, what was done is
     /// made to last each 1,000 ms, a socket has 10 seconds for its login and 60 for the next byte of a reply, all of them may be
     /// before their login, a request is whole by 30 seconds, a socket is used by 600, begun requests take 268,435,456 bytes at
-    /// most, and there is no folder and are no limits of tenants.
+    /// most, no metrics are served, and there is no folder and are no limits of tenants.
     pub fn standard(alloc: Global) -> Result<Settings, AllocError>
         ensures value { IfOk result (λ settings. values_of settings ≡ standard) }
         ensures text { IfOk result (λ settings. settings_of standard_text ≡ Some (Ok (values_of settings))) }
@@ -141,6 +144,10 @@ impl Settings {
                 input_bytes: 268_435_456,
             },
             stock_clients: false,
+            metrics: MetricsSettings {
+                address: None,
+                token: None,
+            },
             folder: None,
             users,
             tenants: Vec::new(alloc),
@@ -176,6 +183,17 @@ impl Settings {
                 most: self.connections,
                 reserved: 0,
             },
+        }
+    }
+
+    /// What the groups of the tenant of this name may take: [`GroupLimits::standard`], where no limits name it.
+    pub fn groups_of(&self, tenant: &str) -> GroupLimits
+        ensures says { result ≡ groups_of tenant.now (values_of self.now) }
+        ensures bytes { result.bytes ≤ 9223372036854775807 }
+    {
+        match limits_of(&self.tenants, tenant) {
+            Some(limits) => limits.groups,
+            None => GroupLimits::standard(),
         }
     }
 }

@@ -1,4 +1,4 @@
-//! What a settings document says of the tenants' connections.
+//! What a settings document says of the tenants' connections and groups.
 
 ghost use Rattle.std.specs.Prelude.{◌≡◌, ◌≤◌, ◌<◌, [], IfOk, IfSome, IsTrue, map, nat_lt, option_map, option_and_then, codes, string_bytes};
 ghost use Rattle.std.specs.List.{find, list_all, list_any, sum_by};
@@ -8,17 +8,23 @@ ghost use Rattle.toml.specs.View.{view, items_view, table_view};
 ghost use Rattle.kb_settings.specs.Settings.{are_different};
 ghost use Rattle.kb_settings.specs.Limits.{limits_in, is_allowed, are_limits};
 ghost use Rattle.kb_settings.specs.Values.{account_of};
-ghost use Rattle.kb_settings.specs.Document.{said_or, entry_limits, all_limits, checked_limits, tenants_in};
+ghost use Rattle.kb_settings.specs.Document.{said_or, entry_limits, groups_of, all_limits, checked_limits, tenants_in};
 
-use crate::document::{at, number, other_key, tenant};
+use crate::document::{at, number, other_key, size, tenant};
 use crate::names::limited_names;
 use crate::settings::User;
-use crate::tenant_limits::TenantLimits;
+use crate::tenant_limits::{GroupLimits, TenantLimits};
 use std::alloc::{AllocError, Global};
 use toml::{Table, Value};
 
 /// The keys of an entry of `tenant`.
-const KEYS: [&str; 3] = ["name", "connections", "reserved_connections"];
+const KEYS: [&str; 5] = [
+    "name",
+    "connections",
+    "reserved_connections",
+    "groups",
+    "group_bytes",
+];
 
 /// The limits that are of the tenant of this name, where there are some.
 pub fn limits_of<'a>(tenants: &'a [TenantLimits], name: &str) -> Option<&'a TenantLimits>
@@ -116,10 +122,30 @@ fn limits_in(
     let Some(reserved) = number(entry, "reserved_connections", 0, 0, most) else {
         return Ok(None);
     };
+    let Some(groups) = groups_of(entry) else {
+        return Ok(None);
+    };
     if other_key(entry, &KEYS).is_some() {
         return Ok(None);
     }
-    Ok(Some(TenantLimits::new(alloc, name, most, reserved)?))
+    Ok(Some(TenantLimits::new(alloc, name, most, reserved, groups)?))
+}
+
+/// What the groups of an entry's tenant may take, unless a number is wrong.
+fn groups_of(entry: &Table) -> Option<GroupLimits>
+    ensures says { result ≡ groups_of (table_view entry.now) }
+    ensures groups { IfSome result (λ limits. limits.groups ≤ 1000) }
+    ensures bytes { IfSome result (λ limits. (1048576 ≤ limits.bytes) × (limits.bytes ≤ 9223372036854775807)) }
+{
+    let groups = number(entry, "groups", 1000, 0, 1000)?;
+    let bytes = size(
+        entry,
+        "group_bytes",
+        67_108_864,
+        1_048_576,
+        9_223_372_036_854_775_807,
+    )?;
+    Some(GroupLimits { groups, bytes })
 }
 
 /// Whether these are limits of at most 256 tenants, each once, that users name, within so many connections, with fewer of them

@@ -10,7 +10,8 @@ use Rattle.std.proofs.lemmas.List.{map-set, length-map, get_or-set_other}
 use Rattle.std.proofs.lemmas.Option.{slice_get-map, get_or_from_slice_get}
 use Rattle.std.proofs.Math.Seq.{map-set_same}
 use Rattle.kb_coordinator.specs.Calls as groups
-use Rattle.kb_coordinator.specs.Groups.{Groups, none}
+use Rattle.kb_coordinator.specs.Groups.{Groups, limited, none}
+use Rattle.kb_coordinator.specs.declared.limits.Limits.{Limits}
 use Rattle.kb_store.specs.Disk.{Disk, Files}
 use Rattle.kb_log.specs.OnShelf.{Log, IsLawfulLog}
 use Rattle.kb_log.specs.Shelf.{Shelved}
@@ -25,6 +26,8 @@ use Rattle.kb_tenant_api.specs.Hosted.{TenantState, Kept, nothing, kept_in, kept
 use Rattle.kb_tenant_api.specs.Turns.{IsAccounted, IsTurn, IsMet, with_kept, all_calm}
 use Rattle.kb_tenant_state.proofs.Put.{get_put}
 use Rattle.kb_tenant.proofs.LogMoves.{same_or_not}
+use Rattle.kb_tenants.specs.Limited.{kept_limited, limited_at}
+use Rattle.kb_tenants.specs.Members.{HaveNoGroup}
 use Rattle.kb_tenants.specs.Tenants.{AreKept, AreLeftAlone, AreSettled, HaveNothingRefused, IsIdleUntil, IsLeftAlone, commands_of, hosted}
 use Rattle.kb_tenants.specs.Tenants.{parts_of, regrouped, state_of, strays_of}
 use Rattle.kb_tenants.specs.Turns.{IsShelfTurn, seen_at}
@@ -339,6 +342,25 @@ module _ {L S : Type 0} (log : L → Log) (disk : S → Disk) (law : (l : L) →
       accounted_rises (hosted log disk old) (hosted log disk (after old t x p x.groups old.shelf)) (disk old.shelf.store).failures
       (length_named (hosted log disk old) (hosted log disk (after old t x p x.groups old.shelf)) turn_refused.names) turn_refused.grows
 
+-- ---- groups are limited
+
+-- the tenants that are seen are as many as there are
+pub seen_many : {L S : Type 0} (log : L → Log) (disk : S → Disk) (ts : Tenants L S) (t : ℕ) → t < length ts.tenants.items → t < length (hosted log disk ts)
+seen_many log disk ts t lt = subst (λ n. t < n) (sym (length-map ts.tenants.items (state_of log (disk ts.shelf.store).files))) lt
+
+-- behind the last there is none
+with_none : (t : ℕ) (k : Kept) (ts : List TenantState) → length ts ≤ t → ts ≡ with_kept t k ts
+unfolding with_kept
+with_none t k [] le = refl
+with_none zero k (x ∷ ts) le = absurd (omega (arith, le))
+with_none (suc t) k (x ∷ ts) le = ap (λ xs. x ∷ xs) (with_none t k ts (omega (arith, le)))
+
+pub limited_none : {L S : Type 0} (log : L → Log) (disk : S → Disk) (ts : Tenants L S) (t : ℕ) (limits : Limits) → length ts.tenants.items ≤ t
+    → hosted log disk ts ≡ limited_at t limits (hosted log disk ts)
+limited_none log disk ts t limits le =
+    with_none t (kept_limited limits (kept_of (hosted log disk ts) t)) (hosted log disk ts)
+    (subst (λ n. n ≤ t) (sym (length-map ts.tenants.items (state_of log (disk ts.shelf.store).files))) le)
+
 -- ---- groups change, and what was refused to them is counted
 
 module _ {L S : Type 0} (log : L → Log) (disk : S → Disk) (law : (l : L) → IsLawfulLog (log l)) (old : Tenants L S) (t : ℕ) (x : Tenant L) (gs : Groups)
@@ -358,6 +380,20 @@ module _ {L S : Type 0} (log : L → Log) (disk : S → Disk) (law : (l : L) →
       let seen = kept_here log files old.tenants.items t x here in
       put_groups log files old.tenants.items t x gs here
       ∙ ap (λ k. with_kept t k (hosted log disk old)) (ap (kept_in (world_of log x.parts files)) is ∙ ap (left clock n) (sym seen))
+
+  pub state_limited : (limits : Limits) → gs ≡ limited limits x.groups
+      → hosted log disk (after old t x x.parts gs old.shelf) ≡ limited_at t limits (hosted log disk old)
+  state_limited limits is =
+      let files = (disk old.shelf.store).files in
+      let here = stands log disk old t x lt read in
+      let seen = kept_here log files old.tenants.items t x here in
+      put_groups log files old.tenants.items t x gs here
+      ∙ ap (λ k. with_kept t k (hosted log disk old)) (ap (kept_in (world_of log x.parts files)) is ∙ ap (kept_limited limits) (sym seen))
+
+  pub none_here : HaveNoGroup (hosted log disk old) → x.groups.groups ≡ []
+  none_here early =
+      ap (λ (k : Kept). k.groups.groups) (sym (kept_here log (disk old.shelf.store).files old.tenants.items t x (stands log disk old t x lt read)))
+      ∙ early t
 
   module _ (p : Parts L) (n : ℕ) (counted : p ≡ raised x.parts n) where
     counted_own : IsChange (scene log disk x.parts old.shelf) (scene log disk p old.shelf)

@@ -1,4 +1,6 @@
+pub mod Limited
 pub mod Members
 pub mod Renewal
 pub mod Tenants
 pub mod Turns
+pub mod View

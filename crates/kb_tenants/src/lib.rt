@@ -5,7 +5,9 @@
 mod outcome;
 mod promises;
 mod tenants;
+mod view;
 
 pub use outcome::Outcome;
 pub use promises::kept_logs_are_small;
 pub use tenants::Tenants;
+pub use view::TenantView;

@@ -8,14 +8,17 @@
 //! error, 2 a fault of the command line with its usage.
 #![tactic(auto)]
 
+mod board;
 mod causes;
 mod check;
 mod dump;
 mod listening;
 mod open;
+mod process;
 mod script;
 mod serve;
 mod telling;
+mod totals;
 mod words;
 
 use clap::error::ErrorKind;

@@ -2,12 +2,13 @@
 
 ghost use Rattle.std.specs.Prelude.{◌≡◌, ◌≤◌, ◌<◌, ◌*◌, ◌-◌, ◌^◌, max, min};
 
+use crate::board::Board;
 use crate::listening::{listen, tell_listening};
 use crate::open::{Start, consent_of, open_on, with_consent};
 use crate::telling::tell_turn;
 use crate::{Fault, config};
 use clap::{Arg, ArgAction, ArgMatches, Command};
-use kb_broker::Broker;
+use kb_broker::{Broker, group_limits};
 use kb_disk::disk_to_serve;
 use kb_log::PartitionLog;
 use kb_node::{Edge, Listing, Store};
@@ -101,10 +102,11 @@ fn serve_on<S: PutsOff + Drop>(
     let alloc = rt.alloc();
     let (opened, held) = open(rt, start, store, folder, journal)?;
     let mut edge = listen(rt, opened.broker, start.settings)?;
+    let mut board = Board::open(rt, start.settings, &edge, now(rt))?;
     tell_listening(rt, &edge, folder.folder())?;
     journal.tell_found(alloc, now(rt), Word::Start, held);
     journal.tell_change(alloc, now(rt), changed);
-    let served = turn_on(rt, &mut edge, journal, folder);
+    let served = turn_on(rt, &mut edge, &mut board, journal, folder);
     journal.tell_stop(alloc, now(rt));
     match served {
         Ok(()) => Ok(()),
@@ -121,6 +123,8 @@ fn open<S: PutsOff + Drop>(
     journal: &mut Journal,
 ) -> Result<(Restarted<S>, Held), Fault> {
     let (mut opened, held) = open_on(rt, start, store, folder, journal)?;
+    let limits = group_limits(rt.alloc(), start.settings)?;
+    opened.broker.limit_groups(&limits);
     opened.broker.number_members_from(first_member(now(rt)));
     if start.settings.sync != Sync::Never
         && let Err(fault) = settle(&mut opened.broker)
@@ -146,6 +150,7 @@ fn settle<S: Store, L: PartitionLog + Drop>(broker: &mut Broker<S, L>) -> Result
 fn turn_on<R: Net, S: Store, L: PartitionLog + Drop>(
     rt: &HostRuntime,
     edge: &mut Edge<R, S, L>,
+    board: &mut Option<Board>,
     journal: &mut Journal,
     folder: &mut FolderJournal,
 ) -> Result<(), StoreFault> {
@@ -155,7 +160,11 @@ fn turn_on<R: Net, S: Store, L: PartitionLog + Drop>(
         let tick = clock.next(Reading::of(rt));
         let turn = edge.turn(rt.alloc(), tick.moment);
         folder.tell(rt, journal.lines(), tick.moment);
-        tell_turn(rt, journal, edge, &turn?, tick);
+        let turn = turn?;
+        tell_turn(rt, journal, edge, &turn, tick);
+        if let Some(board) = board {
+            board.turn(rt, edge, &turn, tick.moment);
+        }
     }
     Ok(())
 }

@@ -1,0 +1,1 @@
+use Rattle.kb_broker.proofs.limits.group_limits.Goals as goal

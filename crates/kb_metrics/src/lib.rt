@@ -1,0 +1,15 @@
+//! What the broker does, as text that Prometheus reads: the text format 0.0.4, without a socket.
+//!
+//! [`push_head`] and [`push_sample`] write families and samples; a label's value is read back from its text as it was, whatever bytes it
+//! has ([`label_values_are_read_back`]). [`push_tenants`] writes what tenants have and lag behind, each number as `specs/Gauges.antt`
+//! defines it over the tenant's own state. What is said of a tenant is a function of its view alone.
+#![tactic(auto)]
+
+mod gauges;
+mod lag;
+mod laws;
+mod text;
+
+pub use gauges::{TenantGauges, push_tenants};
+pub use laws::label_values_are_read_back;
+pub use text::{Kind, Label, push_head, push_plain, push_sample};

@@ -1,0 +1,37 @@
+//! What an edge waits for beside its sockets, and how many of these there are.
+
+ghost use Rattle.std.specs.Prelude.{◌≡◌, vec_len};
+
+use crate::edge::Edge;
+use kb_log::PartitionLog;
+use kb_store::Store;
+use std::io;
+use std::net::Net;
+use std::os::fd::RawFd;
+
+/// The number under which other files are watched, to which no connection comes.
+const BESIDE: u64 = u64::MAX;
+
+impl<R: Net, S: Store, L: PartitionLog + Drop> Edge<R, S, L> {
+    /// A wait ends too once this file becomes ready, until the file is closed. An edge that was bound without a watch does not wait.
+    pub fn watch_also(&self, file: RawFd) -> io::Result<()> {
+        match &self.watch {
+            Some(watch) => watch.add(file, BESIDE),
+            None => Ok(()),
+        }
+    }
+
+    /// How many sockets there are, those that have not logged in among them.
+    pub fn sockets_len(&self) -> usize
+        ensures { result ≡ vec_len self.now.sockets }
+    {
+        self.sockets.len()
+    }
+
+    /// How many sockets there are at most at a time.
+    pub fn most_sockets(&self) -> usize
+        ensures { result ≡ self.now.limit }
+    {
+        self.limit
+    }
+}

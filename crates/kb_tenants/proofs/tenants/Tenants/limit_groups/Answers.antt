@@ -1,0 +1,27 @@
+use Rattle.std.proofs.Common.{arith, to_z, of_z, w64}
+use Rattle.std.proofs.lemmas.Int.{ints}
+use Rattle.kb_tenants.proofs.Hosted.{kept_left, limited_none, none_here, seen_many, state_limited}
+use Rattle.kb_tenants.proofs.tenants.Tenants.limit_groups.Goals as goal
+
+pub returns-then-tenant-len-clause-state : goal.returns-then-tenant-len-clause-state
+returns-then-tenant-len-clause-state g c =
+    limited_none g.L.PartitionLog.log g.S.Store.disk c.args.self.now c.args.tenant c.args.limits (omega (arith, c.if-tenant-len.true, c.len.ensures))
+
+pub limit-requires-clause-early : goal.limit-requires-clause-early
+limit-requires-clause-early g c =
+    none_here g.L.PartitionLog.log g.S.Store.disk g.met.L.PartitionLog.lawful c.args.self.now c.args.tenant c.index_mut-one.result.now c.index_mut-one.result.now.groups
+    (seen_many g.L.PartitionLog.log g.S.Store.disk c.args.self.now c.args.tenant (omega (arith, c.if-tenant-len.false, c.len.ensures)))
+    c.index_mut-one.ensures.value c.requires.invariant c.requires.early
+
+pub returns-clause-invariant : goal.returns-clause-invariant
+returns-clause-invariant g c =
+    kept_left g.L.PartitionLog.log g.S.Store.disk g.met.L.PartitionLog.lawful c.args.self.now c.args.tenant c.index_mut-one.result.now c.limit.new.self
+    (seen_many g.L.PartitionLog.log g.S.Store.disk c.args.self.now c.args.tenant (omega (arith, c.if-tenant-len.false, c.len.ensures)))
+    c.index_mut-one.ensures.value c.requires.invariant (to_z w64 (of_z w64 c.min-self.result)) (omega (arith, ints, c.min-self.ensures.self_bound))
+    (λ files agrees clock le. c.next_retention_time.ensures.idle files agrees clock (omega (arith, ints, le, c.min-self.ensures.other_bound)))
+
+pub returns-clause-state : goal.returns-clause-state
+returns-clause-state g c =
+    state_limited g.L.PartitionLog.log g.S.Store.disk g.met.L.PartitionLog.lawful c.args.self.now c.args.tenant c.index_mut-one.result.now c.limit.new.self
+    (seen_many g.L.PartitionLog.log g.S.Store.disk c.args.self.now c.args.tenant (omega (arith, c.if-tenant-len.false, c.len.ensures)))
+    c.index_mut-one.ensures.value c.requires.invariant c.args.limits c.limit.ensures

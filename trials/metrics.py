@@ -1,0 +1,196 @@
+#!/usr/bin/env python3
+"""What the pages of metrics say of a load with known numbers, and who gets them.
+
+    trials/metrics.py KBROKER
+
+Two tenants use the same names. Each sample is read by the parser of `python3-prometheus-client`, where that is there, and compared with the
+load. Groups have ids with a quote, a backslash and a line feed. Then wrong paths, methods, bodies, long heads and tokens are tried, and what
+a broker says of wrong settings. Last, 500 slow and garbled clients come while a producer asks, and a page is asked for beside them. It prints
+how many of the answers were wrong.
+"""
+
+import os
+import socket
+import sys
+import tempfile
+import threading
+import time
+
+from group_offsets import Tried, commit_at, create
+from wire import Broker, Client, batch, free_port, struct, text
+
+TOKEN = "0123456789abcdefXYZ"
+ODD = b'quote " back \\ line\nend'
+
+
+def page(port, words, rest=b"", token=None, most=20):
+    """What is answered to a request, as status, fields and body; status 0 where nothing is."""
+    with socket.create_connection(("127.0.0.1", port), timeout=most) as it:
+        field = f"authorization: Bearer {token}\r\n" if token else ""
+        it.sendall(f"{words} HTTP/1.1\r\nhost: x\r\n{field}".encode() + (rest or b"\r\n"))
+        got = b""
+        try:
+            while piece := it.recv(65_536):
+                got += piece
+        except OSError:
+            pass
+    head, _, body = got.partition(b"\r\n\r\n")
+    lines = head.decode().split("\r\n")
+    if not lines[0]:
+        return 0, {}, b""
+    return int(lines[0].split()[1]), dict(line.lower().split(": ", 1) for line in lines[1:]), body
+
+
+def samples(body):
+    """The samples of a page, by name and labels."""
+    try:
+        from prometheus_client.parser import text_string_to_metric_families as families
+    except ImportError:
+        print("the package python3-prometheus-client is missing")
+        sys.exit(1)
+    return {(it.name, tuple(sorted(it.labels.items()))): it.value for family in families(body.decode()) for it in family.samples}
+
+
+def produce_to(client, topic, partition, count):
+    """Produces so many records of one batch each to a partition."""
+    for _ in range(count):
+        sent = batch(b"secret-record")
+        body = struct.pack(">hhi", -1, 1, 5000) + struct.pack(">i", 1) + text(topic) + struct.pack(">ii", 1, partition)
+        client.ask(0, 3, body + struct.pack(">i", len(sent)) + sent)
+
+
+def told(tried, broker, port):
+    """A load, and what is said of it."""
+    ann, bob = Client(broker.port), Client(broker.port, b"bob", b"pw2")
+    second = Client(broker.port)
+    tried.is_so("topics", [create(ann, b"orders", 3), create(ann, b"idle", 1), create(bob, b"orders", 2)], [0, 0, 0])
+    for client, most in ((ann, 3), (bob, 2)):
+        for partition in range(most):
+            produce_to(client, b"orders", partition, 10 * (partition + 1))
+    tried.is_so("commits", [commit_at(ann, b"readers", b"orders", 0, 4, b""), commit_at(ann, b"readers", b"orders", 2, 25, b""),
+                            commit_at(ann, b"ahead", b"orders", 1, 20, b""), commit_at(ann, ODD, b"orders", 1, 1, b""),
+                            commit_at(bob, b"readers", b"orders", 1, 0, b"")], [0] * 5)
+    status, fields, body = page(port, "GET /metrics", token=TOKEN)
+    tried.is_so("status", status, 200)
+    tried.is_so("kind", fields.get("content-type"), "text/plain; version=0.0.4; charset=utf-8")
+    tried.is_so("closed", fields.get("connection"), "close")
+    for secret in (b"pw1", b"pw2", b"secret-record", TOKEN.encode()):
+        tried.is_so(f"{secret} on the page", secret in body, False)
+    got = samples(body)
+
+    def value(name, **labels):
+        return got.get((name, tuple(sorted(labels.items()))))
+
+    for tenant, connections, topics, partitions in (("a", 2, 2, 4), ("b", 1, 1, 2)):
+        tried.is_so("connections", value("kbroker_connections", tenant=tenant), connections)
+        tried.is_so("topics", value("kbroker_topics", tenant=tenant), topics)
+        tried.is_so("partitions", value("kbroker_partitions", tenant=tenant), partitions)
+        tried.is_so("refusals", value("kbroker_refusals_total", tenant=tenant), 0)
+    lags = {key[1]: it for key, it in got.items() if key[0] == "kbroker_group_lag"}
+    wanted = {("a", "readers"): 6 + 5, ("a", "ahead"): 0, ("a", ODD.decode()): 19, ("b", "readers"): 20}
+    tried.is_so("lags", lags, {(("group", group), ("tenant", tenant), ("topic", "orders")): it for (tenant, group), it in wanted.items()})
+    tried.is_so("sockets", value("kbroker_sockets"), 3)
+    tried.is_so("limit", value("kbroker_sockets_limit"), 64)
+    with open(f"/proc/{broker.process.pid}/statm", encoding="ascii") as it:
+        resident = int(it.read().split()[1]) * 4096
+    tried.is_so("memory", abs(value("process_resident_memory_bytes") - resident) < 4 << 20, True)
+    tried.is_so("files", value("process_open_fds") > 5, True)
+    tried.is_so("start", abs(value("process_start_time_seconds") - time.time()) < 60, True)
+    try:
+        Client(broker.port, b"ann", b"wrong")
+    except (ConnectionError, OSError, struct.error):
+        pass
+    second.socket.close()
+    time.sleep(1)
+    got = samples(page(port, "GET /metrics", token=TOKEN)[2])
+    tried.is_so("failed logins", value("kbroker_logins_failed_total"), 1)
+    tried.is_so("connections then", value("kbroker_connections", tenant="a"), 1)
+
+
+def refused(tried, broker, port):
+    """Who gets no page."""
+    for words, status, token in (("GET /healthz", 200, None), ("GET /readyz", 200, TOKEN), ("GET /readyz", 401, None), ("GET /metrics", 401, None),
+                                 ("GET /metrics", 401, TOKEN[:-1]), ("GET /metrics", 401, TOKEN + "x"), ("GET /nothing", 404, TOKEN),
+                                 ("GET /nothing", 401, None), ("POST /metrics", 405, TOKEN), ("HEAD /healthz", 405, None),
+                                 ("DELETE /readyz", 405, TOKEN)):
+        tried.is_so(f"{words} with {token}", page(port, words, token=token)[0], status)
+    tried.is_so("healthz", page(port, "GET /healthz")[2], b"ok\n")
+    tried.is_so("readyz", page(port, "GET /readyz", token=TOKEN)[2], b"ready\n")
+    tried.is_so("a body", page(port, "POST /metrics", b"content-length: 5\r\n\r\nhello", TOKEN)[0], 413)
+    tried.is_so("a long head", page(port, "GET /metrics", b"x: " + b"y" * 9000 + b"\r\n\r\n", TOKEN)[0], 431)
+    tried.is_so("Kafka's bytes", page(port, "\0\0\0\x10\0\x12")[0], 400)
+    with socket.create_connection(("127.0.0.1", port), timeout=20) as it:
+        began = time.monotonic()
+        it.sendall(b"GET /healthz HTTP/1.1\r\n")
+        try:
+            it.recv(1)
+        except OSError:
+            pass
+        tried.is_so("a slow request is closed after 5 seconds", 4.5 < time.monotonic() - began < 7, True)
+
+
+def faults(tried, program, room):
+    """What wrong settings are called."""
+    for more, said in (('metrics = "0.0.0.0:9100"\n', "metrics"), ('metrics = "10.0.0.1:9100"\n', "metrics_token"),
+                       ('metrics = "127.example.org:9100"\n', "metrics_token"), ('metrics_token = "short"\n', "metrics_token")):
+        broker = Broker(program, room, more=more)
+        tried.is_so(f"{more.strip()} listens", broker.listens(), False)
+        broker.stop()
+        last = broker.log().strip().split("\n")[-1]
+        tried.is_so(f"the fault of {more.strip()}", last.startswith(f"kbroker: bad settings: {said}:") and "short" not in last, True)
+
+
+def hostile(tried, broker, port):
+    """Slow and garbled clients beside a producer."""
+    ann = Client(broker.port)
+    held, worst, stop = [], [0.0], threading.Event()
+
+    def ask():
+        while not stop.is_set():
+            began = time.monotonic()
+            ann.produce(b"idle", batch(b"x"))
+            worst[0] = max(worst[0], time.monotonic() - began)
+
+    producer = threading.Thread(target=ask)
+    producer.start()
+    for number in range(500):
+        try:
+            it = socket.create_connection(("127.0.0.1", port), timeout=5)
+            it.sendall((b"GET /met", b"\x16\x03\x01\x02\0\x01", b"GET /metrics HTTP/1.1\r\nx: ", os.urandom(64))[number % 4])
+            held.append(it)
+        except OSError:
+            pass
+    time.sleep(2)
+    stop.set()
+    producer.join()
+    tried.is_so(f"a produce took {worst[0]:.2f} s beside 500 clients", worst[0] < 1, True)
+    time.sleep(5)
+    tried.is_so("a page then", page(port, "GET /metrics", token=TOKEN)[0], 200)
+    for it in held:
+        it.close()
+    time.sleep(1)
+    files = samples(page(port, "GET /metrics", token=TOKEN)[2])[("process_open_fds", ())]
+    tried.is_so(f"{files} files are open in the end", files < 60, True)
+
+
+def main(program):
+    tried = Tried()
+    with tempfile.TemporaryDirectory() as room:
+        port = free_port()
+        broker = Broker(program, room, more=f'connections = 64\nmetrics = "127.0.0.1:{port}"\nmetrics_token = "{TOKEN}"\n')
+        try:
+            tried.is_so("it listens", broker.listens(), True)
+            time.sleep(0.2)
+            told(tried, broker, port)
+            refused(tried, broker, port)
+            hostile(tried, broker, port)
+        finally:
+            broker.stop()
+    with tempfile.TemporaryDirectory() as room:
+        faults(tried, program, room)
+    print(f"{tried.wrong} of {tried.count} wrong")
+    return tried.wrong > 0
+
+
+if __name__ == "__main__":
+    sys.exit(main(*sys.argv[1:]))

@@ -6,6 +6,6 @@ use Rattle.kb_broker.proofs.limits.group_limits.Given as goal
 
 abbrev pub invariant-loop-name : goal.invariant-loop-name
 invariant-loop-name l = record {
-  says : l.limits.items ≡ map (limits_named (values_of l.fn.settings)) (map (λ name. name.now) (take l.name-index l.names.items));
+  says : l.limits.items ≡ map (limits_named (values_of l.fn.settings)) (map (λ name. name.now) (take l.name-index l.name-items));
   within : All (λ limits. limits.bytes < 9223372036854775808) l.limits.items;
 }

@@ -1,8 +1,13 @@
 -- What is done goes on, one list after another.
-use Rattle.std.proofs.Common.{List, [], ◌∷◌, ◌++◌, Option, None, Some, ℕ, sym, refl, subst, append-nil}
+use Rattle.std.proofs.Common.{◌≡◌, ◌<◌, List, [], ◌∷◌, ◌++◌, Option, None, Some, Result, Ok, Err, OnOk, OnErr, ℕ, inl, inr, sym, refl, subst, append-nil}
 use Rattle.std.specs.List.{AllByRecursion}
 use Rattle.std.specs.Io.KnownBytes.{Appends, Consumes}
-use Rattle.kb_node.specs.Traffic.{Along}
+use Rattle.kb_store.specs.Disk.{Disk}
+use Rattle.kb_isolation_spec.specs.Machine.{Opens}
+use Rattle.kb_isolation_spec.specs.Calls.{opened, IsRefused}
+use Rattle.kb_broker.specs.Hosts.{OnStore, StepsTo}
+use Rattle.kb_broker.specs.Runs.{unkept}
+use Rattle.kb_node.specs.Traffic.{Along, Happens}
 
 pub along_then : {D X : Type 0} (Does : D → X → X → Type 0) (ds es : List D) (a b c : X) → Along Does ds a b → Along Does es b c → Along Does (ds ++ es) a c
 along_then Does [] es a b c h k = subst (λ x. Along Does es x c) h k
@@ -20,3 +25,19 @@ appends_none (Some xs) = sym (append-nil xs)
 pub consumes_none : (known : Option (List ℕ)) → Consumes known known []
 consumes_none None = tt
 consumes_none (Some xs) = refl
+
+-- a connection that opens, or could not be kept
+pub opens : {S A E : Type 0} (disk : S → Disk) (n : ℕ) (a b : OnStore S) (r : Result A E) → b.store ≡ a.store → StepsTo disk (Opens n) a b
+    → a.state.last < n → OnOk r (b.state ≡ opened a.state n) → OnErr r (IsRefused a.state b.state) → Happens disk (Opens n) a b
+opens disk n a b (Ok done) store step rises is refused = record {
+  step = step;
+  honest = λ honest. subst (λ s. (disk s).honest) store honest;
+  within = (rises, tt);
+  leads = ([], inl (is, refl));
+}
+opens disk n a b (Err fault) store step rises is refused = record {
+  step = step;
+  honest = λ honest. subst (λ s. (disk s).honest) store honest;
+  within = (rises, tt);
+  leads = (unkept n ∷ [], inr (refused, refl));
+}

@@ -1,7 +1,7 @@
 //! An edge on the loopback with its clients, which turn it themselves. Bytes are written as `words` says.
 
-use crate::running::Host;
 use crate::words::bytes_of;
+use kb_broker::Broker;
 use kb_node::{BindFault, Denied, Edge, Limits, Turn};
 use kb_store::MemoryStore;
 use std::alloc::Global;
@@ -28,24 +28,18 @@ pub(crate) trait Server {
     fn denied(&self) -> &[Denied];
 }
 
-/// An edge on the loopback.
-#[derive(Drop)]
-pub(crate) struct Loopback {
-    edge: Edge<HostRuntime, MemoryStore>,
-}
-
-impl Server for Loopback {
+impl Server for Edge<HostRuntime, MemoryStore> {
     fn port(&self) -> u16 {
-        self.edge.port()
+        Edge::port(self)
     }
 
     fn turn(&mut self, alloc: Global, now: u32) -> Turn {
         // a store in memory refuses no sync
-        self.edge.turn(alloc, u64::from(now)).unwrap_or_default()
+        Edge::turn(self, alloc, u64::from(now)).unwrap_or_default()
     }
 
     fn denied(&self) -> &[Denied] {
-        self.edge.denied()
+        Edge::denied(self)
     }
 }
 
@@ -191,39 +185,6 @@ pub(crate) fn client_at<'a>(
     &mut clients[place]
 }
 
-/// A client sends bytes.
-fn says(rt: &impl Abort, alloc: Global, client: &mut Client, digits: &str) -> io::Result<()> {
-    client.stream.write_all(&bytes_of(rt, alloc, digits)?)
-}
-
-/// A client is told bytes.
-fn is_told<E: Server>(
-    rt: &impl Abort,
-    alloc: Global,
-    edge: &mut E,
-    client: &mut Client,
-    now: u32,
-    digits: &str,
-) -> io::Result<()> {
-    let reply = bytes_of(rt, alloc, digits)?;
-    hear(edge, client, alloc, now, reply.len())?;
-    assert!(rt; client.got == reply);
-    Ok(())
-}
-
-/// A client's connection is closed with no more bytes.
-fn is_closed<E: Server>(
-    rt: &impl Abort,
-    alloc: Global,
-    edge: &mut E,
-    client: &mut Client,
-    now: u32,
-) -> io::Result<()> {
-    hear(edge, client, alloc, now, 1)?;
-    assert!(rt; client.is_over && client.got.is_empty());
-    Ok(())
-}
-
 /// What happens to one client.
 fn happen_to<E: Server>(
     rt: &impl Abort,
@@ -233,54 +194,61 @@ fn happen_to<E: Server>(
     now: u32,
     next: Move<'_>,
 ) -> io::Result<()> {
-    match next {
-        Move::Send(_, digits, size) => {
-            let bytes = bytes_of(rt, alloc, digits)?;
-            send(edge, client, alloc, now, &bytes, size)
-        }
-        Move::Ask(_, digits, reply) => {
-            says(rt, alloc, client, digits)?;
-            is_told(rt, alloc, edge, client, now, reply)
-        }
-        Move::Told(_, reply) => is_told(rt, alloc, edge, client, now, reply),
-        Move::Fails(_, digits) => {
-            says(rt, alloc, client, digits)?;
-            assert!(rt; count_denied(edge, alloc, now) == 1);
-            Ok(())
-        }
-        Move::Ends(_) => client.stream.shutdown(Shutdown::Write),
-        Move::Closed(_) => is_closed(rt, alloc, edge, client, now),
-        _ => {
-            assert!(rt; !client.is_over);
-            Ok(())
-        }
+    if let Move::Send(_, digits, size) = next {
+        return send(
+            edge,
+            client,
+            alloc,
+            now,
+            &bytes_of(rt, alloc, digits)?,
+            size,
+        );
     }
+    if let Move::Ask(_, digits, _) | Move::Fails(_, digits) = next {
+        client.stream.write_all(&bytes_of(rt, alloc, digits)?)?;
+    }
+    match next {
+        Move::Ends(_) => client.stream.shutdown(Shutdown::Write)?,
+        Move::Fails(_, _) => assert!(rt; count_denied(edge, alloc, now) == 1),
+        Move::Stays(_) => assert!(rt; !client.is_over),
+        Move::Closed(_) => {
+            hear(edge, client, alloc, now, 1)?;
+            assert!(rt; client.is_over && client.got.is_empty());
+        }
+        Move::Told(_, digits) | Move::Ask(_, _, digits) => {
+            let reply = bytes_of(rt, alloc, digits)?;
+            hear(edge, client, alloc, now, reply.len())?;
+            assert!(rt; client.got == reply);
+        }
+        _ => {}
+    }
+    Ok(())
 }
 
 /// An edge for a broker, on a port of the system's choice, with the standard limits.
 pub(crate) fn edge_for(
     net: &HostRuntime,
     alloc: Global,
-    host: Host,
-) -> Result<Loopback, BindFault> {
-    edge_within(net, alloc, host, Limits::default())
+    broker: Broker<MemoryStore>,
+) -> Result<Edge<HostRuntime, MemoryStore>, BindFault> {
+    edge_within(net, alloc, broker, Limits::default())
 }
 
 /// The same with other limits.
 pub(crate) fn edge_within(
     net: &HostRuntime,
     alloc: Global,
-    host: Host,
+    broker: Broker<MemoryStore>,
     limits: Limits,
-) -> Result<Loopback, BindFault> {
-    match Edge::bind(net, alloc, host.into_broker(), "127.0.0.1:0", limits) {
-        Ok(edge) => Ok(Loopback { edge }),
+) -> Result<Edge<HostRuntime, MemoryStore>, BindFault> {
+    match Edge::bind(net, alloc, broker, "127.0.0.1:0", limits) {
+        Ok(edge) => Ok(edge),
         Err(refused) => Err(refused.fault),
     }
 }
 
 /// A client connects.
-fn join<E: Server>(
+pub(crate) fn join<E: Server>(
     net: &HostRuntime,
     alloc: Global,
     edge: &E,
@@ -298,27 +266,6 @@ fn place_of(next: Move<'_>) -> Option<usize> {
         Move::Ends(place) | Move::Closed(place) | Move::Stays(place) => Some(place),
         _ => None,
     }
-}
-
-/// Turns that a move is about do what it says.
-fn turns_as<E: Server>(
-    rt: &impl Abort,
-    alloc: Global,
-    edge: &mut E,
-    clients: &mut Vec<Client>,
-    now: u32,
-    name: &str,
-    next: Move<'_>,
-) {
-    let is_so = match next {
-        Move::Turns(turn) => edge.turn(alloc, now) == turn,
-        Move::Leave => {
-            drop(clients.pop());
-            count_closed(edge, alloc, now) == 1
-        }
-        _ => edge.turn(alloc, now).is_idle(),
-    };
-    assert!(rt; is_so, "{name}");
 }
 
 /// Moves are made one after another, under a name.
@@ -341,7 +288,12 @@ pub(crate) fn play<E: Server>(
         match *next {
             Move::Join => join(net, alloc, edge, clients)?,
             Move::At(moment) => now = moment,
-            _ => turns_as(rt, alloc, edge, clients, now, name, *next),
+            Move::Turns(turn) => assert!(rt; edge.turn(alloc, now) == turn, "{name}"),
+            Move::Leave => {
+                drop(clients.pop());
+                assert!(rt; count_closed(edge, alloc, now) == 1, "{name}");
+            }
+            _ => assert!(rt; edge.turn(alloc, now).is_idle(), "{name}"),
         }
     }
     Ok(())

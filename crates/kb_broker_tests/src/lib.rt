@@ -41,8 +41,6 @@ mod stores;
 #[cfg(test)]
 mod street;
 #[cfg(test)]
-mod unread;
-#[cfg(test)]
 mod words;
 #[cfg(test)]
 mod written;

@@ -1,6 +1,7 @@
 //! A broker on a network. A turn waits for no peer.
 
-ghost use Rattle.std.specs.Prelude.{◌≡◌, ◌≤◌, ◌<◌, ◌*◌, ◌^◌, Err, Some, IfOk, IfErr, IfSome, vec_len};
+ghost use Rattle.std.specs.Prelude.{◌≡◌, ◌≤◌, ◌<◌, ◌*◌, ◌^◌, Err, None, Some, IfOk, IfErr, IfSome, vec_len};
+ghost use Rattle.kb_node.specs.Traffic.{Goes, IsTurn};
 
 mod closing;
 mod serving;
@@ -290,6 +291,7 @@ impl<R: Net, S: Store, L: PartitionLog + Drop> Edge<R, S, L> {
         requires { now ≤ 2 ^ 62 }
         ensures refused { IfErr result (λ fault. self.new.host.commits.fault ≡ Some fault) }
         ensures dead { IfSome self.old.host.commits.fault (λ fault. (result ≡ Err fault) × (self.new ≡ self.old)) }
+        ensures turn { self.old.host.commits.fault ≡ None → IsTurn S.disk now self.old.host.broker self.new.host.broker }
     {
         if let Some(fault) = self.host.commits().fault() {
             return Err(fault);
@@ -321,7 +323,9 @@ impl<R: Net, S: Store, L: PartitionLog + Drop> Edge<R, S, L> {
     }
 
     /// Every socket may be ready.
-    fn hear_all(&mut self) {
+    fn hear_all(&mut self)
+        ensures { self.new.host ≡ self.old.host }
+    {
         self.can_accept = true;
         for place in 0..self.sockets.len() {
             if let Some(socket) = self.sockets.get_mut(place) {
@@ -332,7 +336,9 @@ impl<R: Net, S: Store, L: PartitionLog + Drop> Edge<R, S, L> {
     }
 
     /// Accepts the sockets that wait, at most as many as there may be.
-    fn accept(&mut self, alloc: Global, turn: &mut Turn) {
+    fn accept(&mut self, alloc: Global, turn: &mut Turn)
+        ensures { Goes S.disk self.old.host.broker self.new.host.broker }
+    {
         for _ in 0..ACCEPTS {
             if !self.can_accept {
                 return;
@@ -359,6 +365,7 @@ impl<R: Net, S: Store, L: PartitionLog + Drop> Edge<R, S, L> {
     /// Opens a connection for a socket, below the limit. An `Err` closes the socket: no number is left, or it was refused.
     fn take_in(&mut self, alloc: Global, stream: R::Stream, peer: SocketAddr) -> io::Result<()>
         requires { vec_len self.now.sockets < self.now.limit }
+        ensures { Goes S.disk self.old.host.broker self.new.host.broker }
     {
         let Some(connection) = self.host.broker().last_connection().checked_add(1) else {
             return Err(io::Error::from(ErrorKind::QuotaExceeded));

@@ -1,6 +1,7 @@
 //! Which sockets an edge closes.
 
 ghost use Rattle.std.specs.Prelude.{◌≡◌, ◌<◌, None, vec_len};
+ghost use Rattle.kb_node.specs.Traffic.{Goes};
 ghost use Rattle.std.specs.Bool.{OnTrue};
 ghost use Rattle.kb_shares.specs.Ledger.{let_go};
 ghost use Rattle.kb_node.specs.SocketShares.{count_of, holder_of};
@@ -19,7 +20,9 @@ use std::net::Net;
 
 impl<R: Net, S: Store, L: PartitionLog + Drop> Edge<R, S, L> {
     /// Closes the sockets that have not logged in in time, and those that do not read.
-    pub(super) fn close_silent(&mut self, alloc: Global, turn: &mut Turn) {
+    pub(super) fn close_silent(&mut self, alloc: Global, turn: &mut Turn)
+        ensures { Goes S.disk self.old.host.broker self.new.host.broker }
+    {
         for _ in 0..self.limit {
             let Some(number) = self.strangers.due(self.clock) else {
                 break;
@@ -36,7 +39,9 @@ impl<R: Net, S: Store, L: PartitionLog + Drop> Edge<R, S, L> {
     }
 
     /// Tries the sockets once more that took something of their replies some time ago.
-    fn try_again(&mut self, alloc: Global, turn: &mut Turn) {
+    fn try_again(&mut self, alloc: Global, turn: &mut Turn)
+        ensures { Goes S.disk self.old.host.broker self.new.host.broker }
+    {
         for _ in 0..self.limit {
             let Some(number) = self.silences.take_untried(self.clock) else {
                 break;
@@ -46,7 +51,9 @@ impl<R: Net, S: Store, L: PartitionLog + Drop> Edge<R, S, L> {
     }
 
     /// Closes the sockets that take nothing of their replies. The system tells late of a little room, so each is tried once more before.
-    fn close_unread(&mut self, alloc: Global, turn: &mut Turn) {
+    fn close_unread(&mut self, alloc: Global, turn: &mut Turn)
+        ensures { Goes S.disk self.old.host.broker self.new.host.broker }
+    {
         for _ in 0..self.limit {
             let Some(number) = self.silences.silent(self.clock, self.reply_millis) else {
                 break;
@@ -60,7 +67,9 @@ impl<R: Net, S: Store, L: PartitionLog + Drop> Edge<R, S, L> {
 
     /// Where a socket can go on and is not asked, since its holder has too much unread, sockets of that holder are closed that stand in the
     /// way. Those of other holders stay.
-    fn close_stalled(&mut self, alloc: Global, turn: &mut Turn) {
+    fn close_stalled(&mut self, alloc: Global, turn: &mut Turn)
+        ensures { Goes S.disk self.old.host.broker self.new.host.broker }
+    {
         for at in 0..self.ready.len() {
             if let Some(number) = self.ready.get(at).copied()
                 && !self.may_ask(number)
@@ -72,7 +81,9 @@ impl<R: Net, S: Store, L: PartitionLog + Drop> Edge<R, S, L> {
     }
 
     /// Closes those sockets of a holder that take nothing of their replies for longest, until it may ask for more.
-    fn make_way(&mut self, alloc: Global, holder: usize, turn: &mut Turn) {
+    fn make_way(&mut self, alloc: Global, holder: usize, turn: &mut Turn)
+        ensures { Goes S.disk self.old.host.broker self.new.host.broker }
+    {
         for _ in 0..self.limit {
             let millis = patience(self.replies.is_open(holder), self.reply_millis);
             let Some(number) = self.silences.stalled(holder, self.clock, millis) else {
@@ -88,14 +99,18 @@ impl<R: Net, S: Store, L: PartitionLog + Drop> Edge<R, S, L> {
 
     /// Closes the sockets whose requests are not whole in time, and those that are idle for too long. What the system has of them is read
     /// before.
-    pub(super) fn close_late(&mut self, alloc: Global, turn: &mut Turn) {
+    pub(super) fn close_late(&mut self, alloc: Global, turn: &mut Turn)
+        ensures { Goes S.disk self.old.host.broker self.new.host.broker }
+    {
         self.close_slow(alloc, turn);
         self.close_idle(alloc, turn);
     }
 
     /// Closes the sockets whose requests are not whole in time. Where their holder has too much unread the edge reads none of them, and
     /// their time begins anew.
-    fn close_slow(&mut self, alloc: Global, turn: &mut Turn) {
+    fn close_slow(&mut self, alloc: Global, turn: &mut Turn)
+        ensures { Goes S.disk self.old.host.broker self.new.host.broker }
+    {
         for _ in 0..self.limit {
             let Some(number) = self.times.slow(self.clock) else {
                 break;
@@ -108,7 +123,9 @@ impl<R: Net, S: Store, L: PartitionLog + Drop> Edge<R, S, L> {
     }
 
     /// A request has its whole time from now on.
-    fn put_off(&mut self, number: u64) -> bool {
+    fn put_off(&mut self, number: u64) -> bool
+        ensures { self.new.host ≡ self.old.host }
+    {
         let Some(place) = self.place_of(number) else {
             return false;
         };
@@ -119,7 +136,9 @@ impl<R: Net, S: Store, L: PartitionLog + Drop> Edge<R, S, L> {
     }
 
     /// Closes the sockets that are idle for too long.
-    fn close_idle(&mut self, alloc: Global, turn: &mut Turn) {
+    fn close_idle(&mut self, alloc: Global, turn: &mut Turn)
+        ensures { Goes S.disk self.old.host.broker self.new.host.broker }
+    {
         for _ in 0..self.limit {
             let Some(number) = self.times.take_looked(self.clock) else {
                 break;
@@ -132,7 +151,9 @@ impl<R: Net, S: Store, L: PartitionLog + Drop> Edge<R, S, L> {
     }
 
     /// Whether a socket was used of late, or something is waited for, which is looked at again once it may be idle for too long.
-    fn is_used(&mut self, number: u64) -> bool {
+    fn is_used(&mut self, number: u64) -> bool
+        ensures { self.new.host ≡ self.old.host }
+    {
         let Some(place) = self.place_of(number) else {
             return true;
         };
@@ -159,7 +180,9 @@ impl<R: Net, S: Store, L: PartitionLog + Drop> Edge<R, S, L> {
 
     /// Writes what a socket takes now of its reply. It answers whether it took some: then its silence begins anew, or, where that cannot be
     /// noted, it is closed.
-    fn write_again(&mut self, alloc: Global, number: u64, turn: &mut Turn) -> bool {
+    fn write_again(&mut self, alloc: Global, number: u64, turn: &mut Turn) -> bool
+        ensures { Goes S.disk self.old.host.broker self.new.host.broker }
+    {
         let Some(place) = self.place_of(number) else {
             return false;
         };
@@ -186,7 +209,9 @@ impl<R: Net, S: Store, L: PartitionLog + Drop> Edge<R, S, L> {
 
     /// Where a socket is closed that made all wait, the others of its user that wait for their turn go behind all: else each of them
     /// could make all wait once more.
-    fn put_behind(&mut self, alloc: Global, number: u64) {
+    fn put_behind(&mut self, alloc: Global, number: u64)
+        ensures { self.new.host ≡ self.old.host }
+    {
         let Some(name) = self.name_of(alloc, number) else {
             return;
         };
@@ -199,14 +224,18 @@ impl<R: Net, S: Store, L: PartitionLog + Drop> Edge<R, S, L> {
     }
 
     /// The name of the user of a connection, which is forgotten.
-    fn name_of(&mut self, alloc: Global, number: u64) -> Option<String> {
+    fn name_of(&mut self, alloc: Global, number: u64) -> Option<String>
+        ensures { self.new.host ≡ self.old.host }
+    {
         let place = self.place_of(number)?;
         let socket = self.sockets.get_mut(place)?;
         Some(socket.take_login(alloc))
     }
 
     /// Those of the connections whose user has the name are next, or those whose user has not.
-    fn queue_those(&mut self, numbers: &[u64], name: &str, has_name: bool) {
+    fn queue_those(&mut self, numbers: &[u64], name: &str, has_name: bool)
+        ensures { self.new.host ≡ self.old.host }
+    {
         for number in numbers {
             if let Some(place) = self.place_of(*number)
                 && let Some(socket) = self.sockets.get(place)
@@ -224,6 +253,7 @@ impl<R: Net, S: Store, L: PartitionLog + Drop> Edge<R, S, L> {
         ensures released { holder_of number self.new.shares.sockets ≡ None }
         ensures replies { self.new.replies ≡ let_go number self.old.replies }
         ensures inputs { self.new.inputs ≡ let_go number self.old.inputs }
+        ensures goes { Goes S.disk self.old.host.broker self.new.host.broker }
     {
         self.strangers.forget(number);
         self.shares.release(number);
@@ -240,7 +270,9 @@ impl<R: Net, S: Store, L: PartitionLog + Drop> Edge<R, S, L> {
     }
 
     /// The sockets whose connections are closed are kept no longer.
-    pub(super) fn drop_ended(&mut self) {
+    pub(super) fn drop_ended(&mut self)
+        ensures { self.new.host ≡ self.old.host }
+    {
         self.sockets.retain(|socket| !socket.is_ended());
     }
 
@@ -249,6 +281,7 @@ impl<R: Net, S: Store, L: PartitionLog + Drop> Edge<R, S, L> {
     pub(super) fn make_room(&mut self, alloc: Global, turn: &mut Turn) -> bool
         ensures sockets { OnTrue result (vec_len self.new.sockets < self.new.limit) }
         ensures strangers { OnTrue result (count_of self.new.shares.tenants self.new.shares.sockets < self.new.stranger_limit) }
+        ensures goes { Goes S.disk self.old.host.broker self.new.host.broker }
     {
         if self.has_room() {
             return true;

@@ -1,6 +1,7 @@
 //! How an edge serves its sockets.
 
 ghost use Rattle.std.specs.Prelude.{◌≡◌, ◌≢◌, ◌-◌, min, true, false, Some, IfErr, IfSome, slice_get, vec_len};
+ghost use Rattle.kb_node.specs.Traffic.{Goes};
 ghost use Rattle.kb_node.specs.Commits.{may_tell, tells_at_once};
 ghost use Rattle.kb_shares.specs.Ledger.{set_to};
 ghost use Rattle.kb_shares.specs.Turns.{joined};
@@ -61,6 +62,7 @@ impl<R: Net, S: Store, L: PartitionLog + Drop> Edge<R, S, L> {
     /// The sockets that can go on are served, a request at a time, tenants in turn. What is said to them goes out at once.
     pub(super) fn serve_at_once(&mut self, alloc: Global, turn: &mut Turn)
         requires { tells_at_once self.old.host.commits ≡ true }
+        ensures { Goes S.disk self.old.host.broker self.new.host.broker }
     {
         self.line_up(alloc, true);
         for _ in 0..ROUNDS {
@@ -111,6 +113,7 @@ impl<R: Net, S: Store, L: PartitionLog + Drop> Edge<R, S, L> {
         turn: &mut Turn,
     ) -> Result<(), StoreFault>
         ensures refused { IfErr result (λ fault. self.new.host.commits.fault ≡ Some fault) }
+        ensures goes { Goes S.disk self.old.host.broker self.new.host.broker }
     {
         self.hand_on(alloc, turn);
         self.hear_speakers();
@@ -123,7 +126,8 @@ impl<R: Net, S: Store, L: PartitionLog + Drop> Edge<R, S, L> {
     /// The next sockets in line are served once, a round of them.
     fn serve(&mut self, alloc: Global, turn: &mut Turn)
         requires { tells_at_once self.old.host.commits ≡ true }
-        ensures { tells_at_once self.new.host.commits ≡ true }
+        ensures commits { tells_at_once self.new.host.commits ≡ true }
+        ensures goes { Goes S.disk self.old.host.broker self.new.host.broker }
     {
         for _ in 0..ROUND {
             let Some(number) = self.line.next() else {
@@ -136,7 +140,8 @@ impl<R: Net, S: Store, L: PartitionLog + Drop> Edge<R, S, L> {
     /// Serves the socket of a connection once.
     fn serve_one(&mut self, alloc: Global, number: u64, turn: &mut Turn)
         requires { tells_at_once self.old.host.commits ≡ true }
-        ensures { tells_at_once self.new.host.commits ≡ true }
+        ensures commits { tells_at_once self.new.host.commits ≡ true }
+        ensures goes { Goes S.disk self.old.host.broker self.new.host.broker }
     {
         let may_ask = self.may_ask(number);
         let most = self.longest_request(number);
@@ -164,7 +169,9 @@ impl<R: Net, S: Store, L: PartitionLog + Drop> Edge<R, S, L> {
 
     /// Hands on a request of the next sockets in line, while so little of its holder is awaited that it may ask for more. All are told,
     /// and those that were not asked come first in the next turn.
-    fn hand_on(&mut self, alloc: Global, turn: &mut Turn) {
+    fn hand_on(&mut self, alloc: Global, turn: &mut Turn)
+        ensures { Goes S.disk self.old.host.broker self.new.host.broker }
+    {
         self.line_up(alloc, true);
         for _ in 0..TOGETHER {
             let Some(number) = self.line.next() else {
@@ -191,7 +198,9 @@ impl<R: Net, S: Store, L: PartitionLog + Drop> Edge<R, S, L> {
     }
 
     /// Hands on a request of the socket of a connection, where it may ask.
-    fn hand_on_one(&mut self, alloc: Global, number: u64, may_ask: bool, turn: &mut Turn) {
+    fn hand_on_one(&mut self, alloc: Global, number: u64, may_ask: bool, turn: &mut Turn)
+        ensures { Goes S.disk self.old.host.broker self.new.host.broker }
+    {
         let most = self.longest_request(number);
         let Some(place) = self.place_of(number) else {
             return;
@@ -220,7 +229,8 @@ impl<R: Net, S: Store, L: PartitionLog + Drop> Edge<R, S, L> {
     /// Each socket that can go on and was not asked is told what there is to say to it.
     fn tell(&mut self, alloc: Global, turn: &mut Turn)
         requires { may_tell self.old.host.commits ≡ true }
-        ensures { self.new.host.commits ≡ self.old.host.commits }
+        ensures commits { self.new.host.commits ≡ self.old.host.commits }
+        ensures goes { Goes S.disk self.old.host.broker self.new.host.broker }
     {
         let spare = mem::replace(&mut self.spare, Vec::new(alloc));
         let mut round = mem::replace(&mut self.ready, spare);
@@ -234,6 +244,7 @@ impl<R: Net, S: Store, L: PartitionLog + Drop> Edge<R, S, L> {
     /// Each socket that was asked is told what there is to say to it.
     fn tell_asked(&mut self, alloc: Global, turn: &mut Turn)
         requires { may_tell self.old.host.commits ≡ true }
+        ensures { Goes S.disk self.old.host.broker self.new.host.broker }
     {
         let mut round = mem::replace(&mut self.asked, Vec::new(alloc));
         for number in &round {
@@ -246,7 +257,8 @@ impl<R: Net, S: Store, L: PartitionLog + Drop> Edge<R, S, L> {
     /// Tells the socket of a connection what there is to say to it.
     fn tell_one(&mut self, alloc: Global, number: u64, turn: &mut Turn)
         requires { may_tell self.old.host.commits ≡ true }
-        ensures { self.new.host.commits ≡ self.old.host.commits }
+        ensures commits { self.new.host.commits ≡ self.old.host.commits }
+        ensures goes { Goes S.disk self.old.host.broker self.new.host.broker }
     {
         let Some(place) = self.place_of(number) else {
             return;
@@ -264,7 +276,8 @@ impl<R: Net, S: Store, L: PartitionLog + Drop> Edge<R, S, L> {
 
     /// Notes what became of the socket at a place, which was served: whether its login failed, and whether it can go on.
     fn note(&mut self, alloc: Global, place: usize, before: Before, next: Next, turn: &mut Turn)
-        ensures { self.new.host.commits ≡ self.old.host.commits }
+        ensures commits { self.new.host.commits ≡ self.old.host.commits }
+        ensures goes { Goes S.disk self.old.host.broker self.new.host.broker }
     {
         let Some(socket) = self.sockets.get_mut(place) else {
             return;
@@ -311,6 +324,7 @@ impl<R: Net, S: Store, L: PartitionLog + Drop> Edge<R, S, L> {
         ensures booked { result ≡ true → IfSome (slice_get self.old.sockets.items place) (λ s. self.new.replies
             ≡ set_to s.connection (place_of s.connection self.old.shares)
             (kept_for (vec_len s.output - s.written) before.promised) self.old.replies) }
+        ensures goes { Goes S.disk self.old.host.broker self.new.host.broker }
     {
         let Some(socket) = self.sockets.get_mut(place) else {
             return false;
@@ -340,6 +354,7 @@ impl<R: Net, S: Store, L: PartitionLog + Drop> Edge<R, S, L> {
         ensures commits { self.new.host.commits ≡ self.old.host.commits }
         ensures booked { result ≡ true → IfSome (slice_get self.old.sockets.items place) (λ s. self.new.inputs
             ≡ set_to s.connection (place_of s.connection self.old.shares) s.input.progress.size self.old.inputs) }
+        ensures goes { Goes S.disk self.old.host.broker self.new.host.broker }
     {
         let Some(socket) = self.sockets.get_mut(place) else {
             return false;

@@ -1,11 +1,12 @@
-//! A broker on a store, and a client that asks it.
+//! A broker on a disk, and a client that asks it. Both are of types with calls of no contract, so that what happens to them is proved
+//! without the clauses of a broker and of a store.
 
 use hex::FromHexError;
 use kb_batch::BatchBuilder;
-use kb_broker::{Broker, Listing, OpenRefused, Settings};
-use kb_restart::{Restarted, open_broker};
+use kb_broker::{Broker, Listing, OpenFault, Settings};
+use kb_restart::{file_lengths, open_broker};
 use kb_segment_log::SegmentLog;
-use kb_store::{MemoryStore, Store};
+use kb_store::{Fuse, FusedStore, MemoryStore, Store};
 use std::alloc::{AllocError, Global};
 use std::process::Abort;
 use std::test::Fail;
@@ -63,48 +64,128 @@ pub(crate) fn bytes_of(
     }
 }
 
-/// Opens a broker of the standard settings on a store.
-pub(crate) fn open<S: Store + Drop>(
-    alloc: Global,
-    store: S,
-) -> Result<Result<Restarted<S>, OpenRefused<S>>, AllocError> {
-    let settings = Settings::standard(alloc)?;
-    Ok(open_broker(alloc, &settings, Listing::Served, store))
-}
-
-/// A client of the tenant `a` on a broker: it logs in, and each request is answered at once.
+/// Files in memory, of which a fuse may refuse calls.
 #[derive(Drop)]
-pub(crate) struct Client<S: Store + Drop> {
-    alloc: Global,
-    broker: Broker<S, SegmentLog>,
-    number: u64,
+pub(crate) struct Disk {
+    store: FusedStore<MemoryStore>,
 }
 
-impl<S: Store + Drop> Client<S> {
-    /// A new connection to a broker, logged in.
-    pub(crate) fn new(
-        rt: &impl Abort,
-        alloc: Global,
-        mut broker: Broker<S, SegmentLog>,
-    ) -> Result<Client<S>, AllocError> {
-        assert!(rt; broker.last_connection() == 0);
-        broker.connect(alloc, 1)?;
-        let mut client = Client {
-            alloc,
-            broker,
-            number: 1,
-        };
-        for request in LOGIN {
-            let bytes = bytes_of(rt, alloc, request)?;
-            assert!(rt; !client.ask(&bytes).is_empty());
+impl Disk {
+    /// An empty one that refuses nothing.
+    pub(crate) fn new(alloc: Global) -> Disk {
+        Disk::of(MemoryStore::new(alloc))
+    }
+
+    /// The files of a store. Nothing is refused.
+    pub(crate) fn of(store: MemoryStore) -> Disk {
+        Disk {
+            store: FusedStore::new(store, Fuse::Once(0), 0),
         }
-        Ok(client)
+    }
+
+    /// The same files, whose calls are counted from here on. Of a refused append so many bytes are left.
+    pub(crate) fn fused(self, fuse: Fuse, keep: u64) -> Disk {
+        Disk {
+            store: FusedStore::new(self.store.into_store(), fuse, keep),
+        }
+    }
+
+    /// The same files, and nothing is refused any more.
+    pub(crate) fn mended(self) -> Disk {
+        Disk::of(self.store.into_store())
+    }
+
+    /// How many calls there were.
+    pub(crate) fn calls(&self) -> u64 {
+        self.store.calls
+    }
+
+    /// How many files it has.
+    pub(crate) fn files(&mut self, alloc: Global) -> Result<usize, Fail> {
+        match self.store.list(alloc) {
+            Ok(files) => Ok(files.len()),
+            Err(_) => Err("no list".into()),
+        }
+    }
+
+    /// How many bytes they have.
+    pub(crate) fn bytes(&mut self, alloc: Global) -> Result<u64, Fail> {
+        let Ok(files) = file_lengths(alloc, &mut self.store) else {
+            return Err("no lengths".into());
+        };
+        let mut total: u64 = 0;
+        for file in &files {
+            total = total.saturating_add(file.length);
+        }
+        Ok(total)
+    }
+}
+
+/// A broker that opened on a disk, and a client of the tenant `a`, which is answered at once.
+#[derive(Drop)]
+pub(crate) struct Host {
+    alloc: Global,
+    broker: Broker<FusedStore<MemoryStore>, SegmentLog>,
+    strays: Vec<u64>,
+}
+
+/// What an opening comes to.
+#[derive(Drop)]
+pub(crate) enum Opening {
+    /// A broker runs.
+    Runs(Host),
+    /// It is refused, and the disk comes back.
+    Refused(OpenFault, Disk),
+}
+
+/// Opens a broker of the standard settings on a disk.
+pub(crate) fn open(alloc: Global, disk: Disk) -> Result<Opening, AllocError> {
+    let settings = Settings::standard(alloc)?;
+    match open_broker(alloc, &settings, Listing::Served, disk.store) {
+        Ok(opened) => Ok(Opening::Runs(Host {
+            alloc,
+            broker: opened.broker,
+            strays: opened.strays,
+        })),
+        Err(refused) => Ok(Opening::Refused(
+            refused.fault,
+            Disk {
+                store: refused.store,
+            },
+        )),
+    }
+}
+
+impl Host {
+    /// The client connects.
+    fn connect(&mut self, rt: &impl Abort) -> Result<(), AllocError> {
+        assert!(rt; self.broker.last_connection() == 0);
+        self.broker.connect(self.alloc, 1)
     }
 
     /// What a request is answered.
     pub(crate) fn ask(&mut self, request: &[u8]) -> Vec<u8> {
-        self.broker.input(self.alloc, self.number, request);
-        self.broker.take_output(self.alloc, self.number)
+        self.broker.input(self.alloc, 1, request);
+        self.broker.take_output(self.alloc, 1)
+    }
+
+    /// Some moments, in which the catalog of each tenant has its turn.
+    pub(crate) fn pass(&mut self) {
+        for clock in 0..8 {
+            self.broker.moment(self.alloc, clock);
+        }
+    }
+
+    /// The disk, as the broker leaves it when it stops.
+    pub(crate) fn stop(self) -> Disk {
+        Disk {
+            store: self.broker.into_store(),
+        }
+    }
+
+    /// The files of no log that it found.
+    pub(crate) fn strays(&self) -> &[u64] {
+        &self.strays
     }
 
     /// The answers to some requests, one behind the other.
@@ -122,39 +203,37 @@ impl<S: Store + Drop> Client<S> {
         }
         Ok(answers)
     }
-
-    /// Some moments, in which the catalog of each tenant has its turn.
-    pub(crate) fn pass(&mut self) {
-        for clock in 0..8 {
-            self.broker.moment(self.alloc, clock);
-        }
-    }
-
-    /// The store, as the broker leaves it when it stops.
-    pub(crate) fn stop(self) -> S {
-        self.broker.into_store()
-    }
 }
 
-/// A client of a broker that opened on a store, of which no file is a stray and nothing is refused.
-pub(crate) fn client_on<S: Store + Drop>(
-    rt: &impl Abort,
-    alloc: Global,
-    store: S,
-) -> Result<Client<S>, AllocError> {
-    let Ok(opened) = open(alloc, store)? else {
+/// A broker that opens on a disk, of which nothing is refused, and its client has logged in.
+pub(crate) fn running_on(rt: &impl Abort, alloc: Global, disk: Disk) -> Result<Host, AllocError> {
+    let Opening::Runs(mut host) = open(alloc, disk)? else {
         panic!(rt; "nothing is refused");
     };
-    assert!(rt; opened.strays.is_empty());
-    Client::new(rt, alloc, opened.broker)
+    host.connect(rt)?;
+    host.ask_all(rt, &LOGIN)?;
+    Ok(host)
 }
 
-/// A store in memory on which a broker did what [`SETUP`] asks, and what it answered to [`QUESTIONS`].
-pub(crate) fn filled(rt: &impl Abort, alloc: Global) -> Result<(MemoryStore, Vec<u8>), AllocError> {
-    let mut client = client_on(rt, alloc, MemoryStore::new(alloc))?;
-    client.ask_all(rt, &SETUP)?;
-    let answers = client.ask_all(rt, &QUESTIONS)?;
-    Ok((client.stop(), answers))
+/// The same where no file is a stray.
+pub(crate) fn host_on(rt: &impl Abort, alloc: Global, disk: Disk) -> Result<Host, AllocError> {
+    let host = running_on(rt, alloc, disk)?;
+    assert!(rt; host.strays().is_empty());
+    Ok(host)
+}
+
+/// A disk on which a broker did what [`SETUP`] asks, and what it answered to [`QUESTIONS`].
+pub(crate) fn filled(rt: &impl Abort, alloc: Global) -> Result<(Disk, Vec<u8>), AllocError> {
+    let mut host = host_on(rt, alloc, Disk::new(alloc))?;
+    host.ask_all(rt, &SETUP)?;
+    let answers = host.ask_all(rt, &QUESTIONS)?;
+    Ok((host.stop(), answers))
+}
+
+/// [`QUESTIONS`] are answered so, and the broker stops.
+pub(crate) fn tells(rt: &impl Abort, mut host: Host, wanted: &[u8]) -> Result<Disk, AllocError> {
+    assert!(rt; host.ask_all(rt, &QUESTIONS)?.as_slice() == wanted);
+    Ok(host.stop())
 }
 
 /// Produce 3 of one record to `t`, by producer 0 in epoch 0 with that sequence number.

@@ -59,9 +59,9 @@ fn faults_have_their_texts(rt: HostRuntime) -> Result<(), Fail> {
         (NodeFault::Write, "kbroker: write fault"),
         (NodeFault::Memory, "kbroker: out of memory"),
     ];
-    for (fault, text) in faults {
+    for (fault, text) in &faults {
         let written = format!(in rt.alloc(); "{fault}")?;
-        assert!(rt; written.as_str() == text);
+        assert!(rt; written.as_str() == *text);
     }
     Ok(())
 }

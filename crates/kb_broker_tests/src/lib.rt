@@ -41,6 +41,8 @@ mod stores;
 #[cfg(test)]
 mod street;
 #[cfg(test)]
+mod unread;
+#[cfg(test)]
 mod words;
 #[cfg(test)]
 mod written;

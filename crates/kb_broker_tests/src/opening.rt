@@ -1,6 +1,6 @@
 //! Brokers that are opened.
 
-use crate::running::new_broker;
+use crate::running::Host;
 use kb_broker::Settings;
 use std::test::*;
 
@@ -15,9 +15,9 @@ fn standard_settings(rt: HostRuntime) -> Result<(), Fail> {
 
 #[test]
 fn a_broker_of_the_standard_settings(rt: HostRuntime) -> Result<(), Fail> {
-    let broker = new_broker(rt.alloc())?;
-    assert!(rt; broker.last_connection() == 0);
-    assert!(rt; broker.refusals("a") == 0);
-    assert!(rt; broker.is_calm());
+    let host = Host::new(rt.alloc())?;
+    assert!(rt; host.last_connection() == 0);
+    assert!(rt; host.refusals("a") == 0);
+    assert!(rt; host.is_calm());
     Ok(())
 }

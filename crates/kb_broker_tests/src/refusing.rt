@@ -11,9 +11,6 @@ use std::alloc::{AllocError, Global};
 use std::process::Abort;
 use std::test::Fail;
 
-/// A broker whose logs write to a store in memory with a fuse.
-type Fused = Broker<FusedStore<MemoryStore>, WrittenLog>;
-
 /// Each call of the exchange of two tenants after the list of files, and one more: three calls make each topic, and three take
 /// each batch. Beside it are the refusals that are counted for the tenants and for nobody where it alone is refused.
 const CALLS: [(u64, [u64; 3]); 13] = [
@@ -32,13 +29,43 @@ const CALLS: [(u64, [u64; 3]); 13] = [
     (14, [0, 0, 0]),
 ];
 
-/// Opens a broker of the standard settings. Of a refused append the first two bytes are left.
-fn opened(alloc: Global, fuse: Fuse) -> Result<Fused, AllocError> {
-    let settings = Settings::standard(alloc)?;
-    let store = FusedStore::new(MemoryStore::new(alloc), fuse, 2);
-    match Broker::open(alloc, &settings, store) {
-        Ok(opened) => Ok(opened.broker),
-        Err(_) => Err(AllocError),
+/// A broker whose logs write to a store in memory with a fuse. Of a refused append the first two bytes are left.
+#[derive(Drop)]
+struct Fused {
+    broker: Broker<FusedStore<MemoryStore>, WrittenLog>,
+}
+
+impl Fused {
+    /// One of the standard settings.
+    fn new(alloc: Global, fuse: Fuse) -> Result<Fused, AllocError> {
+        let settings = Settings::standard(alloc)?;
+        let store = FusedStore::new(MemoryStore::new(alloc), fuse, 2);
+        match Broker::open(alloc, &settings, store) {
+            Ok(opened) => Ok(Fused {
+                broker: opened.broker,
+            }),
+            Err(_) => Err(AllocError),
+        }
+    }
+
+    /// Some events happen: what each connection got.
+    fn run(
+        &mut self,
+        rt: &impl Abort,
+        alloc: Global,
+        events: &[Event],
+    ) -> Result<Vec<Written>, AllocError> {
+        run(rt, alloc, &mut self.broker, events)
+    }
+
+    /// The refusals that were counted.
+    fn refusals(&self) -> [u64; 3] {
+        refusals_of(&self.broker)
+    }
+
+    /// How many calls the store refused.
+    fn failures(self) -> u64 {
+        self.broker.into_store().failures()
     }
 }
 
@@ -70,23 +97,23 @@ fn counts_of(
     events: &[Event],
     wanted: &[Written],
 ) -> Result<[u64; 3], AllocError> {
-    let mut broker = opened(alloc, fuse)?;
-    let written = run(rt, alloc, &mut broker, events)?;
-    let counts = refusals_of(&broker);
+    let mut broker = Fused::new(alloc, fuse)?;
+    let written = broker.run(rt, alloc, events)?;
+    let counts = broker.refusals();
     are_told_where_spared(rt, counts, &written, wanted);
-    assert!(rt; are_counted(counts, broker.into_store().failures()));
+    assert!(rt; are_counted(counts, broker.failures()));
     Ok(counts)
 }
 
 /// Plays an exchange on a store that refuses that call alone, which is counted once, for the first tenant.
 fn refuses_once(rt: &impl Abort, alloc: Global, call: u64, steps: &[Step<'_>]) -> Result<(), Fail> {
-    let mut broker = opened(alloc, Fuse::Once(call))?;
+    let mut broker = Fused::new(alloc, Fuse::Once(call))?;
     let events = events_of(rt, alloc, steps, usize::MAX)?;
-    let written = run(rt, alloc, &mut broker, &events)?;
+    let written = broker.run(rt, alloc, &events)?;
     let wanted = wanted_of(rt, alloc, steps)?;
     are_told(rt, "a refused call", &written, &wanted);
-    assert!(rt; refusals_of(&broker) == [1, 0, 0]);
-    assert!(rt; broker.into_store().failures() == 1);
+    assert!(rt; broker.refusals() == [1, 0, 0]);
+    assert!(rt; broker.failures() == 1);
     Ok(())
 }
 
@@ -103,10 +130,10 @@ fn a_refused_append_is_its_tenants_own(rt: HostRuntime) -> Result<(), Fail> {
 fn each_refused_call_is_its_tenants_own(rt: HostRuntime) -> Result<(), Fail> {
     let events = events_of(&rt, rt.alloc(), &ALTERNATING, usize::MAX)?;
     let wanted = wanted_of(&rt, rt.alloc(), &ALTERNATING)?;
-    for (call, counts) in CALLS {
-        let once = counts_of(&rt, rt.alloc(), Fuse::Once(call), &events, &wanted)?;
-        assert!(rt; once == counts);
-        counts_of(&rt, rt.alloc(), Fuse::From(call), &events, &wanted)?;
+    for (call, counts) in &CALLS {
+        let once = counts_of(&rt, rt.alloc(), Fuse::Once(*call), &events, &wanted)?;
+        assert!(rt; once == *counts);
+        counts_of(&rt, rt.alloc(), Fuse::From(*call), &events, &wanted)?;
     }
     Ok(())
 }

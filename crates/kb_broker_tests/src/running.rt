@@ -41,15 +41,126 @@ pub(crate) fn opened(
     }
 }
 
-/// A connection opens.
-pub(crate) fn opens<S: Store>(
-    rt: &impl Abort,
-    alloc: Global,
-    broker: &mut Broker<S>,
-    number: u64,
-) -> Result<(), AllocError> {
-    assert!(rt; broker.last_connection() < number);
-    broker.connect(alloc, number)
+/// A broker of a type with calls of no contract, so that what happens to it is proved without a broker's clauses.
+#[derive(Drop)]
+pub(crate) struct Host {
+    broker: Broker<MemoryStore>,
+}
+
+impl Host {
+    /// One of the standard settings.
+    pub(crate) fn new(alloc: Global) -> Result<Host, AllocError> {
+        Ok(Host {
+            broker: new_broker(alloc)?,
+        })
+    }
+
+    /// One of other settings.
+    pub(crate) fn of(
+        alloc: Global,
+        settings: &Settings,
+        listing: Listing,
+    ) -> Result<Host, AllocError> {
+        Ok(Host {
+            broker: opened(alloc, settings, listing)?,
+        })
+    }
+
+    /// A connection opens.
+    pub(crate) fn open(
+        &mut self,
+        rt: &impl Abort,
+        alloc: Global,
+        number: u64,
+    ) -> Result<(), AllocError> {
+        assert!(rt; self.broker.last_connection() < number);
+        self.broker.connect(alloc, number)
+    }
+
+    /// Bytes come on a connection.
+    pub(crate) fn input(&mut self, alloc: Global, number: u64, bytes: &[u8]) {
+        self.broker.input(alloc, number, bytes);
+    }
+
+    /// What a connection is told.
+    pub(crate) fn output(&mut self, alloc: Global, number: u64) -> Vec<u8> {
+        self.broker.take_output(alloc, number)
+    }
+
+    /// The connections that have something to tell.
+    pub(crate) fn speakers(&self) -> &[u64] {
+        self.broker.speakers()
+    }
+
+    /// A moment passes.
+    pub(crate) fn pass(&mut self, rt: &impl Abort, alloc: Global, now: u64) {
+        assert!(rt; now <= LAST_MOMENT);
+        self.broker.moment(alloc, now);
+    }
+
+    /// When there is something to do.
+    pub(crate) fn deadline(&self) -> u64 {
+        self.broker.next_deadline()
+    }
+
+    /// A connection closes, with so many bytes of output left.
+    pub(crate) fn close(&mut self, alloc: Global, number: u64) -> usize {
+        self.broker.disconnect(alloc, number).len()
+    }
+
+    /// Whether a connection is there.
+    pub(crate) fn has(&self, number: u64) -> bool {
+        self.broker.is_open(number)
+    }
+
+    /// Whether the broker shut a connection.
+    pub(crate) fn has_shut(&self, number: u64) -> bool {
+        self.broker.shut(number)
+    }
+
+    /// How many more bytes a connection takes.
+    pub(crate) fn room(&self, number: u64) -> usize {
+        self.broker.room(number)
+    }
+
+    /// The refusals that were counted for a tenant.
+    pub(crate) fn refusals(&self, tenant: &str) -> u64 {
+        self.broker.refusals(tenant)
+    }
+
+    /// Those for connections that were not bound.
+    pub(crate) fn refusals_unbound(&self) -> u64 {
+        self.broker.refusals_unbound()
+    }
+
+    /// Whether none is counted.
+    pub(crate) fn is_calm(&self) -> bool {
+        self.broker.is_calm()
+    }
+
+    /// The last connection's number.
+    pub(crate) fn last_connection(&self) -> u64 {
+        self.broker.last_connection()
+    }
+
+    /// The broker itself.
+    pub(crate) fn into_broker(self) -> Broker<MemoryStore> {
+        self.broker
+    }
+
+    /// Some events happen: what each connection got, and the refusals that were counted.
+    fn outcome(
+        &mut self,
+        rt: &impl Abort,
+        alloc: Global,
+        events: &[Event],
+    ) -> Result<Outcome, AllocError> {
+        let written = run(rt, alloc, &mut self.broker, events)?;
+        Ok(Outcome {
+            written,
+            refusals: refusals_of(&self.broker),
+        })
+    }
 }
 
 /// Runs a new broker of the standard settings.
@@ -58,12 +169,7 @@ pub(crate) fn outcome_of(
     alloc: Global,
     events: &[Event],
 ) -> Result<Outcome, AllocError> {
-    let mut broker = new_broker(alloc)?;
-    let written = run(rt, alloc, &mut broker, events)?;
-    Ok(Outcome {
-        written,
-        refusals: refusals_of(&broker),
-    })
+    Host::new(alloc)?.outcome(rt, alloc, events)
 }
 
 /// Runs a broker.

@@ -2,9 +2,10 @@
 
 ghost use Rattle.std.specs.Prelude.{◌<◌};
 
-use crate::running::{new_broker, opened};
+use crate::calls::output_of;
+use crate::running::{Host, new_broker, opened};
 use crate::words::bytes_of;
-use kb_broker::{Broker, OpenFault, Settings};
+use kb_broker::{OpenFault, Settings};
 use kb_node::{
     BindFault, BindRefused, Edge, Limits, Listing, StartFault, data_folder, read_settings,
 };
@@ -23,17 +24,16 @@ const HANDSHAKE: usize = 14 + 11 * 6;
 
 const STOCK_HANDSHAKE: usize = HANDSHAKE + 2 * 6;
 
-/// What a new broker answers to ApiVersions.
+/// What a new broker of the settings answers to ApiVersions.
 fn versions_of(
     rt: &impl Abort,
     alloc: Global,
-    broker: &mut Broker<MemoryStore>,
+    settings: &Settings,
+    listing: Listing,
 ) -> Result<Vec<u8>, AllocError> {
-    let request = bytes_of(rt, alloc, "versions")?;
-    assert!(rt; broker.last_connection() == 0);
-    broker.connect(alloc, 1)?;
-    broker.input(alloc, 1, &request);
-    Ok(broker.take_output(alloc, 1))
+    let mut host = Host::of(alloc, settings, listing)?;
+    host.open(rt, alloc, 1)?;
+    output_of(rt, alloc, &mut host, 1, "versions")
 }
 
 /// This is what a new broker of the settings lists of SaslHandshake, which stands there.
@@ -47,8 +47,7 @@ fn lists(
 ) -> Result<(), StartFault>
     requires { place < 1000 }
 {
-    let mut broker = opened(alloc, settings, listing)?;
-    let reply = versions_of(rt, alloc, &mut broker)?;
+    let reply = versions_of(rt, alloc, settings, listing)?;
     let listed = bytes_of(rt, alloc, listed)?;
     assert!(rt; reply.get(place..place + 6) == Some(listed.as_slice()));
     Ok(())
@@ -103,13 +102,18 @@ fn texts_of_settings_are_read(rt: HostRuntime) -> Result<(), Fail> {
         ),
         ("", StartFault::Field(String::from_str(alloc, "user")?)),
     ];
-    for (text, fault) in faults {
-        match read_settings(alloc, text) {
-            Ok(_) => panic!(rt; "the text is wrong"),
-            Err(found) => assert!(rt; found == fault),
-        }
+    for (text, fault) in &faults {
+        is_refused(&rt, alloc, text, fault);
     }
     Ok(())
+}
+
+/// A text of settings is refused so.
+fn is_refused(rt: &impl Abort, alloc: Global, text: &str, fault: &StartFault) {
+    match read_settings(alloc, text) {
+        Ok(_) => panic!(rt; "the text is wrong"),
+        Err(found) => assert!(rt; found == *fault),
+    }
 }
 
 /// An edge for a broker of the settings.
@@ -134,15 +138,20 @@ fn a_bound_port_is_not_bound_again(rt: HostRuntime) -> Result<(), Fail> {
     Ok(())
 }
 
-#[test]
-fn faults_have_their_texts(rt: HostRuntime) -> Result<(), Fail> {
-    let alloc = rt.alloc();
-    let field = SettingsFault::Field(String::from_str(alloc, "port")?);
+/// An edge that is not bound for want of memory.
+fn unbound(alloc: Global) -> Result<StartFault, AllocError> {
     let refused = BindRefused {
         fault: BindFault::Memory,
         cause: None,
         broker: new_broker(alloc)?,
     };
+    Ok(StartFault::from(refused))
+}
+
+#[test]
+fn faults_have_their_texts(rt: HostRuntime) -> Result<(), Fail> {
+    let alloc = rt.alloc();
+    let field = SettingsFault::Field(String::from_str(alloc, "port")?);
     let faults = [
         (
             StartFault::from(SettingsFault::Text),
@@ -159,10 +168,10 @@ fn faults_have_their_texts(rt: HostRuntime) -> Result<(), Fail> {
             "kbroker: out of memory",
         ),
         (StartFault::Listen, "kbroker: cannot listen"),
-        (StartFault::from(refused), "kbroker: out of memory"),
+        (unbound(alloc)?, "kbroker: out of memory"),
     ];
-    for (fault, text) in faults {
-        assert!(rt; format!(in alloc; "{fault}")?.as_str() == text);
+    for (fault, text) in &faults {
+        assert!(rt; format!(in alloc; "{fault}")?.as_str() == *text);
     }
     Ok(())
 }

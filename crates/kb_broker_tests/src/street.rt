@@ -78,8 +78,8 @@ fn every_address_of_a_name_is_listened_on(rt: HostRuntime) -> Result<(), Fail> {
         ("fst:9092", Err(Some(address_of(b't')))),
         ("mm:9092", Err(Some(address_of(b'm')))),
     ];
-    for (name, wanted) in names {
-        assert!(rt; listened(rt.alloc(), name)? == wanted);
+    for (name, wanted) in &names {
+        assert!(rt; listened(rt.alloc(), name)? == *wanted);
     }
     Ok(())
 }

@@ -75,6 +75,13 @@ impl Coordinator {
         self.limits = limits;
     }
 
+    /// The groups with their ids, in byte order of these, to look at.
+    pub fn groups(&self) -> &[Entry]
+        ensures { result.now ≡ self.now.groups }
+    {
+        &self.groups
+    }
+
     /// What the groups keep: each one's id and protocol type, and for each member its id, protocols and assignment. It costs constant
     /// time.
     pub fn bytes(&self) -> u64

@@ -7,8 +7,10 @@
 
 mod copy;
 mod fault;
+mod laws;
 mod owned;
 
 pub use copy::{Copied, copy_tenant};
 pub use fault::MoveFault;
+pub use laws::alike_files_open_alike;
 pub use owned::{TenantFiles, tenant_files};

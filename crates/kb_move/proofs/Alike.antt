@@ -30,7 +30,7 @@ map_alike : {X Y : Type 0} (f h : X → Y) (xs : List X) → AllByRecursion (λ 
 map_alike f h [] e = refl
 map_alike f h (x ∷ xs) e = ap (λ y. y ∷ map f xs) e.0 ∙ ap (λ ys. h x ∷ ys) (map_alike f h xs e.1)
 
-filter_map : {X Y : Type 0} (f : X → Y) (test : Y → Bool) (xs : List X) → filter test (map f xs) ≡ map f (filter (λ x. test (f x)) xs)
+pub filter_map : {X Y : Type 0} (f : X → Y) (test : Y → Bool) (xs : List X) → filter test (map f xs) ≡ map f (filter (λ x. test (f x)) xs)
 filter_map f test [] = refl
 filter_map f test (x ∷ xs) = by (test (f x)) (filter_map f test xs)
   where
@@ -39,7 +39,7 @@ filter_map f test (x ∷ xs) = by (test (f x)) (filter_map f test xs)
     by true e = ap (λ ys. f x ∷ ys) e
     by false e = e
 
-filter_alike : {X : Type 0} (p q : X → Bool) (xs : List X) → AllByRecursion (λ x. p x ≡ q x) xs → filter p xs ≡ filter q xs
+pub filter_alike : {X : Type 0} (p q : X → Bool) (xs : List X) → AllByRecursion (λ x. p x ≡ q x) xs → filter p xs ≡ filter q xs
 filter_alike p q [] e = refl
 filter_alike p q (x ∷ xs) e =
     ap (λ b. if◌then◌else◌ b (x ∷ filter p xs) (filter p xs)) e.0 ∙ ap (λ ys. if◌then◌else◌ (q x) (x ∷ ys) ys) (filter_alike p q xs e.1)
@@ -96,7 +96,7 @@ module _ (f g : Files) where
   said_by : (ℕ × ℕ → ℕ) → Files → (Header → Bool) → ℕ × ℕ → Bool
   said_by side files test p = says files test (side p)
 
-  there_of : (test : Header → Bool) (ps : List (ℕ × ℕ)) → AreAlike f g ps
+  pub there_of : (test : Header → Bool) (ps : List (ℕ × ℕ)) → AreAlike f g ps
       → filter (says g test) (numbers_there ps) ≡ numbers_there (filter (λ p. says f test p.0) ps)
   there_of test ps a =
       filter_map (λ p. p.1) (says g test) ps

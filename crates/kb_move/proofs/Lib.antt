@@ -1,3 +1,5 @@
 pub mod Alike
 pub mod Copies
 pub mod Disks
+pub mod Joined
+pub mod Placed

@@ -1,10 +1,12 @@
 //! What a copy opens to.
-ghost use Rattle.std.specs.Prelude.{◌≡◌, ℕ, List};
+ghost use Rattle.std.specs.Prelude.{◌≡◌, ◌<◌, ℕ, List, [], false, bytes_eq};
+ghost use Rattle.std.specs.FinMap.{keys};
+ghost use Rattle.std.specs.List.{AllByRecursion};
 ghost use Rattle.kb_store.specs.Disk.{Files};
 ghost use Rattle.kb_topics.specs.Known.{Known};
 ghost use Rattle.kb_tenant_state.specs.Logs.{Logs};
 ghost use Rattle.kb_opening.specs.Opened.{IsOpened};
-ghost use Rattle.kb_move.specs.Alike.{AreAlike, numbers_here, numbers_there, owners_of};
+ghost use Rattle.kb_move.specs.Alike.{AreAlike, Opens, joined, numbers_here, numbers_there, owned_in, owners_of};
 
 /// Files that say the same, in the same order, open to the same: a tenant's topics, their logs and all that groups committed.
 #[tactic(auto, using(crate::proofs::Alike::opened_alike))]
@@ -12,4 +14,18 @@ pub fn alike_files_open_alike()
     ensures { (here there : Files) (pairs : List (ℕ × ℕ)) (name : List ℕ) (k : Known) (logs : Logs) → AreAlike here there pairs
         → IsOpened here (owners_of here (numbers_here pairs) name) k logs
         → IsOpened there (owners_of there (numbers_there pairs) name) k logs }
+{}
+
+/// A tenant's files, behind those of a store that has none of it, open there to what they open to here.
+#[tactic(auto, using(crate::proofs::Joined::opens_joined))]
+pub fn copies_open_alike()
+    ensures { (from to : Files) (name : List ℕ) (n : ℕ) (k : Known) (logs : Logs) → AllByRecursion (λ m. m < n) (keys to)
+        → owned_in name to ≡ [] → Opens from name k logs → Opens (joined n name from to) name k logs }
+{}
+
+/// Each other tenant of that store has there what it had.
+#[tactic(auto, using(crate::proofs::Joined::opens_beside))]
+pub fn copies_leave_the_others()
+    ensures { (from to : Files) (name other : List ℕ) (n : ℕ) (k : Known) (logs : Logs) → AllByRecursion (λ m. m < n) (keys to)
+        → bytes_eq name other ≡ false → Opens to other k logs → Opens (joined n name from to) other k logs }
 {}

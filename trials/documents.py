@@ -29,6 +29,7 @@ LEFT = {
     "adduser --system": "makes a user: packaging/try does it",
     "--broker HOST:PORT": "how a command line looks",
     "| to -P": "needs a second broker: `to` is a kcat of it",
+    "tenant export --data /var/lib": "needs the folders of two machines: `trials/moved_tenant.py` does it",
 }
 # Lines that are not run in blocks that are, by a piece of them: builds whose programs are here already, and what asks for a person.
 BUILDS = ("gate/unproved", "gate/build", "apt-get install", "examples/try_clients.sh", "-G grp")

@@ -28,7 +28,7 @@ LEFT = {
     "systemctl enable": "needs systemd",
     "adduser --system": "makes a user: packaging/try does it",
     "--broker HOST:PORT": "how a command line looks",
-    "| to -P": "needs a second broker: `to` is a kcat of it",
+    "examples/copy.py": "needs a second broker",
     "tenant export --data /var/lib": "needs the folders of two machines: `trials/moved_tenant.py` does it",
 }
 # Lines that are not run in blocks that are, by a piece of them: builds whose programs are here already, and what asks for a person.

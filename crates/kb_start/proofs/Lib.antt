@@ -1,3 +1,4 @@
+pub mod Gone
 pub mod Lost
 pub mod Parts
 pub mod Recorded

@@ -14,7 +14,8 @@ use Rattle.kb_start.specs.declared.losses.Opened.{Opened}
 use Rattle.kb_start.specs.Left.{any_dropped, is_dropped}
 use Rattle.kb_start.specs.Starts.{header_at, start_of}
 use Rattle.kb_start.specs.Survey.{begins, catalog_at, catalog_by, catalogs_in_use, copied_to, dropped_losses, end_at, end_behind, has_lower, is_superseded, known_of, loss_above, loss_at, loss_of, losses_of, used_by, Known}
-use Rattle.kb_start.specs.Survey.{stray_at, stray_loss, stray_losses, unfit_after, with_stray}
+use Rattle.kb_start.specs.Survey.{stray_at, stray_loss, stray_losses, unfit_after, with_stray, AddsStrays}
+use Rattle.kb_start.specs.declared.losses.Surveyed.{Surveyed}
 use Rattle.kb_survey.specs.Stray.{stray_of}
 use Rattle.kb_survey.specs.declared.stray.Stray.{Stray}
 use Rattle.kb_survey.specs.declared.stray.Stray.TheVariants.{Short, Unreadable, LaterVersion}
@@ -202,3 +203,18 @@ unfit_next names nexts d e files i other before now first in_range t f is told =
     let next : drop i files ≡ file ∷ rest = rw (add-one, drop-cons files i other in_range) in
     ap (λ n. unfit_after d names nexts n rest) (is ∙ ap (with_stray before) (same_stray d e names nexts file t f))
     ∙ ap (unfit_after d names nexts before) (sym next) ∙ told
+
+pub same_unfit : (names : List (List ℕ)) (nexts : List ℕ) (d e : Disk) (unfit : ℕ) (files : List ℕ) → e.table ≡ d.table → e.files ≡ d.files
+    → unfit_after e names nexts unfit files ≡ unfit_after d names nexts unfit files
+same_unfit names nexts d e unfit [] t f = refl
+same_unfit names nexts d e unfit (x ∷ xs) t f =
+    ap (λ n. unfit_after e names nexts n xs) (ap (with_stray unfit) (same_stray d e names nexts x t f))
+    ∙ same_unfit names nexts d e (with_stray unfit (stray_at d names nexts x)) xs t f
+
+-- and all that is of no log, on a disk of the same files
+pub same_adds : (o : Opened) (d e : Disk) (before after : Surveyed) → e.table ≡ d.table → e.files ≡ d.files
+    → AddsStrays o e before after → AddsStrays o d before after
+same_adds o d e before after t f adds = record {
+  losses = adds.losses ∙ ap (λ ls. before.losses.items ++ ls) (same_aside o o.next_instances.now d e t f);
+  unfit = adds.unfit ∙ same_unfit (known_of o).names o.next_instances.now d e before.strays.unfit o.strays.now t f;
+}

@@ -73,7 +73,7 @@ recorded_file d e tenant files i none before mid after in_range t same h k =
 
 -- ---- of all files, those of catalogs
 
-same_header : (d e : Disk) (file : ℕ) → e.table ≡ d.table → e.files ≡ d.files → header_at e file ≡ header_at d file
+pub same_header : (d e : Disk) (file : ℕ) → e.table ≡ d.table → e.files ≡ d.files → header_at e file ≡ header_at d file
 same_header d e file t f = ap (λ table. of_both table e.files) t ∙ ap (of_both d.table) f
   where
     of_both : Table → Files → Option Header

@@ -1,3 +1,4 @@
+pub mod Deleted
 pub mod Kept
 pub mod Left
 pub mod Starts

@@ -1,5 +1,5 @@
 -- What a start would lose of the files of a store, and how many files are in its way.
-use Rattle.std.specs.Prelude.{◌+◌, ◌++◌, ◌==◌, ◌&&◌, ◌||◌, ℕ, Bool, false, not, List, [], ◌∷◌, drop, map, nat_lt, Option, Some, None}
+use Rattle.std.specs.Prelude.{◌≡◌, ◌+◌, ◌++◌, ◌==◌, ◌&&◌, ◌||◌, ℕ, Bool, false, not, List, [], ◌∷◌, drop, map, nat_lt, Option, Some, None}
 use Rattle.std.specs.Prelude.{is_some, unwrap_or, if◌then◌else◌}
 use Rattle.std.specs.FinMap.{keys}
 use Rattle.std.specs.Str.{bytes_eq}
@@ -16,6 +16,7 @@ use Rattle.kb_survey.specs.Stray.{is_unfit, stray_of}
 use Rattle.kb_start.specs.declared.left.Left.{Left}
 use Rattle.kb_start.specs.declared.losses.Loss.{Loss}
 use Rattle.kb_start.specs.declared.losses.Opened.{Opened}
+use Rattle.kb_start.specs.declared.losses.Surveyed.{Surveyed}
 use Rattle.kb_topics.specs.declared.command.MoveStart.{MoveStart}
 use Rattle.kb_start.specs.Left.{is_dropped, told}
 use Rattle.kb_start.specs.Starts.{header_at, start_of}
@@ -154,3 +155,8 @@ with_stray unfit (Some stray) = if is_unfit stray then told (unfit + 1) else unf
 abbrev pub unfit_after : Disk → List (List ℕ) → List ℕ → ℕ → List ℕ → ℕ
 unfit_after d names nexts unfit [] = unfit
 unfit_after d names nexts unfit (file ∷ files) = unfit_after d names nexts (with_stray unfit (stray_at d names nexts file)) files
+
+-- A survey goes on with the files that are of no log: with their losses, and with those that are in the way.
+pub record AddsStrays (o : Opened) (d : Disk) (before after : Surveyed) : Type 0 where
+  pub losses : after.losses.items ≡ before.losses.items ++ stray_losses (known_of o) (used_by o d) d o.next_instances.now o.strays.now
+  pub unfit : after.strays.unfit ≡ unfit_after d (known_of o).names o.next_instances.now before.strays.unfit o.strays.now

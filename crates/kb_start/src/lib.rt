@@ -3,8 +3,10 @@
 //! [`Left`] is a file before and after an opening. [`survey`] says of which files whole batches would be gone, and which files are of
 //! no log. [`why_refused`] judges that by what the operator agrees to ([`Consent`]). [`loss_text`], [`damage_text`] and [`stray_text`]
 //! tell it. What is dropped of damaged files goes to a [`Keeper`] first ([`keep_dropped`]).
+//! [`deleted_files`] says which files are of deleted topics, and [`remove_files`] removes them.
 #![tactic(auto)]
 
+mod deleted;
 mod generations;
 mod kept;
 mod left;
@@ -13,6 +15,7 @@ mod starts;
 mod text;
 mod verdict;
 
+pub use deleted::{CatalogOf, Deleted, deleted_files, remove_files};
 pub use kept::{KeepFault, Keeper, KeeperRefused, keep_dropped};
 pub use left::{Left, Total};
 pub use losses::{Loss, Opened, StrayCounts, Surveyed, is_replaced, survey};

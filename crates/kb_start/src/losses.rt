@@ -5,7 +5,7 @@ ghost use Rattle.std.specs.FinMap.{keys};
 ghost use Rattle.kb_store.specs.Disk.{HasCause, Keeps};
 ghost use Rattle.kb_start.specs.Survey.{dropped_losses, known_of, loss_above, loss_at, loss_of, losses_of};
 ghost use Rattle.kb_start.specs.Starts.{header_at};
-ghost use Rattle.kb_start.specs.Survey.{is_superseded, stray_at, stray_loss, stray_losses, unfit_after, used_by, with_stray};
+ghost use Rattle.kb_start.specs.Survey.{is_superseded, stray_at, stray_loss, stray_losses, unfit_after, used_by, with_stray, AddsStrays};
 
 use crate::generations::{catalogs_in_use, copied_to, is_superseded};
 use crate::left::{Left, any_dropped};
@@ -242,13 +242,8 @@ fn add_aside<S: Store>(
     survey: &mut Surveyed,
 ) -> Result<(), StoreFault>
     requires { listed.now ≡ keys (S.disk store.old).table }
-    ensures losses { IfOk result (λ _. (S.disk store.new).honest
-        → survey.new.losses.items ≡ survey.old.losses.items
-        ++ stray_losses (known_of opened.now) (used_by opened.now (S.disk store.old)) (S.disk store.old) opened.now.next_instances.now
-        opened.now.strays.now) }
-    ensures unfit { IfOk result (λ _. (S.disk store.new).honest
-        → survey.new.strays.unfit ≡ unfit_after (S.disk store.old) (known_of opened.now).names opened.now.next_instances.now
-        survey.old.strays.unfit opened.now.strays.now) }
+    ensures strays { IfOk result (λ _. (S.disk store.new).honest
+        → AddsStrays opened.now (S.disk store.old) survey.old survey.new) }
     ensures unchanged { Keeps (S.disk store.old) (S.disk store.new) }
     ensures cause { HasCause (S.disk store.old) result (S.disk store.new) }
 {
@@ -267,13 +262,8 @@ fn add_some<S: Store>(
     survey: &mut Surveyed,
 ) -> Result<(), StoreFault>
     requires { listed.now ≡ keys (S.disk store.old).table }
-    ensures losses { IfOk result (λ _. (S.disk store.new).honest
-        → survey.new.losses.items ≡ survey.old.losses.items
-        ++ stray_losses (known_of opened.now) (used_by opened.now (S.disk store.old)) (S.disk store.old) opened.now.next_instances.now
-        opened.now.strays.now) }
-    ensures unfit { IfOk result (λ _. (S.disk store.new).honest
-        → survey.new.strays.unfit ≡ unfit_after (S.disk store.old) (known_of opened.now).names opened.now.next_instances.now
-        survey.old.strays.unfit opened.now.strays.now) }
+    ensures strays { IfOk result (λ _. (S.disk store.new).honest
+        → AddsStrays opened.now (S.disk store.old) survey.old survey.new) }
     ensures unchanged { Keeps (S.disk store.old) (S.disk store.new) }
     ensures cause { HasCause (S.disk store.old) result (S.disk store.new) }
 {
@@ -386,7 +376,7 @@ impl StrayCounts {
 }
 
 /// Counts one more of a tenant.
-fn count(
+pub(crate) fn count(
     alloc: Global,
     counts: &mut BTreeMap<String, u64>,
     tenant: &str,

@@ -3,6 +3,7 @@
 use crate::fault::OperatorFault;
 use crate::refused::FolderJournal;
 use kb_folder::{FolderFault, FolderStore, HostFolder, is_full, make_folder};
+use std::alloc::AllocError;
 use std::fs::{File, OpenOptions, TryLockError};
 use std::io::Write;
 use std::os::unix::fs::OpenOptionsExt;
@@ -11,30 +12,85 @@ use std::{fs, io};
 /// The name of a file that is made, written and removed at a start. It is no log's.
 const TRIAL: &str = "trial";
 
+/// The name of the file that keeps some room of the disk.
+const RESERVE: &str = "reserve";
+
 /// The store of the files of a folder of the system.
 pub type DataStore = FolderStore<HostFolder<HostRuntime>>;
+
+/// A data folder that this process alone has, until it ends.
+#[derive(Drop)]
+pub struct HeldFolder {
+    path: String,
+    /// It was not there before.
+    is_new: bool,
+    /// The handle that locks it.
+    lock: File,
+}
+
+impl HeldFolder {
+    /// Removes the folder again, where it was not there before and has nothing but a reserve.
+    pub fn leave(self, rt: &HostRuntime) {
+        if self.is_new && has_no_log(rt, self.path.as_str()) {
+            let _ = remove_reserve(rt, self.path.as_str());
+            // The system refuses one with files in it, which stays.
+            let _ = fs::remove_dir(rt, self.path.as_str());
+        }
+    }
+}
+
+/// Whether there is nothing but a reserve in a folder, as far as it can be listed.
+fn has_no_log(rt: &HostRuntime, path: &str) -> bool {
+    let Ok(entries) = fs::read_dir(rt, path) else {
+        return false;
+    };
+    for entry in entries {
+        match entry {
+            Ok(entry) if entry.file_name() == RESERVE => {}
+            _ => return false,
+        }
+    }
+    true
+}
+
+/// Removes the reserve of a folder.
+fn remove_reserve(rt: &HostRuntime, path: &str) -> Result<(), AllocError> {
+    let reserve = format!(in rt.alloc(); "{path}/{RESERVE}")?;
+    let _ = fs::remove_file(rt, reserve.as_str());
+    Ok(())
+}
 
 /// Takes the folder at a path for this process alone, and makes it where it is missing. Another process that holds it is a fault, and
 /// so is a folder in which no file can be made, written and removed. One on a full disk is taken.
 ///
 /// It is held by a lock of the system until the handle is closed, and so no longer than the process lives, however it ends.
-pub fn hold(rt: &HostRuntime, path: &str) -> Result<File, OperatorFault> {
+pub fn hold(rt: &HostRuntime, path: &str) -> Result<HeldFolder, OperatorFault> {
+    let is_new = !is_folder(rt, path);
     if let Err(error) = make_folder(rt, path) {
         return Err(refused(rt, "make", path, error));
     }
+    let held = HeldFolder {
+        path: String::from_str(rt.alloc(), path)?,
+        is_new,
+        lock: locked(rt, path)?,
+    };
+    try_write(rt, path)?;
+    Ok(held)
+}
+
+/// The handle of a folder, by which it is locked for this process alone.
+fn locked(rt: &HostRuntime, path: &str) -> Result<File, OperatorFault> {
     let folder = match File::open(rt, path) {
         Ok(folder) => folder,
         Err(error) => return Err(refused(rt, "open", path, error)),
     };
     match folder.try_lock() {
-        Ok(()) => {}
+        Ok(()) => Ok(folder),
         Err(TryLockError::WouldBlock) => {
-            return Err(OperatorFault::Held(String::from_str(rt.alloc(), path)?));
+            Err(OperatorFault::Held(String::from_str(rt.alloc(), path)?))
         }
-        Err(TryLockError::Error(error)) => return Err(refused(rt, "lock", path, error)),
+        Err(TryLockError::Error(error)) => Err(refused(rt, "lock", path, error)),
     }
-    try_write(rt, path)?;
-    Ok(folder)
 }
 
 /// Looks into the folder at a path, which is there, beside others that look into it, and changes nothing. A process that serves it is a

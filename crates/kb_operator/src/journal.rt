@@ -2,15 +2,18 @@
 
 ghost use Rattle.std.specs.Prelude.{◌≤◌, ◌^◌};
 
+mod logins;
+mod refusals;
 mod shut;
 
+use crate::bucket::Bucket;
 use crate::counts::RefusalCounts;
+use crate::deleted::deleted_text;
 use crate::lines::Lines;
 use kb_server_log::{Change, Notice, Pace, Tally, time_text};
 use kb_settings::{Settings, Sync, tenant_names};
-use kb_start::{StrayCounts, Total};
+use kb_start::{Deleted, StrayCounts, Total};
 use std::alloc::{AllocError, Global};
-use std::net::SocketAddr;
 
 /// A tenant, and how many of its refusals were told, and of its sockets that were closed.
 #[derive(Drop)]
@@ -79,6 +82,10 @@ pub struct Journal {
     turned_away: u64,
     /// The sockets that kept silent, were closed for that, and are not told of.
     closed: Closed,
+    /// The lines of logins that failed.
+    logins: Bucket,
+    /// The lines of connections that the broker shut.
+    shut: Bucket,
     pace: Pace,
 }
 
@@ -99,6 +106,8 @@ impl Journal {
             disk: Tally::default(),
             turned_away: 0,
             closed: Closed::default(),
+            logins: Bucket::default(),
+            shut: Bucket::default(),
             pace: Pace::default(),
         })
     }
@@ -154,6 +163,15 @@ impl Journal {
         }
     }
 
+    /// The files of deleted topics that a start removes, if there are any.
+    pub fn tell_deleted(&mut self, alloc: Global, now: u64, deleted: &Deleted) {
+        if !self.is_quiet
+            && let Some(text) = deleted_text(alloc, deleted).transpose()
+        {
+            self.lines.tell(now, text);
+        }
+    }
+
     /// What was found in the folder, behind a word.
     pub fn tell_found(&mut self, alloc: Global, now: u64, word: Word, held: Held) {
         if self.is_quiet {
@@ -195,18 +213,11 @@ impl Journal {
         }
     }
 
-    /// A login that failed, from an address and with a name, where it had one.
-    pub fn tell_login(&mut self, alloc: Global, now: u64, address: SocketAddr, name: &str) {
+    /// How many logins that failed, and connections that the broker shut, were passed over in seconds before that one.
+    pub fn tell_passed_over(&mut self, alloc: Global, now: u64, second: u64) {
         if !self.is_quiet {
-            self.lines.tell(now, login_text(alloc, address, name));
-        }
-    }
-
-    /// So many logins failed beside those that were told, if any did.
-    pub fn tell_more_logins(&mut self, alloc: Global, now: u64, more: u64) {
-        if !self.is_quiet && more > 0 {
-            self.lines
-                .tell(now, format!(in alloc; "login failed from others: {more}"));
+            self.tell_more_logins(alloc, now, second);
+            self.tell_more_shut(alloc, now, second);
         }
     }
 
@@ -261,23 +272,6 @@ impl Journal {
             }
         }
     }
-
-    /// How many requests were refused since the last line, by tenant, and how many calls of the store among that.
-    pub fn tell_refusals<B: RefusalCounts>(&mut self, alloc: Global, now: u64, broker: &B) {
-        if self.is_quiet || broker.is_calm() {
-            return;
-        }
-        let mut unbound = self.unbound.grown(broker.before_login());
-        let mut disk = self.disk.grown(broker.of_disk());
-        for tenants in self.tenants.chunks_mut(TENANTS) {
-            let text = refusals_text(alloc, tenants, broker, unbound, disk);
-            if let Some(text) = text.transpose() {
-                self.lines.tell(now, text);
-                unbound = 0;
-                disk = 0;
-            }
-        }
-    }
 }
 
 /// How many sockets of some tenants were closed since the last line, and how many that kept silent, by what they did: none where no socket
@@ -311,32 +305,6 @@ fn closed_text<B: RefusalCounts>(
         "connections closed: {counts}{silent}, {idle} that were idle, {slow} whose request took too long"
     )?;
     Ok(Some(text))
-}
-
-/// How many requests of some tenants were refused since the last line, and how many before a login: none where no request was. Behind
-/// them stands how many calls the disk refused; what is more than those was refused for want of memory.
-fn refusals_text<B: RefusalCounts>(
-    alloc: Global,
-    tenants: &mut [Tenant],
-    broker: &B,
-    unbound: u64,
-    disk: u64,
-) -> Result<Option<String>, AllocError> {
-    let mut counts = String::new(alloc);
-    for tenant in tenants {
-        let grown = tenant.refusals.grown(broker.of_tenant(&tenant.name));
-        if grown > 0 {
-            let name = tenant.name.as_str();
-            counts.push_str(&format!(in alloc; ", tenant {name} {grown}")?)?;
-        }
-    }
-    if unbound == 0 && counts.is_empty() {
-        return Ok(None);
-    }
-    if disk > 0 {
-        counts.push_str(&format!(in alloc; "; by the disk {disk}")?)?;
-    }
-    Ok(Some(format!(in alloc; "refusals: before a login {unbound}{counts}")?))
 }
 
 /// The users' tenants, in byte order, each once.
@@ -386,14 +354,5 @@ fn notice_text(notice: Notice) -> &'static str {
         Notice::Ahead => "the clock went ahead: it is not followed for ten minutes",
         Notice::Taken => "the clock was ahead for ten minutes: it is followed",
         Notice::Back => "the clock is no longer ahead",
-    }
-}
-
-/// A login that failed.
-fn login_text(alloc: Global, address: SocketAddr, name: &str) -> Result<String, AllocError> {
-    if name.is_empty() {
-        format!(in alloc; "login failed from {address}")
-    } else {
-        format!(in alloc; "login failed from {address} as {name}")
     }
 }

@@ -7,8 +7,10 @@
 #![tactic(auto)]
 
 mod address;
+mod bucket;
 mod changed;
 mod counts;
+mod deleted;
 mod dropped;
 mod entries;
 mod fault;
@@ -28,8 +30,11 @@ mod start;
 pub use address::{address_text, addresses_text, listen_fault};
 pub use changed::last_change;
 pub use counts::RefusalCounts;
+pub use deleted::find_deleted;
 pub use fault::OperatorFault;
-pub use folder::{DataStore, hold, is_folder, look_into, store_in, store_to_read, store_to_serve};
+pub use folder::{
+    DataStore, HeldFolder, hold, is_folder, look_into, store_in, store_to_read, store_to_serve,
+};
 pub use journal::{Closed, Held, Journal, Word};
 pub use lines::Lines;
 pub use look::look_at_start;

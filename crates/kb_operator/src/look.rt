@@ -2,9 +2,9 @@
 
 use crate::fault::OperatorFault;
 use crate::lines::Lines;
-use kb_process::{OpenFiles, judge, soft_limit};
+use kb_process::{OpenFiles, hard_limit, judge, soft_limit, to_ask_for};
 use kb_server_log::now;
-use std::alloc::Global;
+use std::alloc::{AllocError, Global};
 use std::fs;
 use std::os::unix::fs::MetadataExt;
 
@@ -15,6 +15,14 @@ const LIMITS: &str = "/proc/self/limits";
 /// own group reads its settings, as with 0640.
 const OTHERS: u32 = 0o037;
 
+/// How many files the process may have open.
+#[derive(Clone, Copy)]
+struct Allowed {
+    soft: u64,
+    /// Up to how many it may raise that.
+    hard: u64,
+}
+
 /// Looks at how many files the process may have open, and at who may read the settings. Too few files are a fault. Anything else is told,
 /// unless it is to be quiet.
 pub fn look_at_start(
@@ -24,12 +32,17 @@ pub fn look_at_start(
     is_quiet: bool,
     lines: &mut Lines,
 ) -> Result<(), OperatorFault> {
-    if let Some(limit) = open_files(rt) {
-        match judge(limit, connections) {
+    if let Some(allowed) = open_files(rt) {
+        match judge(allowed.soft, connections) {
             OpenFiles::Enough => {}
             OpenFiles::Few(_) if is_quiet => {}
-            OpenFiles::Few(missing) => tell_few(rt, limit, connections, missing, lines),
-            OpenFiles::TooFew(least) => return Err(too_few(rt.alloc(), limit, connections, least)),
+            OpenFiles::Few(missing) => tell_few(rt, allowed, connections, missing, lines),
+            OpenFiles::TooFew(least) => return Err(too_few(
+                rt.alloc(),
+                allowed,
+                connections,
+                least,
+            )),
         }
     }
     if !is_quiet {
@@ -39,9 +52,11 @@ pub fn look_at_start(
 }
 
 /// How many files the process may have open, where the system tells.
-fn open_files(rt: &HostRuntime) -> Option<u64> {
+fn open_files(rt: &HostRuntime) -> Option<Allowed> {
     let text = fs::read_to_string(rt, LIMITS).ok()?;
-    soft_limit(text.as_str())
+    let soft = soft_limit(text.as_str())?;
+    let hard = hard_limit(text.as_str()).unwrap_or(soft);
+    Some(Allowed { soft, hard })
 }
 
 /// Tells that others may read the settings, where they may.
@@ -57,19 +72,54 @@ fn tell_readable(rt: &HostRuntime, settings: &str, lines: &mut Lines) {
     }
 }
 
-fn tell_few(rt: &HostRuntime, limit: u64, connections: u32, missing: u64, lines: &mut Lines) {
-    let text = format!(in rt.alloc();
-        "open files: at most {limit}, {missing} fewer than {connections} connections and the files of the folder may take"
-    );
-    lines.tell(now(rt), text);
+fn tell_few(rt: &HostRuntime, allowed: Allowed, connections: u32, missing: u64, lines: &mut Lines) {
+    lines.tell(now(rt), few_text(rt.alloc(), allowed, connections, missing));
 }
 
-fn too_few(alloc: Global, limit: u64, connections: u32, least: u64) -> OperatorFault {
-    let text = format!(in alloc;
-        "open files: at most {limit}, and {connections} connections take at least {least} (ulimit -n)"
-    );
-    match text {
+fn few_text(
+    alloc: Global,
+    allowed: Allowed,
+    connections: u32,
+    missing: u64,
+) -> Result<String, AllocError> {
+    let (soft, remedy) = (allowed.soft, remedy(alloc, allowed, connections)?);
+    format!(in alloc;
+        "open files: at most {soft}, {missing} fewer than {connections} connections and the files of the folder may take: {remedy}"
+    )
+}
+
+fn too_few(alloc: Global, allowed: Allowed, connections: u32, least: u64) -> OperatorFault {
+    match too_few_text(alloc, allowed, connections, least) {
         Ok(text) => OperatorFault::System(text),
         Err(_) => OperatorFault::Memory,
+    }
+}
+
+fn too_few_text(
+    alloc: Global,
+    allowed: Allowed,
+    connections: u32,
+    least: u64,
+) -> Result<String, AllocError> {
+    let (soft, remedy) = (allowed.soft, remedy(alloc, allowed, connections)?);
+    format!(in alloc;
+        "open files: at most {soft}, and {connections} connections take at least {least}: {remedy}"
+    )
+}
+
+/// What is to be done about too few open files.
+fn remedy(alloc: Global, allowed: Allowed, connections: u32) -> Result<String, AllocError> {
+    let hard = allowed.hard;
+    match to_ask_for(hard, connections) {
+        Some(limit) if limit > allowed.soft => format!(in alloc;
+            "allow more by ulimit -n {limit} in the shell, or LimitNOFILE={limit} in the service"
+        ),
+        // What the process may have open, it may raise no further.
+        _ => {
+            let most = to_ask_for(u64::MAX, connections).unwrap_or(u64::MAX);
+            format!(in alloc;
+                "the hard limit is {hard}, so allow more by LimitNOFILE={most} in the service, or set fewer connections"
+            )
+        }
     }
 }

@@ -4,6 +4,7 @@ ghost use Rattle.std.specs.Prelude.{◌≡◌};
 ghost use Rattle.std.specs.FinMap.{keys};
 ghost use Rattle.kb_store.specs.Disk.{Keeps};
 
+use crate::deleted::deleted_text;
 use crate::fault::OperatorFault;
 use crate::folder::store_to_read;
 use crate::journal::{Held, held_text};
@@ -11,7 +12,7 @@ use crate::refused::FolderJournal;
 use crate::start::{go_on, look};
 use kb_folder::file_name;
 use kb_start::{
-    Consent, Left, Loss, Opened, Surveyed, drop_text, is_replaced, loss_text, stray_cause,
+    Consent, Deleted, Left, Loss, Opened, Surveyed, drop_text, is_replaced, loss_text, stray_cause,
 };
 use kb_store::{Store, StoreFault};
 use kb_survey::stray_among;
@@ -26,12 +27,14 @@ struct Found {
     strays: Vec<String>,
 }
 
-/// Writes what a start on a journal's folder would find: what it has, what it would drop of each file, of which files it would lose whole
-/// batches, and which it would leave aside, and why. Where it would be refused the answer is its fault. The folder is only read.
+/// Writes what a start on a journal's folder would find: what it has, which files of deleted topics it would remove, what it would drop of
+/// each file, of which files it would lose whole batches, and which it would leave aside, and why. Where it would be refused the answer is
+/// its fault. The folder is only read.
 pub fn write_report<W: Write>(
     rt: &HostRuntime,
     opened: &Opened<'_>,
     held: Held,
+    deleted: &Deleted,
     folder: &FolderJournal,
     writer: &mut W,
 ) -> Result<(), OperatorFault> {
@@ -42,6 +45,9 @@ pub fn write_report<W: Write>(
         Err(fault) => return Err(folder.of_store(alloc, fault)),
     };
     write_line(&held_text(alloc, held), writer)?;
+    if let Some(text) = deleted_text(alloc, deleted)? {
+        write_line(&text, writer)?;
+    }
     write_lines(&found.dropped, writer)?;
     write_losses(alloc, path, &found.surveyed.losses, writer)?;
     write_lines(&found.strays, writer)?;

@@ -1,0 +1,81 @@
+//! Requests that the broker refused, as they are told.
+
+ghost use Rattle.std.specs.Prelude.{◌≡◌};
+
+use crate::counts::RefusalCounts;
+use crate::journal::{Journal, TENANTS, Tenant};
+use std::alloc::{AllocError, Global};
+
+/// What lines say of refusals beside those of each tenant.
+#[derive(Clone, Copy, Debug, PartialEq, Eq)]
+pub(crate) struct Others {
+    /// How many requests were refused before a login.
+    pub(crate) unbound: u64,
+    /// How many calls the disk refused, of all tenants together.
+    pub(crate) disk: u64,
+}
+
+impl Others {
+    /// What the next line says, behind one: what was refused before a login was told. Of which tenants the disk's calls were is not known,
+    /// so each line tells those of all.
+    fn behind_a_line(self) -> Others
+        ensures { result ≡ record { unbound = 0; disk = self.disk } }
+    {
+        Others {
+            unbound: 0,
+            disk: self.disk,
+        }
+    }
+}
+
+impl Journal {
+    /// How many requests were refused since the last line, by tenant, and how many calls of the store among that.
+    pub fn tell_refusals<B: RefusalCounts>(&mut self, alloc: Global, now: u64, broker: &B) {
+        if self.is_quiet || broker.is_calm() {
+            return;
+        }
+        let mut others = Others {
+            unbound: self.unbound.grown(broker.before_login()),
+            disk: self.disk.grown(broker.of_disk()),
+        };
+        let of_all = if self.tenants.len() > TENANTS {
+            " of all tenants"
+        } else {
+            ""
+        };
+        for tenants in self.tenants.chunks_mut(TENANTS) {
+            let text = refusals_text(alloc, tenants, broker, others, of_all);
+            if let Some(text) = text.transpose() {
+                self.lines.tell(now, text);
+                others = others.behind_a_line();
+            }
+        }
+    }
+}
+
+/// How many requests of some tenants were refused since the last line, and how many before a login: none where no request was. Behind
+/// them stands how many calls the disk refused; what is more than those was refused for want of memory.
+fn refusals_text<B: RefusalCounts>(
+    alloc: Global,
+    tenants: &mut [Tenant],
+    broker: &B,
+    others: Others,
+    of_all: &str,
+) -> Result<Option<String>, AllocError> {
+    let mut counts = String::new(alloc);
+    for tenant in tenants {
+        let grown = tenant.refusals.grown(broker.of_tenant(&tenant.name));
+        if grown > 0 {
+            let name = tenant.name.as_str();
+            counts.push_str(&format!(in alloc; ", tenant {name} {grown}")?)?;
+        }
+    }
+    let Others { unbound, disk } = others;
+    if unbound == 0 && counts.is_empty() {
+        return Ok(None);
+    }
+    if disk > 0 {
+        counts.push_str(&format!(in alloc; "; by the disk {disk}{of_all}")?)?;
+    }
+    Ok(Some(format!(in alloc; "refusals: before a login {unbound}{counts}")?))
+}

@@ -6,12 +6,14 @@
 
 ghost use Rattle.std.specs.Prelude.{◌≤◌, length, IfOk};
 
+mod meaning;
+
+use crate::meaning::Asked;
 use clap::{Arg, ArgAction, ArgMatches, Command};
 use kb_admin::{AdminFault, Heard, Listed, NewTopic, Session, Setting, ShortText, Task};
-use kb_wire::ErrorCode;
 use std::alloc::{AllocError, AllocFailed, Global};
 use std::fmt::{Display, Formatter, Write as _};
-use std::io::{BufWriter, Read, Write};
+use std::io::{BufWriter, ErrorKind, Read, Write};
 use std::net::TcpStream;
 use std::time::Duration;
 use std::{fmt, io};
@@ -35,12 +37,12 @@ pub enum TopicFault {
     Words(&'static str),
     /// Memory was refused.
     Memory,
-    /// There is no connection to this address.
+    /// There is no connection to this address: behind it stands why.
     Connect(String),
     /// The connection ended, or nothing came in time.
     Silent,
-    /// What the broker answered.
-    Admin(AdminFault),
+    /// What the broker answered, and what that says of what was asked.
+    Admin(AdminFault, Option<String>),
     /// Standard output.
     Write,
 }
@@ -54,10 +56,8 @@ impl Display for TopicFault {
             TopicFault::Silent => f.write_str(
                 "the broker closed the connection, or did not answer",
             ),
-            TopicFault::Admin(fault) => {
-                write!(f, "{fault}")?;
-                f.write_str(meaning(*fault))
-            }
+            TopicFault::Admin(fault, None) => write!(f, "{fault}"),
+            TopicFault::Admin(fault, Some(meaning)) => write!(f, "{fault}{meaning}"),
             TopicFault::Write => f.write_str("write fault"),
         }
     }
@@ -79,38 +79,9 @@ impl From<AdminFault> for TopicFault {
     fn from(e: AdminFault) -> TopicFault {
         match e {
             AdminFault::Memory => TopicFault::Memory,
-            AdminFault::Refused(_) | AdminFault::Protocol => TopicFault::Admin(e),
+            AdminFault::Refused(_) | AdminFault::Protocol => TopicFault::Admin(e, None),
         }
     }
-}
-
-/// What the error codes mean whose names do not say it.
-const MEANINGS: [(ErrorCode, &str); 3] = [
-    (
-        ErrorCode::InvalidTopic,
-        ": a name has 1 to 249 of a-z A-Z 0-9 . _ -",
-    ),
-    (
-        ErrorCode::PolicyViolation,
-        ": the broker makes no more topics",
-    ),
-    (
-        ErrorCode::SaslAuthenticationFailed,
-        ": no user has this name and password",
-    ),
-];
-
-/// What a fault means, where it is an error code whose name does not say it.
-fn meaning(fault: AdminFault) -> &'static str {
-    let AdminFault::Refused(code) = fault else {
-        return "";
-    };
-    for (error, meaning) in &MEANINGS {
-        if error.code() == code {
-            return *meaning;
-        }
-    }
-    ""
 }
 
 /// What `clap` reads the words behind `topic` by.
@@ -175,9 +146,13 @@ pub fn topic(rt: &HostRuntime, found: &ArgMatches<'_>) -> Result<(), TopicFault>
     let task = task_of(alloc, verb, found)?;
     let user = short_text(alloc, found.get_str("user").unwrap_or(""))?;
     let password = short_text(alloc, found.get_str("password").unwrap_or(""))?;
+    let asked = Asked::of(alloc, &task)?;
     let session = Session::new(alloc, user, password, task);
     let stream = connect(rt, found.get_str("broker").unwrap_or(""))?;
-    let heard = exchange(alloc, stream, session)?;
+    let heard = match exchange(alloc, stream, session) {
+        Ok(heard) => heard,
+        Err(fault) => return Err(explained(alloc, &asked, fault)),
+    };
     let told = match heard {
         Heard::Topics(topics) => tell_topics(rt, topics.as_slice()),
         Heard::More | Heard::Next | Heard::Done => tell_done(rt, verb, found),
@@ -185,6 +160,18 @@ pub fn topic(rt: &HostRuntime, found: &ArgMatches<'_>) -> Result<(), TopicFault>
     match told {
         Ok(()) => Ok(()),
         Err(_) => Err(TopicFault::Write),
+    }
+}
+
+/// A fault with what it says of what was asked.
+fn explained(alloc: Global, asked: &Asked, fault: TopicFault) -> TopicFault {
+    let TopicFault::Admin(AdminFault::Refused(code), _) = &fault else {
+        return fault;
+    };
+    let refused = AdminFault::Refused(*code);
+    match String::from_str(alloc, asked.meaning(*code)) {
+        Ok(meaning) => TopicFault::Admin(refused, Some(meaning)),
+        Err(_) => fault,
     }
 }
 
@@ -245,10 +232,16 @@ fn connect(rt: &HostRuntime, address: &str) -> Result<TcpStream, TopicFault> {
             let _ = stream.set_read_timeout(Some(Duration::from_secs(PATIENCE_S)));
             Ok(stream)
         }
-        Err(_) => {
-            let address = String::from_str(rt.alloc(), address)?;
-            Err(TopicFault::Connect(address))
-        }
+        Err(error) => Err(TopicFault::Connect(why_not(rt.alloc(), address, &error)?)),
+    }
+}
+
+/// An address, and why there is no connection to it.
+fn why_not(alloc: Global, address: &str, error: &io::Error) -> Result<String, AllocError> {
+    match error.kind() {
+        ErrorKind::InvalidInput => format!(in alloc; "{address}: it is no HOST:PORT"),
+        ErrorKind::Uncategorized => format!(in alloc; "{address}: {error}"),
+        kind => format!(in alloc; "{address}: {kind}"),
     }
 }
 

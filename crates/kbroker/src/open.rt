@@ -7,11 +7,14 @@ ghost use Rattle.kb_restart.specs.Restart.{have_nothing_refused};
 
 use crate::Fault;
 use clap::{Arg, ArgAction, ArgMatches, Command};
-use kb_broker::OpenFault;
+use kb_broker::{OpenFault, TenantView};
 use kb_node::{Listing, Settings, tenant_names};
-use kb_operator::{FolderJournal, Held, Journal, OperatorFault, examine, write_report};
+use kb_operator::{
+    FolderJournal, Held, Journal, OperatorFault, examine, find_deleted, write_report,
+};
 use kb_restart::{Counts, FileLength, Restarted, file_lengths, open_broker};
-use kb_start::{Consent, Left, Opened, Total};
+use kb_server_log::now;
+use kb_start::{CatalogOf, Consent, Deleted, Left, Opened, Total, remove_files};
 use kb_survey::PutsOff;
 use std::alloc::{AllocError, Global};
 use std::io::Write;
@@ -60,10 +63,11 @@ pub fn open_on<S: PutsOff + Drop>(
     ensures no_groups { IfOk result (λ opened. HaveNoGroup opened.0.broker.state.tenants) }
 {
     let alloc = rt.alloc();
-    let (opened, files) = open_over(alloc, start, store, folder)?;
+    let (opened, files, deleted) = open_over(rt, start, store, folder)?;
     let names = tenant_names(alloc, &start.settings.users)?;
     let known = known(&names, &opened, &files);
     examine(rt, &known, start.consent, folder, journal)?;
+    journal.tell_deleted(alloc, now(rt), &deleted);
     let held = held(opened.counts, &files);
     Ok((opened, held))
 }
@@ -77,35 +81,102 @@ pub fn report_on<S: PutsOff + Drop, W: Write>(
     writer: &mut W,
 ) -> Result<(), Fault> {
     let alloc = rt.alloc();
-    let (opened, files) = open_over(alloc, start, store, folder)?;
+    let (opened, files, deleted) = open_over(rt, start, store, folder)?;
     let names = tenant_names(alloc, &start.settings.users)?;
     let known = known(&names, &opened, &files);
     let held = held(opened.counts, &files);
-    Ok(write_report(rt, &known, held, folder, writer)?)
+    Ok(write_report(rt, &known, held, &deleted, folder, writer)?)
 }
 
-/// Opens the broker of a journal's folder, whose store that is, and says what is left of each file.
+/// Opens the broker of a journal's folder, whose store that is, without the files of deleted topics. It says what is left of each other
+/// file, and which those are.
 fn open_over<S: PutsOff + Drop>(
-    alloc: Global,
+    rt: &HostRuntime,
     start: Start<'_>,
     mut store: S,
     folder: &FolderJournal,
-) -> Result<(Restarted<S>, Vec<Left>), Fault>
+) -> Result<(Restarted<S>, Vec<Left>, Deleted), Fault>
     ensures fixed { IfOk result (λ opened. opened.0.broker.state
         ≡ opening_over start.entry.listing start.entry.settings.now opened.0.broker.state.tenants) }
     ensures calm { IfOk result (λ opened. have_nothing_refused opened.0.broker.state.tenants) }
     ensures no_groups { IfOk result (λ opened. HaveNoGroup opened.0.broker.state.tenants) }
 {
+    let alloc = rt.alloc();
     let before = match file_lengths(alloc, &mut store) {
         Ok(before) => before,
         Err(fault) => return Err(Fault::Operator(folder.of_store(alloc, fault))),
     };
-    let opened = match open_broker(alloc, start.settings, start.listing, store) {
-        Ok(opened) => opened,
-        Err(refused) => return Err(not_opened(alloc, folder, refused.fault)),
-    };
-    let files = files_left(alloc, opened.broker.store(), &before)?;
-    Ok((opened, files))
+    let (opened, deleted) = open_without_deleted(rt, start, store, folder)?;
+    let files = files_left(alloc, opened.broker.store(), &before, &deleted.files)?;
+    Ok((opened, files, deleted))
+}
+
+/// Opens the broker of a journal's folder, whose store that is. Files of deleted topics are removed from the store, and it is opened again
+/// without them. Removals are put off as all that an opening does.
+fn open_without_deleted<S: PutsOff + Drop>(
+    rt: &HostRuntime,
+    start: Start<'_>,
+    store: S,
+    folder: &FolderJournal,
+) -> Result<(Restarted<S>, Deleted), Fault>
+    ensures fixed { IfOk result (λ opened. opened.0.broker.state
+        ≡ opening_over start.entry.listing start.entry.settings.now opened.0.broker.state.tenants) }
+    ensures calm { IfOk result (λ opened. have_nothing_refused opened.0.broker.state.tenants) }
+    ensures no_groups { IfOk result (λ opened. HaveNoGroup opened.0.broker.state.tenants) }
+{
+    let alloc = rt.alloc();
+    let opened = open_store(alloc, start, store, folder)?;
+    let deleted = deleted_in(rt, &opened, folder)?;
+    if deleted.files.is_empty() {
+        return Ok((opened, deleted));
+    }
+    let mut store = opened.broker.into_store();
+    if let Err(fault) = remove_files(alloc, &mut store, &deleted.files) {
+        return Err(Fault::Operator(folder.of_store(alloc, fault)));
+    }
+    let opened = open_store(alloc, start, store, folder)?;
+    Ok((opened, deleted))
+}
+
+/// Opens the broker of a journal's folder, whose store that is.
+fn open_store<S: PutsOff + Drop>(
+    alloc: Global,
+    start: Start<'_>,
+    store: S,
+    folder: &FolderJournal,
+) -> Result<Restarted<S>, Fault>
+    ensures fixed { IfOk result (λ opened. opened.broker.state
+        ≡ opening_over start.entry.listing start.entry.settings.now opened.broker.state.tenants) }
+    ensures calm { IfOk result (λ opened. have_nothing_refused opened.broker.state.tenants) }
+    ensures no_groups { IfOk result (λ opened. HaveNoGroup opened.broker.state.tenants) }
+{
+    match open_broker(alloc, start.settings, start.listing, store) {
+        Ok(opened) => Ok(opened),
+        Err(refused) => Err(not_opened(alloc, folder, refused.fault)),
+    }
+}
+
+/// The files of deleted topics among those that are of no log of a broker, by the catalogs of its tenants.
+fn deleted_in<S: PutsOff + Drop>(
+    rt: &HostRuntime,
+    opened: &Restarted<S>,
+    folder: &FolderJournal,
+) -> Result<Deleted, Fault> {
+    let mut catalogs = Vec::new(rt.alloc());
+    for place in 0..opened.broker.tenants_len() {
+        if let Some(view) = opened.broker.tenant(place) {
+            let TenantView {
+                name,
+                parts,
+                groups: _,
+            } = view;
+            catalogs.push(CatalogOf {
+                tenant: name,
+                catalog: parts.catalog(),
+            })?;
+        }
+    }
+    Ok(find_deleted(rt, folder, &catalogs, &opened.strays)?)
 }
 
 /// What is known of an opening that left those files.
@@ -131,19 +202,22 @@ fn not_opened(alloc: Global, folder: &FolderJournal, fault: OpenFault) -> Fault 
     })
 }
 
-/// What is left of the files that a store had.
+/// What is left of the files that a store had, but for those of deleted topics.
 fn files_left<S: PutsOff>(
     alloc: Global,
     store: &S,
     before: &[FileLength],
+    deleted: &[u64],
 ) -> Result<Vec<Left>, AllocError> {
     let mut files = Vec::new(alloc);
     for file in before {
-        files.push(Left {
-            file: file.file,
-            before: file.length,
-            after: store.bytes_left(file.file, file.length),
-        })?;
+        if !deleted.contains(&file.file) {
+            files.push(Left {
+                file: file.file,
+                before: file.length,
+                after: store.bytes_left(file.file, file.length),
+            })?;
+        }
     }
     Ok(files)
 }

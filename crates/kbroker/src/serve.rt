@@ -70,15 +70,30 @@ pub fn serve(rt: &HostRuntime, found: &ArgMatches<'_>) -> Result<(), Fault> {
     look_at_start(rt, config, settings.connections, is_quiet, journal.lines())?;
     let path = data_folder(alloc, &settings)?;
     let changed = last_change(rt, path);
-    let _held = hold(rt, path)?;
-    let mut folder = FolderJournal::new(alloc, path, is_quiet)?;
     let start = Start {
         settings: &settings,
         listing: listing_of(settings.stock_clients || found.get_flag("stock-clients")),
         consent: consent_of(found),
     };
-    let disk = disk_to_serve(rt, &settings, &folder)?;
-    serve_on(rt, start, disk, changed, &mut folder, &mut journal)
+    let mut folder = FolderJournal::new(alloc, path, is_quiet)?;
+    let held = hold(rt, path)?;
+    let served = serve_in(rt, start, changed, &mut folder, &mut journal);
+    if served.is_err() {
+        held.leave(rt);
+    }
+    served
+}
+
+/// Serves sockets on a journal's folder, whose files were changed last at that moment.
+fn serve_in(
+    rt: &HostRuntime,
+    start: Start<'_>,
+    changed: Option<u64>,
+    folder: &mut FolderJournal,
+    journal: &mut Journal,
+) -> Result<(), Fault> {
+    let disk = disk_to_serve(rt, start.settings, folder)?;
+    serve_on(rt, start, disk, changed, folder, journal)
 }
 
 /// The versions that are listed.

@@ -36,8 +36,11 @@ impl<'a, S: Store, L: PartitionLog + Drop> RefusalCounts for CountsOf<'a, S, L> 
     }
 }
 
+/// A second, in milliseconds.
+const SECOND: u64 = 1000;
+
 /// Tells what happened in a turn at a tick: logins that failed, connections that were shut and the clock at once, and counts at most once
-/// a second.
+/// a second. Of the logins and of the connections of a second only the first are told, and then how many more there were.
 pub fn tell_turn<R: Net, S: Store, L: PartitionLog + Drop>(
     rt: &HostRuntime,
     journal: &mut Journal,
@@ -48,10 +51,10 @@ pub fn tell_turn<R: Net, S: Store, L: PartitionLog + Drop>(
     requires { tick.moment ≤ 2 ^ 62 }
 {
     let (alloc, now) = (rt.alloc(), now(rt));
-    if turn.denied > 0 {
-        tell_denied(rt, journal, edge, turn.denied);
-    }
-    tell_closed(rt, journal, edge);
+    let second = tick.moment / SECOND;
+    tell_denied(rt, journal, edge, turn.denied, second);
+    tell_closed(rt, journal, edge, second);
+    journal.tell_passed_over(alloc, now, second);
     if let Some(notice) = tick.told {
         journal.tell_clock(alloc, now, notice);
     }
@@ -65,31 +68,32 @@ pub fn tell_turn<R: Net, S: Store, L: PartitionLog + Drop>(
     journal.tell_counts(alloc, now, tick.moment, turn.turned_away, &counts);
 }
 
-/// Tells the logins of a turn that failed.
+/// Tells the logins of a turn in a second that failed.
 fn tell_denied<R: Net, S: Store, L: PartitionLog + Drop>(
     rt: &HostRuntime,
     journal: &mut Journal,
     edge: &Edge<R, S, L>,
     denied: u64,
+    second: u64,
 ) {
     let (alloc, now) = (rt.alloc(), now(rt));
     for login in edge.denied() {
-        journal.tell_login(alloc, now, login.address, &login.name);
+        journal.tell_login(alloc, now, second, login.address, &login.name);
     }
-    let more = denied.saturating_sub(edge.denied().len() as u64);
-    journal.tell_more_logins(alloc, now, more);
+    journal.count_logins(denied.saturating_sub(edge.denied().len() as u64));
 }
 
-/// Tells the connections of a turn that the broker shut.
+/// Tells the connections of a turn in a second that the broker shut.
 fn tell_closed<R: Net, S: Store, L: PartitionLog + Drop>(
     rt: &HostRuntime,
     journal: &mut Journal,
     edge: &Edge<R, S, L>,
+    second: u64,
 ) {
     let (alloc, now) = (rt.alloc(), now(rt));
     for closed in edge.closed() {
         let cause = text_of(alloc, closed.cause);
-        journal.tell_shut(alloc, now, closed.address, closed.tenant, cause);
+        journal.tell_shut(alloc, now, second, closed.address, closed.tenant, cause);
     }
-    journal.tell_more_shut(alloc, now, edge.more_closed());
+    journal.count_shut(edge.more_closed());
 }

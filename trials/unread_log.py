@@ -3,11 +3,12 @@
 
     trials/unread_log.py KBROKER
 
-Standard error is a pipe that is not read. 5,000 logins with a wrong password are more lines than it holds. Then a right one is
-served, the pipe is read, and each failed login is in a line or in the count of the lines that were not taken. It prints how many are
-in neither.
+Standard error is a pipe of one page that is not read. 5,000 logins with a wrong password make more lines than it holds, though only some
+of each second have one. Then a right one is served, and the pipe is read. The next line that is taken says how many were not. It prints how
+many lines there were, and how many were lost.
 """
 
+import fcntl
 import os
 import re
 import select
@@ -18,6 +19,9 @@ import time
 from wire import Broker, Client
 
 LOGINS = 5000
+
+# (Linux: sets how many bytes a pipe holds)
+F_SETPIPE_SZ = 1031
 
 
 def fail(port):
@@ -41,6 +45,7 @@ def read(pipe, seconds):
 def main(program):
     """Whether all holds."""
     reader, writer = os.pipe()
+    fcntl.fcntl(writer, F_SETPIPE_SZ, 4096)
     with tempfile.TemporaryDirectory() as room:
         broker = Broker(program, room, before=lambda: os.dup2(writer, 2))
         failed = 0
@@ -55,15 +60,16 @@ def main(program):
             print(f"the broker does not answer after {failed} failed logins: {error!r}")
             return 1
         else:
-            said = read(reader, 4)
+            said = read(reader, 2)
+            for _ in range(4):
+                fail(broker.port)
+                said += read(reader, 0.5)
         finally:
             broker.stop()
-    told = len(re.findall("login failed from [0-9]", said))
-    told += sum(int(n) for n in re.findall("login failed from others: ([0-9]+)", said))
+    told = len(re.findall("login failed from ", said))
     missed = sum(int(n) for n in re.findall("lines of this log were not taken: ([0-9]+)", said))
-    print(f"failed logins: {LOGINS}, in lines: {told}, lines that were not taken: {missed}")
-    print(f"in neither: {LOGINS - told - missed}")
-    return 0 if missed > 0 and told + missed == LOGINS else 1
+    print(f"failed logins: {LOGINS}, lines on them that were taken: {told}, lines that were not: {missed}")
+    return 0 if missed > 0 and told > 0 else 1
 
 
 if __name__ == "__main__":

@@ -1,6 +1,6 @@
 -- Files of deleted topics, file by file, on a disk of the same files.
-use Rattle.std.proofs.Common.{◌≡◌, ◌≢◌, ◌∙◌, ◌<◌, ◌≤◌, ◌+◌, ◌++◌, ◌==◌, ◌||◌, ℕ, List, [], ◌∷◌, length, take, drop, get_or, drop-cons, add-one, sym, ap}
-use Rattle.std.proofs.Common.{Bool, true, false, not, cond, append_assoc, if◌then◌else◌, Option, None, Some, is_some, option_map, refl, subst, arith}
+use Rattle.std.proofs.Common.{◌≡◌, ◌≢◌, ◌∙◌, ◌<◌, ◌+◌, ◌++◌, ◌==◌, ◌||◌, ℕ, List, [], ◌∷◌, length, take, drop, get_or, drop-cons, add-one, sym, ap}
+use Rattle.std.proofs.Common.{Bool, true, false, not, cond, append_assoc, if◌then◌else◌, Option, None, Some, is_some, option_map, refl, subst}
 use Rattle.std.proofs.Common.{⊎_elim, nat_eq}
 use Rattle.std.proofs.Math.Seq.{take-suc}
 use Rattle.std.proofs.lemmas.Bool.{cases_eq}
@@ -9,10 +9,8 @@ use Rattle.std.specs.Cmp.{nat_cmp_total, nat_eq_equiv, unsigned_tied}
 use Rattle.std.specs.FinMap.{FinMap, get, remove, keys, same_map, nat_cmp-IsAntisymmetric, contains_key-keys}
 use Rattle.std.specs.List.{filter, list_any}
 use Rattle.kb_store.proofs.Maps.{get_removed, get_kept}
-use Rattle.kb_store.specs.Disk.{Becomes, Disk, IsLawfulDisk, IsThere, Keeps, Removes}
+use Rattle.kb_store.specs.Disk.{Disk, IsLawfulDisk, IsThere, Keeps, Removes}
 use Rattle.kb_survey.proofs.Keys.{keys_after}
-use Rattle.kb_survey.proofs.Listed.{is_there}
-use Rattle.kb_survey.specs.Changes.{removes}
 use Rattle.kb_survey.specs.declared.change.Change.TheVariants.{Remove}
 use Rattle.kb_survey.specs.Listed.{is_in}
 use Rattle.kb_start.specs.Starts.{header_at}

@@ -1,5 +1,4 @@
-use Rattle.std.proofs.Common.{rules, ◌≡◌, ◌∙◌, true, false, sym, ap}
-use Rattle.std.specs.FinMap.{keys}
+use Rattle.std.proofs.Common.{rules, ◌≡◌, true, false}
 use Rattle.kb_survey.specs.Listed.{is_in}
 use Rattle.kb_survey.proofs.Listed.{is_there}
 use Rattle.kb_start.proofs.Gone.{listed_next, nothing_goes, not_there}

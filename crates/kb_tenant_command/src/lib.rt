@@ -1,0 +1,252 @@
+//! `kbroker tenant`: takes a tenant's files from one data folder to another, or away.
+//!
+//! [`tenant_command`] is what the command line is read by, and [`tenant`] does what it asks for: copies by `kb_move`, removals by
+//! `kb_start`. No broker serves the folders meanwhile. What comes of it is printed.
+#![tactic(auto)]
+
+use clap::{Arg, ArgAction, ArgMatches, Command};
+use kb_move::{Copied, MoveFault, copy_tenant, tenant_files};
+use kb_operator::{
+    FolderJournal, OperatorFault, hold, is_folder, look_into, store_to_read, store_to_serve,
+};
+use kb_start::remove_files;
+use kb_store::{Store, StoreFault};
+use std::alloc::{AllocError, Global};
+use std::io;
+use thiserror::Error;
+
+/// Why a tenant does not go to another folder.
+#[derive(Debug, Drop, Error)]
+pub enum TenantFault {
+    /// A folder is served, or the system refuses something.
+    #[error("{0}")]
+    Operator(OperatorFault),
+    /// There is no folder at this path.
+    #[error("kbroker: no folder {0}")]
+    NoFolder(String),
+    /// There is something at the path of a folder that is to be made.
+    #[error("kbroker: {0} is there already: an export makes a folder of its own")]
+    IsThere(String),
+    /// The files of this tenant would go, and nobody said that they shall.
+    #[error("kbroker: this removes all files of tenant {0} for good: say --yes")]
+    Unasked(String),
+    /// The files themselves are in the way.
+    #[error("kbroker: tenant {tenant}: {fault} in {folder}")]
+    Files {
+        tenant: String,
+        fault: MoveFault,
+        folder: String,
+    },
+}
+
+impl From<AllocError> for TenantFault {
+    fn from(_e: AllocError) -> TenantFault {
+        TenantFault::Operator(OperatorFault::Memory)
+    }
+}
+
+impl From<OperatorFault> for TenantFault {
+    fn from(e: OperatorFault) -> TenantFault {
+        TenantFault::Operator(e)
+    }
+}
+
+/// What `clap` reads the words behind `tenant` by.
+pub fn tenant_command<'a>(alloc: Global) -> Result<Command<'a>, AllocError> {
+    let export = Command::new(alloc, "export")
+        .about("Copies a tenant's files from a data folder into a new folder")
+        .arg(named(alloc, "data", "FOLDER", "The data folder"))?
+        .arg(named(alloc, "tenant", "NAME", "The tenant"))?
+        .arg(folder(alloc, "to", "TO", "The folder that is made"))?;
+    let import = Command::new(alloc, "import")
+        .about("Copies a tenant's files from a folder into a data folder that has none of it")
+        .arg(named(alloc, "data", "FOLDER", "The data folder"))?
+        .arg(named(alloc, "tenant", "NAME", "The tenant"))?
+        .arg(folder(
+            alloc,
+            "from",
+            "FROM",
+            "The folder that an export made, or a data folder",
+        ))?;
+    let yes = Arg::new(alloc, "yes")
+        .long("yes")
+        .help("They are removed for good")
+        .action(ArgAction::SetTrue);
+    let remove = Command::new(alloc, "remove")
+        .about("Removes a tenant's files from a data folder")
+        .arg(named(alloc, "data", "FOLDER", "The data folder"))?
+        .arg(named(alloc, "tenant", "NAME", "The tenant"))?
+        .arg(yes)?;
+    Command::new(alloc, "tenant")
+        .about(
+            "Takes a tenant's files from one data folder to another, or away, while no broker serves it",
+        )
+        .subcommand_required(true)
+        .subcommand(export)?
+        .subcommand(import)?
+        .subcommand(remove)
+}
+
+/// An argument with a name, which has to be given.
+fn named<'a>(alloc: Global, name: &'a str, value: &'a str, help: &'a str) -> Arg<'a> {
+    folder(alloc, name, value, help).long(name)
+}
+
+/// An argument that has to be given.
+fn folder<'a>(alloc: Global, name: &'a str, value: &'a str, help: &'a str) -> Arg<'a> {
+    Arg::new(alloc, name)
+        .value_name(value)
+        .help(help)
+        .required(true)
+        .action(ArgAction::Set)
+}
+
+/// Takes a tenant's files from one folder to another, or away, and prints what came of it.
+pub fn tenant(rt: &HostRuntime, found: &ArgMatches<'_>) -> Result<(), TenantFault> {
+    let Some((verb, found)) = found.subcommand() else {
+        return Ok(());
+    };
+    let data = found.get_str("data").unwrap_or("");
+    let name = found.get_str("tenant").unwrap_or("");
+    let told = match verb {
+        "export" => tell_copied(
+            rt,
+            name,
+            export(rt, name, data, found.get_str("to").unwrap_or(""))?,
+        ),
+        "import" => tell_copied(
+            rt,
+            name,
+            transfer(rt, name, found.get_str("from").unwrap_or(""), data)?,
+        ),
+        _ => {
+            let files = remove(rt, name, data, found.get_flag("yes"))?;
+            println!(rt; "tenant {name}: removed files {files}")
+        }
+    };
+    match told {
+        Ok(()) => Ok(()),
+        Err(_) => Err(TenantFault::Operator(OperatorFault::Write)),
+    }
+}
+
+/// Prints what was copied of a tenant.
+fn tell_copied(rt: &HostRuntime, tenant: &str, copied: Copied) -> io::Result<()> {
+    let Copied {
+        first,
+        files,
+        bytes,
+    } = copied;
+    println!(rt; "tenant {tenant}: files {files}, bytes {bytes}, from number {first} on")
+}
+
+/// Takes a tenant's files from a data folder into a folder that is made.
+fn export(rt: &HostRuntime, tenant: &str, from: &str, to: &str) -> Result<Copied, TenantFault> {
+    if is_folder(rt, to) {
+        return Err(TenantFault::IsThere(String::from_str(rt.alloc(), to)?));
+    }
+    transfer(rt, tenant, from, to)
+}
+
+/// Removes a tenant's files from a data folder, where that was asked for, and answers how many there were.
+fn remove(
+    rt: &HostRuntime,
+    tenant: &str,
+    data: &str,
+    is_asked: bool,
+) -> Result<usize, TenantFault> {
+    let alloc = rt.alloc();
+    if !is_folder(rt, data) {
+        return Err(TenantFault::NoFolder(String::from_str(alloc, data)?));
+    }
+    if !is_asked {
+        return Err(TenantFault::Unasked(String::from_str(alloc, tenant)?));
+    }
+    let _held = hold(rt, data)?;
+    let journal = FolderJournal::new(alloc, data, true)?;
+    let mut store = store_to_serve(rt, &journal, true)?;
+    match removed(alloc, &mut store, tenant) {
+        Ok(0) => Err(files_fault(alloc, tenant, MoveFault::Absent, data)?),
+        Ok(files) => Ok(files),
+        Err(fault) => Err(TenantFault::Operator(journal.of_store(alloc, fault))),
+    }
+}
+
+/// Removes all files of a tenant for good, and answers how many.
+fn removed<S: Store>(alloc: Global, store: &mut S, tenant: &str) -> Result<usize, StoreFault> {
+    let held = tenant_files(alloc, store, tenant)?;
+    remove_files(alloc, store, &held.numbers)?;
+    store.sync()?;
+    Ok(held.numbers.len())
+}
+
+/// Takes a tenant's files from one folder to another, which is made where it is missing. Both are held meanwhile.
+fn transfer(rt: &HostRuntime, tenant: &str, from: &str, to: &str) -> Result<Copied, TenantFault> {
+    let alloc = rt.alloc();
+    if !is_folder(rt, from) {
+        return Err(TenantFault::NoFolder(String::from_str(alloc, from)?));
+    }
+    let _looked_into = look_into(rt, from)?;
+    let journal = FolderJournal::new(alloc, from, true)?;
+    let mut source = store_to_read(rt, &journal)?;
+    let held = match tenant_files(alloc, &mut source, tenant) {
+        Ok(held) => held,
+        Err(fault) => return Err(TenantFault::Operator(journal.of_store(alloc, fault))),
+    };
+    if held.numbers.is_empty() {
+        return Err(files_fault(alloc, tenant, MoveFault::Absent, from)?);
+    }
+    let _held = hold(rt, to)?;
+    let journal_there = FolderJournal::new(alloc, to, true)?;
+    let mut target = store_to_serve(rt, &journal_there, true)?;
+    match copied(alloc, &mut source, tenant, &mut target) {
+        Ok(copied) => Ok(copied),
+        Err(MoveFault::Store(fault)) => {
+            let said = fault_of(alloc, &journal, &journal_there, fault);
+            Err(TenantFault::Operator(said))
+        }
+        Err(fault) => Err(files_fault(alloc, tenant, fault, to)?),
+    }
+}
+
+/// Copies a tenant's files, and makes the copies last through a loss of power.
+fn copied<F: Store, T: Store>(
+    alloc: Global,
+    from: &mut F,
+    tenant: &str,
+    to: &mut T,
+) -> Result<Copied, MoveFault> {
+    let copied = copy_tenant(alloc, from, tenant, to)?;
+    to.sync()?;
+    Ok(copied)
+}
+
+/// The fault of whichever folder refused something.
+fn fault_of(
+    alloc: Global,
+    from: &FolderJournal,
+    to: &FolderJournal,
+    fault: StoreFault,
+) -> OperatorFault {
+    match from.refusals().take() {
+        Some(refusal) => {
+            from.refusals().note(refusal);
+            from.of_store(alloc, fault)
+        }
+        None => to.of_store(alloc, fault),
+    }
+}
+
+/// What is wrong with a tenant's files in a folder.
+fn files_fault(
+    alloc: Global,
+    tenant: &str,
+    fault: MoveFault,
+    folder: &str,
+) -> Result<TenantFault, AllocError> {
+    Ok(TenantFault::Files {
+        tenant: String::from_str(alloc, tenant)?,
+        fault,
+        folder: String::from_str(alloc, folder)?,
+    })
+}

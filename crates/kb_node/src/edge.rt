@@ -1,6 +1,6 @@
 //! A broker on a network. A turn waits for no peer.
 
-ghost use Rattle.std.specs.Prelude.{◌≡◌, ◌≤◌, ◌<◌, ◌*◌, ◌^◌, Err, Some, IfOk, IfErr, IfSome, vec_len};
+ghost use Rattle.std.specs.Prelude.{◌≡◌, ◌≤◌, ◌<◌, ◌*◌, ◌^◌, Err, Some, IfOk, IfErr, IfSome, OnErr, OnOk, option_map, replicate, slice_get, vec_len};
 
 mod beside;
 mod closing;
@@ -18,6 +18,7 @@ use crate::replies::shares_of;
 use crate::silences::Silences;
 use crate::socket::Socket;
 use crate::socket_shares::SocketShares;
+use crate::tenant_traffic::TenantTraffic;
 use crate::times::Times;
 use crate::turn::Turn;
 use crate::watch::Watch;
@@ -95,10 +96,14 @@ pub struct Edge<R: Net, S: Store, L: PartitionLog = ListLog> {
     inputs: Ledger,
     /// By when their requests are to be whole, and since when they are idle.
     times: Times,
+    /// What was counted of each tenant, by its place, where that is counted.
+    traffic: Vec<TenantTraffic>,
     /// Which sockets are ready. With none all are looked at in each turn.
     watch: Option<Watch>,
     /// Whether an accept may find a socket.
     can_accept: bool,
+    /// Whether a file beside the sockets became ready since that was asked.
+    is_beside_ready: bool,
     /// The connections whose sockets can go on, each once, but for those in line.
     ready: Vec<u64>,
     /// Those of them that are in line for their turn, by holder.
@@ -215,8 +220,10 @@ impl<R: Net, S: Store, L: PartitionLog + Drop> Edge<R, S, L> {
                 u64::from(limits.request_seconds) * 1000,
                 u64::from(limits.idle_seconds) * 1000,
             ),
+            traffic: Vec::new(alloc),
             watch,
             can_accept: true,
+            is_beside_ready: false,
             ready: buffers.ready,
             line,
             asked: buffers.asked,
@@ -247,6 +254,26 @@ impl<R: Net, S: Store, L: PartitionLog + Drop> Edge<R, S, L> {
     /// How many sockets were closed so far since their tenant may have no more, by the tenants' places.
     pub fn refused_sockets(&self) -> &[u64] {
         self.shares.refused()
+    }
+
+    /// Counts from now on what so many tenants ask and are told, by their places. Memory is asked for here alone: after an `Err` the
+    /// edge is as before.
+    pub fn count_traffic(&mut self, alloc: Global, tenants: usize) -> Result<(), AllocError>
+        ensures ok { OnOk result (self.new.traffic.items
+            ≡ replicate tenants (record { requests = replicate 64 0; request_bytes = 0; response_bytes = 0 })) }
+        ensures err { OnErr result (self.new ≡ self.old) }
+        ensures rest { self.new ≡ record self.old { traffic = self.new.traffic } }
+    {
+        self.traffic = vec![in alloc; TenantTraffic::none(); tenants]?;
+        Ok(())
+    }
+
+    /// What was counted of the tenant at a place since [`Edge::count_traffic`]: what connections ask and are told that had logged in for it.
+    /// The request that logs in is not counted, nor what comes before it.
+    pub fn traffic_of(&self, place: usize) -> Option<&TenantTraffic>
+        ensures { option_map (λ t. t.now) result ≡ slice_get self.now.traffic.items place }
+    {
+        self.traffic.get(place)
     }
 
     /// The port that is listened on.

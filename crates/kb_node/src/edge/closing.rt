@@ -174,6 +174,9 @@ impl<R: Net, S: Store, L: PartitionLog + Drop> Edge<R, S, L> {
         }
         socket.active = self.clock;
         let holder = self.shares.holder(number);
+        if let Some(traffic) = self.traffic.get_mut(holder) {
+            traffic.count_bytes(0, before.saturating_sub(after) as u64);
+        }
         let booked = self.replies.set(number, holder, after as u64);
         let noted = note_reply(&mut self.silences, socket, holder, before, true, self.clock);
         if booked.is_err() || noted.is_err() {

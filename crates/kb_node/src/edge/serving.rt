@@ -1,9 +1,10 @@
 //! How an edge serves its sockets.
 
-ghost use Rattle.std.specs.Prelude.{◌≡◌, ◌≢◌, ◌-◌, min, true, false, Some, IfErr, IfSome, slice_get, vec_len};
+ghost use Rattle.std.specs.Prelude.{◌≡◌, ◌≢◌, ◌-◌, min, true, false, Some, IfErr, IfSome, slice_get, slice_set, vec_len};
 ghost use Rattle.kb_node.specs.Commits.{may_tell, tells_at_once};
 ghost use Rattle.kb_shares.specs.Ledger.{set_to};
 ghost use Rattle.kb_shares.specs.Turns.{joined};
+ghost use Rattle.kb_node.specs.TenantTraffic.{with_traffic};
 ghost use Rattle.kb_node.specs.Replies.{kept_for, place_of};
 
 use crate::closed::CLOSED;
@@ -150,6 +151,7 @@ impl<R: Net, S: Store, L: PartitionLog + Drop> Edge<R, S, L> {
             return;
         }
         let before = Before::of(socket, turn);
+        let holder = self.shares.holder(number);
         let next = socket.serve(
             alloc,
             &mut self.host,
@@ -159,6 +161,7 @@ impl<R: Net, S: Store, L: PartitionLog + Drop> Edge<R, S, L> {
             most,
             turn,
         );
+        self.count(place, holder, before, turn);
         self.note(alloc, place, before, next, turn);
     }
 
@@ -203,6 +206,7 @@ impl<R: Net, S: Store, L: PartitionLog + Drop> Edge<R, S, L> {
             return;
         }
         let mut before = Before::of(socket, turn);
+        let holder = self.shares.holder(number);
         before.promised = socket.hand_on(
             alloc,
             &mut self.host,
@@ -212,6 +216,7 @@ impl<R: Net, S: Store, L: PartitionLog + Drop> Edge<R, S, L> {
             most,
             turn,
         );
+        self.count(place, holder, before, turn);
         if self.note_written(alloc, place, before, turn) {
             self.note_input(alloc, place, before, turn);
         }
@@ -258,8 +263,34 @@ impl<R: Net, S: Store, L: PartitionLog + Drop> Edge<R, S, L> {
             return;
         }
         let before = Before::of(socket, turn);
+        let holder = self.shares.holder(number);
         let next = socket.tell(alloc, &mut self.host, turn);
+        self.count(place, holder, before, turn);
         self.note(alloc, place, before, next, turn);
+    }
+
+    /// Counts for the tenant that the socket at a place had before it was served what was read and written since, and its request where
+    /// the API key of one came. One that had not logged in is counted for nobody.
+    fn count(&mut self, place: usize, holder: usize, before: Before, turn: &Turn)
+        ensures host { self.new.host ≡ self.old.host }
+        ensures sockets { vec_len self.new.sockets ≡ vec_len self.old.sockets }
+        ensures rest { self.new ≡ record self.old { traffic = self.new.traffic; sockets = self.new.sockets } }
+        ensures counted { IfSome (slice_get self.old.sockets.items place) (λ s. IfSome (slice_get self.old.traffic.items holder)
+            (λ t. self.new.traffic.items ≡ slice_set self.old.traffic.items holder
+            (with_traffic s.heading.key (turn.now.read - before.read) (turn.now.written - before.written) t))) }
+    {
+        let Some(socket) = self.sockets.get_mut(place) else {
+            return;
+        };
+        let key = socket.take_key();
+        let Some(traffic) = self.traffic.get_mut(holder) else {
+            return;
+        };
+        if let Some(key) = key {
+            traffic.count_request(key);
+        }
+        let read = turn.read.saturating_sub(before.read);
+        traffic.count_bytes(read, turn.written.saturating_sub(before.written));
     }
 
     /// Notes what became of the socket at a place, which was served: whether its login failed, and whether it can go on.

@@ -274,7 +274,6 @@ impl<R: Net, S: Store, L: PartitionLog + Drop> Edge<R, S, L> {
     fn count(&mut self, place: usize, holder: usize, before: Before, turn: &Turn)
         ensures host { self.new.host ≡ self.old.host }
         ensures sockets { vec_len self.new.sockets ≡ vec_len self.old.sockets }
-        ensures rest { self.new ≡ record self.old { traffic = self.new.traffic; sockets = self.new.sockets } }
         ensures counted { IfSome (slice_get self.old.sockets.items place) (λ s. IfSome (slice_get self.old.traffic.items holder)
             (λ t. self.new.traffic.items ≡ slice_set self.old.traffic.items holder
             (with_traffic s.heading.key (turn.now.read - before.read) (turn.now.written - before.written) t))) }

@@ -268,8 +268,8 @@ impl<R: Net, S: Store, L: PartitionLog + Drop> Edge<R, S, L> {
         Ok(())
     }
 
-    /// What was counted of the tenant at a place since [`Edge::count_traffic`]: what connections ask and are told that had logged in for it.
-    /// The request that logs in is not counted, nor what comes before it.
+    /// What was counted of the tenant at a place since [`Edge::count_traffic`]: what its connections ask, and what they are told. The request
+    /// that logs in is not counted, nor its reply and what comes before it.
     pub fn traffic_of(&self, place: usize) -> Option<&TenantTraffic>
         ensures { option_map (λ t. t.now) result ≡ slice_get self.now.traffic.items place }
     {

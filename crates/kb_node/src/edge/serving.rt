@@ -151,7 +151,6 @@ impl<R: Net, S: Store, L: PartitionLog + Drop> Edge<R, S, L> {
             return;
         }
         let before = Before::of(socket, turn);
-        let holder = self.shares.holder(number);
         let next = socket.serve(
             alloc,
             &mut self.host,
@@ -161,7 +160,7 @@ impl<R: Net, S: Store, L: PartitionLog + Drop> Edge<R, S, L> {
             most,
             turn,
         );
-        self.count(place, holder, before, turn);
+        self.count(place, before, turn);
         self.note(alloc, place, before, next, turn);
     }
 
@@ -206,7 +205,6 @@ impl<R: Net, S: Store, L: PartitionLog + Drop> Edge<R, S, L> {
             return;
         }
         let mut before = Before::of(socket, turn);
-        let holder = self.shares.holder(number);
         before.promised = socket.hand_on(
             alloc,
             &mut self.host,
@@ -216,7 +214,7 @@ impl<R: Net, S: Store, L: PartitionLog + Drop> Edge<R, S, L> {
             most,
             turn,
         );
-        self.count(place, holder, before, turn);
+        self.count(place, before, turn);
         if self.note_written(alloc, place, before, turn) {
             self.note_input(alloc, place, before, turn);
         }
@@ -263,18 +261,19 @@ impl<R: Net, S: Store, L: PartitionLog + Drop> Edge<R, S, L> {
             return;
         }
         let before = Before::of(socket, turn);
-        let holder = self.shares.holder(number);
         let next = socket.tell(alloc, &mut self.host, turn);
-        self.count(place, holder, before, turn);
+        self.count(place, before, turn);
         self.note(alloc, place, before, next, turn);
     }
 
-    /// Counts for the tenant that the socket at a place had before it was served what was read and written since, and its request where
-    /// the API key of one came. One that had not logged in is counted for nobody.
-    fn count(&mut self, place: usize, holder: usize, before: Before, turn: &Turn)
+    /// Counts for its tenant what was read and written of the socket at a place since it was served, and its request where the API key of
+    /// one came. One that was not told before that it has logged in is counted for nobody.
+    fn count(&mut self, place: usize, before: Before, turn: &Turn)
         ensures host { self.new.host ≡ self.old.host }
         ensures sockets { vec_len self.new.sockets ≡ vec_len self.old.sockets }
-        ensures counted { IfSome (slice_get self.old.sockets.items place) (λ s. IfSome (slice_get self.old.traffic.items holder)
+        ensures stranger { before.is_stranger ≡ true → self.new.traffic ≡ self.old.traffic }
+        ensures counted { before.is_stranger ≡ false → IfSome (slice_get self.old.sockets.items place)
+            (λ s. let holder = place_of s.connection self.old.shares in IfSome (slice_get self.old.traffic.items holder)
             (λ t. self.new.traffic.items ≡ slice_set self.old.traffic.items holder
             (with_traffic s.heading.key (turn.now.read - before.read) (turn.now.written - before.written) t))) }
     {
@@ -282,6 +281,10 @@ impl<R: Net, S: Store, L: PartitionLog + Drop> Edge<R, S, L> {
             return;
         };
         let key = socket.take_key();
+        if before.is_stranger {
+            return;
+        }
+        let holder = self.shares.holder(socket.connection());
         let Some(traffic) = self.traffic.get_mut(holder) else {
             return;
         };

@@ -474,7 +474,9 @@ impl<R: Net, S: Store, L: PartitionLog + Drop> Edge<R, S, L> {
     #[tactic(auto, using(crate::proofs::Goes::goes_then, crate::proofs::Goes::goes_none))]
     fn keep(&mut self, alloc: Global, connection: u64) -> Result<(), AllocError>
         requires { self.old.host.broker.state.last < connection }
-        ensures { Goes S.disk R.Stream.contents R.Stream.remaining self.old.host.broker self.new.host.broker }
+        ensures goes { Goes S.disk R.Stream.contents R.Stream.remaining self.old.host.broker self.new.host.broker }
+        ensures sockets { self.new.sockets ≡ self.old.sockets }
+        ensures limit { self.new.limit ≡ self.old.limit }
     {
         if self.shares.admit(connection).is_err() {
             return Err(AllocError);

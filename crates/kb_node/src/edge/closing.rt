@@ -309,13 +309,20 @@ impl<R: Net, S: Store, L: PartitionLog + Drop> Edge<R, S, L> {
         ensures { self.new.host ≡ self.old.host }
     {
         for number in numbers {
-            if let Some(place) = self.place_of(*number)
-                && let Some(socket) = self.sockets.get(place)
-                && socket.is_of(name) == has_name
-            {
-                // there is room for each socket once
-                let _ = self.ready.push(*number);
-            }
+            self.queue_one(*number, name, has_name);
+        }
+    }
+
+    /// The same for one connection.
+    fn queue_one(&mut self, number: u64, name: &str, has_name: bool)
+        ensures { self.new.host ≡ self.old.host }
+    {
+        if let Some(place) = self.place_of(number)
+            && let Some(socket) = self.sockets.get(place)
+            && socket.is_of(name) == has_name
+        {
+            // there is room for each socket once
+            let _ = self.ready.push(number);
         }
     }
 

@@ -4,8 +4,8 @@
     trials/metrics.py KBROKER
 
 Two tenants use the same names. Each sample is read by the parser of `python3-prometheus-client`, where that is there, and compared with the
-load. Groups have ids with a quote, a backslash and a line feed. Then wrong paths, methods, bodies, long heads and tokens are tried, and what
-a broker says of wrong settings. Last, 500 slow and garbled clients come while a producer asks, and a page is asked for beside them. It prints
+load: requests by API and bytes are those that the clients counted. Groups have ids with a quote, a backslash, a line feed and a tag. Then wrong paths, methods, bodies, long heads and tokens are tried, and what
+a broker says of wrong settings. Last, 1,000 slow and garbled clients come while a producer asks, and a page is asked for beside them. It prints
 how many of the answers were wrong.
 """
 
@@ -21,6 +21,8 @@ from wire import Broker, Client, batch, free_port, struct, text
 
 TOKEN = "0123456789abcdefXYZ"
 ODD = b'quote " back \\ line\nend'
+TAG = b"<script>alert(1)</script>"
+APIS = {0: "Produce", 1: "Fetch", 2: "ListOffsets", 3: "Metadata", 8: "OffsetCommit", 11: "JoinGroup", 19: "CreateTopics"}
 
 
 def page(port, words, rest=b"", token=None, most=20):
@@ -107,6 +109,107 @@ def told(tried, broker, port):
     tried.is_so("connections then", value("kbroker_connections", tenant="a"), 1)
 
 
+class Counting(Client):
+    """A client that counts what it asks and what it is told, once it is logged in."""
+
+    def __init__(self, *words):
+        self.sent, self.got, self.asked = 0, 0, {}
+        super().__init__(*words)
+        self.sent, self.got, self.asked = 0, 0, {}
+
+    def send(self, requests):
+        for key, _, body, *_ in requests:
+            self.asked[key] = self.asked.get(key, 0) + 1
+            self.sent += 14 + len(body)
+        return super().send(requests)
+
+    def take(self, size):
+        self.got += size
+        return super().take(size)
+
+
+def join(client, group):
+    """JoinGroup 1 by a new member, in a generation of its own: sent, and not waited for."""
+    client.send([(11, 1, text(group) + struct.pack(">ii", 30_000, 200) + text(b"") + text(b"consumer") + struct.pack(">i", 1) + text(b"range")
+                  + struct.pack(">i", 0))])
+
+
+def counted(tried, broker, port):
+    """Each number that counts what tenants ask, and what a group with a tag for its name looks like."""
+    ann, bob, waits = Counting(broker.port), Counting(broker.port, b"bob", b"pw2"), Counting(broker.port)
+    tried.is_so("topics", [create(ann, b"orders", 3), create(bob, b"orders", 2)], [0, 0])
+    for count, client in ((7, ann), (3, bob)):
+        produce_to(client, b"orders", 0, count)
+    tried.is_so("a commit", commit_at(ann, TAG, b"orders", 0, 5, b""), 0)
+    ann.fetch(b"orders", 0)
+    # a request whose size, whose key's first byte and whose rest come apart
+    asked = struct.pack(">hhih", 3, 1, 900, -1) + struct.pack(">i", -1)
+    frame = struct.pack(">i", len(asked)) + asked
+    for piece in (frame[:4], frame[4:5], frame[5:9], frame[9:]):
+        bob.socket.sendall(piece)
+        time.sleep(0.05)
+    bob.hear()
+    bob.sent, bob.asked[3] = bob.sent + len(frame), bob.asked.get(3, 0) + 1
+    join(waits, TAG)
+    waits.hear()
+    # a fetch that waits for more than there is
+    waits.send([(1, 4, struct.pack(">iiiib", -1, 5000, 1 << 20, 1 << 20, 0) + struct.pack(">i", 1) + text(b"orders")
+                 + struct.pack(">iiqi", 1, 0, 7, 1 << 20))])
+    time.sleep(0.3)
+    status, _, body = page(port, "GET /metrics", token=TOKEN)
+    tried.is_so("status", status, 200)
+    got = samples(body)
+
+    def value(name, **labels):
+        return got.get((name, tuple(sorted(labels.items()))))
+
+    asked = {key: ann.asked.get(key, 0) + waits.asked.get(key, 0) for key in {*ann.asked, *waits.asked}}
+    for tenant, keys, sent, told_ in (("a", asked, ann.sent + waits.sent, ann.got + waits.got), ("b", bob.asked, bob.sent, bob.got)):
+        said = {labels: it for (name, labels), it in got.items() if name == "kbroker_requests_total" and ("tenant", tenant) in labels}
+        tried.is_so(f"requests of {tenant}", said, {(("api", APIS[key]), ("tenant", tenant)): count for key, count in keys.items()})
+        tried.is_so(f"bytes of requests of {tenant}", value("kbroker_request_bytes_total", tenant=tenant), sent)
+        tried.is_so(f"bytes of responses of {tenant}", value("kbroker_response_bytes_total", tenant=tenant), told_)
+    tried.is_so("waiting", [value("kbroker_waiting_requests", tenant=it) for it in "ab"], [1, 0])
+    tried.is_so("members", value("kbroker_group_members", tenant="a", group=TAG.decode()), 1)
+    tried.is_so("lag", value("kbroker_group_lag", tenant="a", group=TAG.decode(), topic="orders"), 2)
+    tried.is_so("strangers", value("kbroker_strangers"), 0)
+    with socket.create_connection(("127.0.0.1", broker.port)):
+        time.sleep(0.2)
+        got = samples(page(port, "GET /metrics", token=TOKEN)[2])
+        tried.is_so("a stranger", value("kbroker_strangers"), 1)
+    tried.is_so("files at most", value("process_max_fds"), int(open(f"/proc/{broker.process.pid}/limits").read().split("Max open files")[1].split()[0]))
+    tried.is_so("time of processors", 0 <= value("process_cpu_seconds_total") < 60, True)
+    tried.is_so("the longest turn", 0 < value("kbroker_turn_seconds_max") < 5, True)
+    got = samples(page(port, "GET /metrics/partitions?tenant=a", token=TOKEN)[2])
+    tried.is_so("ends", [value("kbroker_partition_end_offset", tenant="a", topic="orders", partition=str(it)) for it in range(3)], [7, 0, 0])
+    tried.is_so("starts", [value("kbroker_partition_start_offset", tenant="a", topic="orders", partition=str(it)) for it in range(3)], [0] * 3)
+    tried.is_so("committed", value("kbroker_group_committed_offset", tenant="a", group=TAG.decode(), topic="orders", partition="0"), 5)
+    tried.is_so("nothing of others", [it for it in got if ("tenant", "a") not in it[1]], [])
+    html(tried, port)
+
+
+def html(tried, port):
+    """The status page, and that of a tenant."""
+    for words in ("GET /", "GET /?tenant=a", "GET /?tenant=%61", "GET /?tenant=b"):
+        status, fields, body = page(port, words, token=TOKEN)
+        tried.is_so(words, status, 200)
+        tried.is_so(f"kind of {words}", fields.get("content-type"), "text/html; charset=utf-8")
+        tried.is_so(f"policy of {words}", fields.get("content-security-policy"), "default-src 'none'; style-src 'unsafe-inline'")
+        tried.is_so(f"{words} ends", body.rstrip().endswith(b"</html>"), True)
+        tried.is_so(f"a tag in {words}", b"<script" in body.lower(), False)
+        for secret in (b"pw1", b"pw2", b"secret-record", TOKEN.encode()):
+            tried.is_so(f"{secret} on {words}", secret in body, False)
+    tried.is_so("the group on the page", b"&lt;script&gt;" in page(port, "GET /?tenant=a", token=TOKEN)[2], True)
+    tried.is_so("nothing of a on b's page", b"script" in page(port, "GET /?tenant=b", token=TOKEN)[2], False)
+    for words, status in (("GET /?tenant=c", 404), ("GET /?tenant=", 404), ("GET /?other=a", 404), ("GET /metrics/partitions", 404),
+                          ("GET /metrics/partitions?tenant=c", 404), ("GET /metrics/partitions?tenant=%zz", 404), ("POST /", 405)):
+        tried.is_so(words, page(port, words, token=TOKEN)[0], status)
+    for words in ("GET /", "GET /?tenant=a", "GET /metrics/partitions?tenant=a"):
+        status, fields, _ = page(port, words)
+        tried.is_so(f"{words} without the token", (status, fields.get("www-authenticate")), (401, "bearer"))
+    tried.is_so("what is allowed", page(port, "PUT /metrics", token=TOKEN)[1].get("allow"), "get")
+
+
 def refused(tried, broker, port):
     """Who gets no page."""
     for words, status, token in (("GET /healthz", 200, None), ("GET /readyz", 200, TOKEN), ("GET /readyz", 401, None), ("GET /metrics", 401, None),
@@ -153,7 +256,7 @@ def hostile(tried, broker, port):
 
     producer = threading.Thread(target=ask)
     producer.start()
-    for number in range(500):
+    for number in range(1000):
         try:
             it = socket.create_connection(("127.0.0.1", port), timeout=5)
             it.sendall((b"GET /met", b"\x16\x03\x01\x02\0\x01", b"GET /metrics HTTP/1.1\r\nx: ", os.urandom(64))[number % 4])
@@ -163,7 +266,7 @@ def hostile(tried, broker, port):
     time.sleep(2)
     stop.set()
     producer.join()
-    tried.is_so(f"a produce took {worst[0]:.2f} s beside 500 clients", worst[0] < 1, True)
+    tried.is_so(f"a produce took {worst[0]:.2f} s beside 1,000 clients", worst[0] < 1, True)
     time.sleep(5)
     tried.is_so("a page then", page(port, "GET /metrics", token=TOKEN)[0], 200)
     for it in held:
@@ -184,6 +287,14 @@ def main(program):
             told(tried, broker, port)
             refused(tried, broker, port)
             hostile(tried, broker, port)
+        finally:
+            broker.stop()
+    with tempfile.TemporaryDirectory() as room:
+        port = free_port()
+        broker = Broker(program, room, more=f'metrics = "127.0.0.1:{port}"\nmetrics_token = "{TOKEN}"\n')
+        try:
+            tried.is_so("it listens", broker.listens(), True)
+            counted(tried, broker, port)
         finally:
             broker.stop()
     with tempfile.TemporaryDirectory() as room:

@@ -4,3 +4,4 @@ pub mod Closing
 pub mod Counts
 pub mod Traffic
 pub mod Carries
+pub mod Goes

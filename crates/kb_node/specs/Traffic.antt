@@ -1,5 +1,5 @@
 -- What is done to a broker between its store and its sockets, and what a socket carries.
-use Rattle.std.specs.Prelude.{◌≡◌, ℕ, List, [], ◌∷◌, Option, Some, None}
+use Rattle.std.specs.Prelude.{◌≡◌, ℕ, List, [], ◌∷◌, Bool, true, false, Option, Some, None}
 use Rattle.std.specs.List.{AllByRecursion}
 use Rattle.std.specs.Io.KnownBytes.{Appends, Consumes}
 use Rattle.kb_store.specs.Disk.{Disk}
@@ -81,6 +81,15 @@ abbrev pub handed_by : Deed → List ℕ
 handed_by (Event e) = piece_in e
 handed_by (Take n bytes) = []
 handed_by Commit = []
+
+-- whether it is a moment
+abbrev pub is_moment : Deed → Bool
+is_moment (Event (Opens n)) = false
+is_moment (Event (Comes n piece)) = false
+is_moment (Event (Closes n)) = false
+is_moment (Event (Moment now)) = true
+is_moment (Take n bytes) = false
+is_moment Commit = false
 
 -- 3. What is done to a stream
 

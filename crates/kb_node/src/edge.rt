@@ -1,6 +1,10 @@
 //! A broker on a network. A turn waits for no peer.
 
-ghost use Rattle.std.specs.Prelude.{◌≡◌, ◌≤◌, ◌<◌, ◌*◌, ◌^◌, Err, Some, IfOk, IfErr, IfSome, vec_len};
+ghost use Rattle.std.specs.Prelude.{◌≡◌, ◌≤◌, ◌<◌, ◌*◌, ◌^◌, Err, None, Some, IfOk, IfErr, IfSome, OnErr, OnOk};
+ghost use Rattle.std.specs.Prelude.{option_map, replicate, slice_get, vec_len};
+ghost use Rattle.kb_isolation_spec.specs.Machine.{Moment};
+ghost use Rattle.kb_node.specs.Moves.{Goes, IsRunOf, IsTurn};
+ghost use Rattle.kb_node.specs.Traffic.{Happens};
 
 mod beside;
 mod closing;
@@ -18,6 +22,7 @@ use crate::replies::shares_of;
 use crate::silences::Silences;
 use crate::socket::Socket;
 use crate::socket_shares::SocketShares;
+use crate::tenant_traffic::TenantTraffic;
 use crate::times::Times;
 use crate::turn::Turn;
 use crate::watch::Watch;
@@ -95,10 +100,14 @@ pub struct Edge<R: Net, S: Store, L: PartitionLog = ListLog> {
     inputs: Ledger,
     /// By when their requests are to be whole, and since when they are idle.
     times: Times,
+    /// What was counted of each tenant, by its place, where that is counted.
+    traffic: Vec<TenantTraffic>,
     /// Which sockets are ready. With none all are looked at in each turn.
     watch: Option<Watch>,
     /// Whether an accept may find a socket.
     can_accept: bool,
+    /// Whether a file beside the sockets became ready since that was asked.
+    is_beside_ready: bool,
     /// The connections whose sockets can go on, each once, but for those in line.
     ready: Vec<u64>,
     /// Those of them that are in line for their turn, by holder.
@@ -215,8 +224,10 @@ impl<R: Net, S: Store, L: PartitionLog + Drop> Edge<R, S, L> {
                 u64::from(limits.request_seconds) * 1000,
                 u64::from(limits.idle_seconds) * 1000,
             ),
+            traffic: Vec::new(alloc),
             watch,
             can_accept: true,
+            is_beside_ready: false,
             ready: buffers.ready,
             line,
             asked: buffers.asked,
@@ -247,6 +258,26 @@ impl<R: Net, S: Store, L: PartitionLog + Drop> Edge<R, S, L> {
     /// How many sockets were closed so far since their tenant may have no more, by the tenants' places.
     pub fn refused_sockets(&self) -> &[u64] {
         self.shares.refused()
+    }
+
+    /// Counts from now on what so many tenants ask and are told, by their places. Memory is asked for here alone: after an `Err` the
+    /// edge is as before.
+    pub fn count_traffic(&mut self, alloc: Global, tenants: usize) -> Result<(), AllocError>
+        ensures ok { OnOk result (self.new.traffic.items
+            ≡ replicate tenants (record { requests = replicate 64 0; request_bytes = 0; response_bytes = 0 })) }
+        ensures err { OnErr result (self.new ≡ self.old) }
+        ensures rest { self.new ≡ record self.old { traffic = self.new.traffic } }
+    {
+        self.traffic = vec![in alloc; TenantTraffic::none(); tenants]?;
+        Ok(())
+    }
+
+    /// What was counted of the tenant at a place since [`Edge::count_traffic`]: what its connections ask, and what they are told. The request
+    /// that logs in is not counted, nor its reply and what comes before it.
+    pub fn traffic_of(&self, place: usize) -> Option<&TenantTraffic>
+        ensures { option_map (λ t. t.now) result ≡ slice_get self.now.traffic.items place }
+    {
+        self.traffic.get(place)
     }
 
     /// The port that is listened on.
@@ -287,15 +318,32 @@ impl<R: Net, S: Store, L: PartitionLog + Drop> Edge<R, S, L> {
     /// sockets of a turn share one commit. With `Interval` there is a commit each so many milliseconds, and with `Never` there is none.
     ///
     /// An `Err` is that of a commit, behind which nothing goes out: then each later turn does nothing but to answer the same.
+    #[tactic(auto, using(crate::proofs::Goes::goes_then, crate::proofs::Goes::goes_none))]
     pub fn turn(&mut self, alloc: Global, now: u64) -> Result<Turn, StoreFault>
         requires { now ≤ 2 ^ 62 }
         ensures refused { IfErr result (λ fault. self.new.host.commits.fault ≡ Some fault) }
         ensures dead { IfSome self.old.host.commits.fault (λ fault. (result ≡ Err fault) × (self.new ≡ self.old)) }
+        ensures turn { self.old.host.commits.fault ≡ None → IsTurn S.disk R.Stream.contents R.Stream.remaining now
+            self.old.host.broker self.new.host.broker }
+        ensures run { self.old.host.commits.fault ≡ None → IsRunOf S.disk now self.old.host.broker self.new.host.broker }
     {
         if let Some(fault) = self.host.commits().fault() {
             return Err(fault);
         }
         let mut turn = Turn::default();
+        self.begin(alloc, now);
+        self.close_silent(alloc, &mut turn);
+        self.accept(alloc, &mut turn);
+        self.answer(alloc, now, &mut turn)?;
+        self.close_late(alloc, &mut turn);
+        Ok(turn)
+    }
+
+    /// The moment of a turn. Those whom the broker told something then can go on.
+    fn begin(&mut self, alloc: Global, now: u64)
+        requires { now ≤ 2 ^ 62 }
+        ensures { Happens S.disk (Moment now) self.old.host.broker self.new.host.broker }
+    {
         self.denied.clear();
         self.closed.clear();
         self.more_closed = 0;
@@ -303,26 +351,32 @@ impl<R: Net, S: Store, L: PartitionLog + Drop> Edge<R, S, L> {
         self.host.moment(alloc, now);
         self.is_left_due = self.host.broker().next_deadline() <= now;
         self.hear_speakers();
-        if self.watch.is_none() {
-            self.hear_all();
-        }
-        self.close_silent(alloc, &mut turn);
-        self.accept(alloc, &mut turn);
-        if self.host.commits().holds_back() {
-            self.serve_together(alloc, &mut turn)?;
-        } else {
-            self.host.commit_in_time(now)?;
-            self.serve_at_once(alloc, &mut turn);
-        }
-        self.close_late(alloc, &mut turn);
-        if turn.closed > 0 {
-            self.drop_ended();
-        }
-        Ok(turn)
+        self.hear_all();
     }
 
-    /// Every socket may be ready.
-    fn hear_all(&mut self) {
+    /// The sockets that can go on are served: all before one commit where replies wait for it, and else one after another.
+    ///
+    /// An `Err` is that of a commit, behind which nothing goes out.
+    #[tactic(auto, using(crate::proofs::Goes::goes_then, crate::proofs::Goes::goes_none, crate::proofs::Goes::goes_committed))]
+    fn answer(&mut self, alloc: Global, now: u64, turn: &mut Turn) -> Result<(), StoreFault>
+        ensures refused { IfErr result (λ fault. self.new.host.commits.fault ≡ Some fault) }
+        ensures goes { Goes S.disk R.Stream.contents R.Stream.remaining self.old.host.broker self.new.host.broker }
+    {
+        if self.host.commits().holds_back() {
+            return self.serve_together(alloc, turn);
+        }
+        self.host.commit_in_time(now)?;
+        self.serve_at_once(alloc, turn);
+        Ok(())
+    }
+
+    /// Without a watch every socket may be ready.
+    fn hear_all(&mut self)
+        ensures { self.new.host ≡ self.old.host }
+    {
+        if self.watch.is_some() {
+            return;
+        }
         self.can_accept = true;
         for place in 0..self.sockets.len() {
             if let Some(socket) = self.sockets.get_mut(place) {
@@ -333,33 +387,68 @@ impl<R: Net, S: Store, L: PartitionLog + Drop> Edge<R, S, L> {
     }
 
     /// Accepts the sockets that wait, at most as many as there may be.
-    fn accept(&mut self, alloc: Global, turn: &mut Turn) {
+    #[tactic(auto, using(crate::proofs::Goes::goes_then, crate::proofs::Goes::goes_none))]
+    fn accept(&mut self, alloc: Global, turn: &mut Turn)
+        ensures { Goes S.disk R.Stream.contents R.Stream.remaining self.old.host.broker self.new.host.broker }
+    {
         for _ in 0..ACCEPTS {
-            if !self.can_accept {
+            if !self.accept_one(alloc, turn) {
                 return;
-            }
-            match self.doors.accept() {
-                Ok((stream, peer)) => {
-                    turn.count_accepted();
-                    if !self.make_room(alloc, turn) {
-                        turn.count_turned_away();
-                        turn.count_closed();
-                    } else if self.take_in(alloc, stream, peer).is_err() {
-                        turn.count_closed();
-                    }
-                }
-                Err(e) => match e.kind() {
-                    ErrorKind::Interrupted => {}
-                    ErrorKind::WouldBlock => self.can_accept = false,
-                    _ => return,
-                },
             }
         }
     }
 
+    /// Accepts a socket that waits: false where there is none, or none can be accepted now.
+    #[tactic(auto, using(crate::proofs::Goes::goes_then, crate::proofs::Goes::goes_none))]
+    fn accept_one(&mut self, alloc: Global, turn: &mut Turn) -> bool
+        ensures { Goes S.disk R.Stream.contents R.Stream.remaining self.old.host.broker self.new.host.broker }
+    {
+        if !self.can_accept {
+            return false;
+        }
+        match self.doors.accept() {
+            Ok((stream, peer)) => {
+                self.admit(alloc, stream, peer, turn);
+                true
+            }
+            Err(e) => self.may_go_on(e.kind()),
+        }
+    }
+
+    /// Whether an accept is tried again that was refused for that.
+    fn may_go_on(&mut self, kind: ErrorKind) -> bool
+        ensures { self.new.host ≡ self.old.host }
+    {
+        match kind {
+            ErrorKind::Interrupted => true,
+            ErrorKind::WouldBlock => {
+                self.can_accept = false;
+                false
+            }
+            _ => false,
+        }
+    }
+
+    /// Takes in a socket where there is room for it. Else it is closed.
+    fn admit(&mut self, alloc: Global, stream: R::Stream, peer: SocketAddr, turn: &mut Turn)
+        ensures { Goes S.disk R.Stream.contents R.Stream.remaining self.old.host.broker self.new.host.broker }
+    {
+        turn.count_accepted();
+        if !self.make_room(alloc, turn) {
+            turn.count_turned_away();
+            turn.count_closed();
+            return;
+        }
+        if self.take_in(alloc, stream, peer).is_err() {
+            turn.count_closed();
+        }
+    }
+
     /// Opens a connection for a socket, below the limit. An `Err` closes the socket: no number is left, or it was refused.
+    #[tactic(auto, using(crate::proofs::Goes::goes_then, crate::proofs::Goes::goes_none))]
     fn take_in(&mut self, alloc: Global, stream: R::Stream, peer: SocketAddr) -> io::Result<()>
         requires { vec_len self.now.sockets < self.now.limit }
+        ensures { Goes S.disk R.Stream.contents R.Stream.remaining self.old.host.broker self.new.host.broker }
     {
         let Some(connection) = self.host.broker().last_connection().checked_add(1) else {
             return Err(io::Error::from(ErrorKind::QuotaExceeded));
@@ -371,16 +460,37 @@ impl<R: Net, S: Store, L: PartitionLog + Drop> Edge<R, S, L> {
         }
         self.sockets.reserve(1)?;
         self.strangers.admit(connection, self.clock)?;
-        if self.shares.admit(connection).is_err() || self.host.connect(alloc, connection).is_err() {
-            self.strangers.forget(connection);
-            self.shares.release(connection);
-            return Err(io::Error::from(ErrorKind::OutOfMemory));
+        if self.keep(alloc, connection).is_err() {
+            return Err(self.refuse(connection));
         }
         let place = self.sockets.len();
         self.sockets
             .push(Socket::new(alloc, connection, peer, stream))?;
         self.queue(place);
         Ok(())
+    }
+
+    /// Opens a connection, and counts its socket.
+    #[tactic(auto, using(crate::proofs::Goes::goes_then, crate::proofs::Goes::goes_none))]
+    fn keep(&mut self, alloc: Global, connection: u64) -> Result<(), AllocError>
+        requires { self.old.host.broker.state.last < connection }
+        ensures goes { Goes S.disk R.Stream.contents R.Stream.remaining self.old.host.broker self.new.host.broker }
+        ensures sockets { self.new.sockets ≡ self.old.sockets }
+        ensures limit { self.new.limit ≡ self.old.limit }
+    {
+        if self.shares.admit(connection).is_err() {
+            return Err(AllocError);
+        }
+        self.host.connect(alloc, connection)
+    }
+
+    /// A connection could not be kept for want of memory.
+    fn refuse(&mut self, connection: u64) -> io::Error
+        ensures { self.new.host ≡ self.old.host }
+    {
+        self.strangers.forget(connection);
+        self.shares.release(connection);
+        io::Error::from(ErrorKind::OutOfMemory)
     }
 
     /// The place of a connection's socket.

@@ -13,6 +13,7 @@ use crate::closed::Closed;
 use crate::committed::Committed;
 use crate::input::Input;
 use crate::socket_shares::SocketShares;
+use crate::tenant_traffic::Heading;
 use crate::turn::Turn;
 use kb_broker::Broker;
 use kb_log::PartitionLog;
@@ -55,6 +56,8 @@ pub struct Socket<T> {
     /// What the broker said last, of which the first `written` bytes have been written.
     output: Vec<u8>,
     written: usize,
+    /// The front of the request that was handed on last.
+    heading: Heading,
     /// The name in the login that was handed on last.
     login: String,
     /// What was handed on since something was said last.
@@ -104,6 +107,7 @@ impl<T: Read + Write + Drop> Socket<T> {
             input: Input::new(alloc),
             output: Vec::new(alloc),
             written: 0,
+            heading: Heading::new(),
             login: String::new(alloc),
             asked: Asked::Nothing,
             can_read: true,
@@ -141,6 +145,14 @@ impl<T: Read + Write + Drop> Socket<T> {
         ensures ended { self.new.is_ended ≡ self.old.is_ended }
     {
         mem::replace(&mut self.login, String::new(alloc))
+    }
+
+    /// The API key of the request that was handed on last, where it was handed on since that was asked.
+    pub fn take_key(&mut self) -> Option<u16>
+        ensures key { result ≡ self.old.heading.key }
+        ensures rest { self.new ≡ record self.old { heading = record self.old.heading { key = None } } }
+    {
+        self.heading.take_key()
     }
 
     /// That the broker shut its connection, where it did and it was not told.

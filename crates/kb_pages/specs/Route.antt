@@ -1,8 +1,9 @@
 -- Which page a request gets.
-use Rattle.std.specs.Prelude.{ℕ, List, ◌++◌, codes, Bool, true, false, not, if◌then◌else◌, Option, None, Some}
+use Rattle.std.specs.Prelude.{ℕ, List, [], ◌++◌, codes, drop, length, take, Bool, true, false, not, if◌then◌else◌, Option, None, Some}
 use Rattle.std.specs.Str.{bytes_eq}
+use Rattle.percent_encoding.specs.Percent.{percent_decode}
 use Rattle.kb_pages.specs.declared.route.Page.{Page}
-use Rattle.kb_pages.specs.declared.route.Page.TheVariants.{Health, Ready, Metrics, Unauthorized, NotFound, NotAllowed}
+use Rattle.kb_pages.specs.declared.route.Page.TheVariants.{Health, Ready, Metrics, Partitions, Status, Tenant, Unauthorized, NotFound, NotAllowed}
 
 -- what a request with a token has in its field `authorization`
 abbrev pub authorization : List ℕ → List ℕ
@@ -17,11 +18,37 @@ may_see (Some asked) (Some given) = bytes_eq asked given
 abbrev pub only_get : List ℕ → Page → Page
 only_get method page = if bytes_eq method (codes "GET") then page else NotAllowed
 
+-- a page that is there is asked for by GET
+abbrev pub by_get : List ℕ → Page → Page
+by_get method NotFound = NotFound
+by_get method page = only_get method page
+
+-- a query names a tenant: `tenant=NAME`
+abbrev pub is_named : List ℕ → Bool
+is_named query = bytes_eq (take 7 query) (codes "tenant=")
+
+-- a page without a query, or that of a tenant where the query names one
+abbrev pub named : Option (List ℕ) → Page → Page → Page
+named None page of_tenant = page
+named (Some query) page of_tenant = if is_named query then of_tenant else NotFound
+
+-- the name in a query, percent-decoded
+abbrev pub named_in : Option (List ℕ) → List ℕ
+named_in None = []
+named_in (Some query) = percent_decode (drop 7 query)
+
+-- the page of a path and a query
+abbrev pub page_at : List ℕ → Option (List ℕ) → Page
+page_at path query =
+    if bytes_eq path (codes "/readyz") then Ready
+    else if bytes_eq path (codes "/metrics") then Metrics
+    else if bytes_eq path (codes "/metrics/partitions") then named query NotFound Partitions
+    else if bytes_eq path (codes "/") then named query Status Tenant
+    else NotFound
+
 -- each page but the first wants the field
-abbrev pub page_for : Option (List ℕ) → Option (List ℕ) → List ℕ → List ℕ → Page
-page_for asked given method path =
+abbrev pub page_for : Option (List ℕ) → Option (List ℕ) → List ℕ → List ℕ → Option (List ℕ) → Page
+page_for asked given method path query =
     if bytes_eq path (codes "/healthz") then only_get method Health
     else if not (may_see asked given) then Unauthorized
-    else if bytes_eq path (codes "/readyz") then only_get method Ready
-    else if bytes_eq path (codes "/metrics") then only_get method Metrics
-    else NotFound
+    else by_get method (page_at path query)

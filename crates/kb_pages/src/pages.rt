@@ -33,6 +33,8 @@ pub struct Pages<R: Net> {
     peers: Vec<Peer<R::Stream>>,
     /// What a request has to have in its field `authorization`, if anything.
     asked: Option<Vec<u8>>,
+    /// Whether a listener or a connection may go on, though the system does not tell so again.
+    is_due: bool,
 }
 
 impl<R: Net> Pages<R> {
@@ -56,6 +58,7 @@ impl<R: Net> Pages<R> {
             listeners: Vec::new(alloc),
             peers: Vec::with_capacity(alloc, PEERS)?,
             asked,
+            is_due: true,
         };
         let mut missing = io::Error::from(ErrorKind::AddrNotAvailable);
         for address in address.to_socket_addrs(net)? {
@@ -80,29 +83,47 @@ impl<R: Net> Pages<R> {
     }
 
     /// Takes new connections, and serves those that are there: a page each. One that is open for 5 seconds is closed. The moment is in
-    /// milliseconds.
-    pub fn turn<S: Source>(&mut self, source: &S, now: u64) {
+    /// milliseconds. Where no file became ready that the pages are woken by, and nothing was left to be done, the system is not asked.
+    pub fn turn<S: Source>(&mut self, source: &S, now: u64, is_ready: bool) {
+        if is_ready || self.is_due {
+            self.is_due = false;
+            self.accept_all(source, now);
+            self.serve(source);
+        }
+        self.peers.retain(|peer| !peer.is_over && now < peer.until);
+    }
+
+    /// Takes the connections that wait.
+    fn accept_all<S: Source>(&mut self, source: &S, now: u64) {
         for _ in 0..ACCEPTS {
             let Some(stream) = self.accept() else {
-                break;
+                return;
             };
             // one that cannot be taken is closed
             let _ = self.take_in(source, stream, now);
         }
+        self.is_due = true;
+    }
+
+    /// Reads and writes what can be read and written now.
+    fn serve<S: Source>(&mut self, source: &S) {
         let mut site = Site {
             alloc: self.alloc,
             asked: &self.asked,
             source,
         };
-        self.peers
-            .retain_mut(|peer| peer.turn(&mut site) && now < peer.until);
+        for peer in &mut self.peers {
+            self.is_due |= peer.turn(&mut site);
+        }
     }
 
-    /// A socket that waits at one of the listeners.
-    fn accept(&self) -> Option<R::Stream> {
+    /// A socket that waits at one of the listeners. Where an accept was refused it is tried again in the next turn.
+    fn accept(&mut self) -> Option<R::Stream> {
         for listener in &self.listeners {
-            if let Ok((stream, _)) = listener.accept() {
-                return Some(stream);
+            match listener.accept() {
+                Ok((stream, _)) => return Some(stream),
+                Err(e) if e.kind() == ErrorKind::WouldBlock => {}
+                Err(_) => self.is_due = true,
             }
         }
         None

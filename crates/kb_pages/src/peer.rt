@@ -20,6 +20,8 @@ pub struct Peer<T> {
     connection: Connection,
     /// When it is closed, in milliseconds.
     pub until: u64,
+    /// Whether it is to be closed now.
+    pub is_over: bool,
 }
 
 /// What a read or a write came to.
@@ -50,16 +52,20 @@ impl<T: Read + Write + Drop> Peer<T> {
             stream,
             connection: Connection::new(alloc, keys, config),
             until,
+            is_over: false,
         }
     }
 
-    /// Reads what came, and writes what is to be told. It answers false once the connection is to be closed.
+    /// Reads what came, and writes what is to be told. It answers whether it may go on though the system does not tell so.
     pub fn turn<S: Source>(&mut self, site: &mut Site<'_, S>) -> bool {
         for _ in 0..STEPS {
             match self.step(site) {
                 Step::Moved => {}
-                Step::Waits => return true,
-                Step::Ended => return false,
+                Step::Waits => return false,
+                Step::Ended => {
+                    self.is_over = true;
+                    return false;
+                }
             }
         }
         true

@@ -8,15 +8,17 @@
 //! error, 2 a fault of the command line with its usage.
 #![tactic(auto)]
 
-mod board;
 mod causes;
 mod check;
 mod dump;
+mod history;
 mod listening;
+mod monitoring;
 mod open;
 mod process;
 mod script;
 mod serve;
+mod shown;
 mod telling;
 mod totals;
 mod words;

@@ -2,8 +2,8 @@
 
 ghost use Rattle.std.specs.Prelude.{◌≡◌, ◌≤◌, ◌<◌, ◌*◌, ◌-◌, ◌^◌, max, min};
 
-use crate::board::Board;
 use crate::listening::{listen, tell_listening};
+use crate::monitoring::Monitoring;
 use crate::open::{Start, consent_of, open_on, with_consent};
 use crate::telling::tell_turn;
 use crate::{Fault, config};
@@ -117,11 +117,11 @@ fn serve_on<S: PutsOff + Drop>(
     let alloc = rt.alloc();
     let (opened, held) = open(rt, start, store, folder, journal)?;
     let mut edge = listen(rt, opened.broker, start.settings)?;
-    let mut board = Board::open(rt, start.settings, &edge, now(rt))?;
+    let mut monitoring = Monitoring::open(rt, start.settings, &mut edge, now(rt))?;
     tell_listening(rt, &edge, folder.folder())?;
     journal.tell_found(alloc, now(rt), Word::Start, held);
     journal.tell_change(alloc, now(rt), changed);
-    let served = turn_on(rt, &mut edge, &mut board, journal, folder);
+    let served = turn_on(rt, &mut edge, &mut monitoring, journal, folder);
     journal.tell_stop(alloc, now(rt));
     match served {
         Ok(()) => Ok(()),
@@ -165,20 +165,23 @@ fn settle<S: Store, L: PartitionLog + Drop>(broker: &mut Broker<S, L>) -> Result
 fn turn_on<R: Net, S: Store, L: PartitionLog + Drop>(
     rt: &HostRuntime,
     edge: &mut Edge<R, S, L>,
-    board: &mut Option<Board>,
+    monitoring: &mut Option<Monitoring>,
     journal: &mut Journal,
     folder: &mut FolderJournal,
 ) -> Result<(), StoreFault> {
     let mut clock = GuardedClock::starting(Reading::of(rt));
     for _ in 0..TURNS {
         edge.wait();
+        if let Some(monitoring) = monitoring {
+            monitoring.begin(rt);
+        }
         let tick = clock.next(Reading::of(rt));
         let turn = edge.turn(rt.alloc(), tick.moment);
         folder.tell(rt, journal.lines(), tick.moment);
         let turn = turn?;
         tell_turn(rt, journal, edge, &turn, tick);
-        if let Some(board) = board {
-            board.turn(rt, edge, &turn, tick.moment);
+        if let Some(monitoring) = monitoring {
+            monitoring.turn(rt, edge, &turn, tick.moment);
         }
     }
     Ok(())

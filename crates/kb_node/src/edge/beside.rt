@@ -1,24 +1,33 @@
 //! What an edge waits for beside its sockets, and how many of these there are.
 
-ghost use Rattle.std.specs.Prelude.{◌≡◌, vec_len};
+ghost use Rattle.std.specs.Prelude.{◌≡◌, false, vec_len};
 
 use crate::edge::Edge;
 use kb_log::PartitionLog;
 use kb_store::Store;
-use std::io;
 use std::net::Net;
 use std::os::fd::RawFd;
+use std::{io, mem};
 
 /// The number under which other files are watched, to which no connection comes.
-const BESIDE: u64 = u64::MAX;
+pub(super) const BESIDE: u64 = u64::MAX;
 
 impl<R: Net, S: Store, L: PartitionLog + Drop> Edge<R, S, L> {
-    /// A wait ends too once this file becomes ready, until the file is closed. An edge that was bound without a watch does not wait.
+    /// A wait ends too once this file becomes ready, until the file is closed: [`Edge::take_beside`] tells it. An edge that was bound
+    /// without a watch does not wait.
     pub fn watch_also(&self, file: RawFd) -> io::Result<()> {
         match &self.watch {
             Some(watch) => watch.add(file, BESIDE),
             None => Ok(()),
         }
+    }
+
+    /// Whether one of these files became ready since that was asked last.
+    pub fn take_beside(&mut self) -> bool
+        ensures ready { result ≡ self.old.is_beside_ready }
+        ensures rest { self.new ≡ record self.old { is_beside_ready = false } }
+    {
+        mem::replace(&mut self.is_beside_ready, false)
     }
 
     /// How many sockets there are, those that have not logged in among them.

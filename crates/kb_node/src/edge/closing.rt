@@ -1,6 +1,7 @@
 //! Which sockets an edge closes.
 
 ghost use Rattle.std.specs.Prelude.{◌≡◌, ◌<◌, None, vec_len};
+ghost use Rattle.kb_node.specs.Moves.{Goes};
 ghost use Rattle.std.specs.Bool.{OnTrue};
 ghost use Rattle.kb_shares.specs.Ledger.{let_go};
 ghost use Rattle.kb_node.specs.SocketShares.{count_of, holder_of};
@@ -19,7 +20,22 @@ use std::net::Net;
 
 impl<R: Net, S: Store, L: PartitionLog + Drop> Edge<R, S, L> {
     /// Closes the sockets that have not logged in in time, and those that do not read.
-    pub(super) fn close_silent(&mut self, alloc: Global, turn: &mut Turn) {
+    #[tactic(auto, using(crate::proofs::Goes::goes_then, crate::proofs::Goes::goes_none))]
+    pub(super) fn close_silent(&mut self, alloc: Global, turn: &mut Turn)
+        ensures { Goes S.disk R.Stream.contents R.Stream.remaining self.old.host.broker self.new.host.broker }
+    {
+        self.close_strangers(alloc, turn);
+        self.try_again(alloc, turn);
+        self.close_unread(alloc, turn);
+        self.close_stalled(alloc, turn);
+        self.drop_ended(turn);
+    }
+
+    /// Closes the sockets that have not logged in in time.
+    #[tactic(auto, using(crate::proofs::Goes::goes_then, crate::proofs::Goes::goes_none))]
+    fn close_strangers(&mut self, alloc: Global, turn: &mut Turn)
+        ensures { Goes S.disk R.Stream.contents R.Stream.remaining self.old.host.broker self.new.host.broker }
+    {
         for _ in 0..self.limit {
             let Some(number) = self.strangers.due(self.clock) else {
                 break;
@@ -27,16 +43,13 @@ impl<R: Net, S: Store, L: PartitionLog + Drop> Edge<R, S, L> {
             self.close(alloc, number, turn);
             turn.count_stranger();
         }
-        self.try_again(alloc, turn);
-        self.close_unread(alloc, turn);
-        self.close_stalled(alloc, turn);
-        if turn.closed > 0 {
-            self.drop_ended();
-        }
     }
 
     /// Tries the sockets once more that took something of their replies some time ago.
-    fn try_again(&mut self, alloc: Global, turn: &mut Turn) {
+    #[tactic(auto, using(crate::proofs::Goes::goes_then, crate::proofs::Goes::goes_none))]
+    fn try_again(&mut self, alloc: Global, turn: &mut Turn)
+        ensures { Goes S.disk R.Stream.contents R.Stream.remaining self.old.host.broker self.new.host.broker }
+    {
         for _ in 0..self.limit {
             let Some(number) = self.silences.take_untried(self.clock) else {
                 break;
@@ -46,69 +59,124 @@ impl<R: Net, S: Store, L: PartitionLog + Drop> Edge<R, S, L> {
     }
 
     /// Closes the sockets that take nothing of their replies. The system tells late of a little room, so each is tried once more before.
-    fn close_unread(&mut self, alloc: Global, turn: &mut Turn) {
+    #[tactic(auto, using(crate::proofs::Goes::goes_then, crate::proofs::Goes::goes_none))]
+    fn close_unread(&mut self, alloc: Global, turn: &mut Turn)
+        ensures { Goes S.disk R.Stream.contents R.Stream.remaining self.old.host.broker self.new.host.broker }
+    {
         for _ in 0..self.limit {
             let Some(number) = self.silences.silent(self.clock, self.reply_millis) else {
                 break;
             };
-            if !self.write_again(alloc, number, turn) {
-                self.close(alloc, number, turn);
-                turn.count_unread();
-            }
+            self.close_unless_written(alloc, number, turn);
         }
+    }
+
+    /// Closes the socket of a connection, unless it takes something of its reply now.
+    #[tactic(auto, using(crate::proofs::Goes::goes_then, crate::proofs::Goes::goes_none))]
+    fn close_unless_written(&mut self, alloc: Global, number: u64, turn: &mut Turn)
+        ensures { Goes S.disk R.Stream.contents R.Stream.remaining self.old.host.broker self.new.host.broker }
+    {
+        if self.write_again(alloc, number, turn) {
+            return;
+        }
+        self.close(alloc, number, turn);
+        turn.count_unread();
     }
 
     /// Where a socket can go on and is not asked, since its holder has too much unread, sockets of that holder are closed that stand in the
     /// way. Those of other holders stay.
-    fn close_stalled(&mut self, alloc: Global, turn: &mut Turn) {
+    #[tactic(auto, using(crate::proofs::Goes::goes_then, crate::proofs::Goes::goes_none))]
+    fn close_stalled(&mut self, alloc: Global, turn: &mut Turn)
+        ensures { Goes S.disk R.Stream.contents R.Stream.remaining self.old.host.broker self.new.host.broker }
+    {
         for at in 0..self.ready.len() {
-            if let Some(number) = self.ready.get(at).copied()
-                && !self.may_ask(number)
-            {
-                let holder = self.shares.holder(number);
-                self.make_way(alloc, holder, turn);
-            }
+            self.make_way_for(alloc, at, turn);
         }
     }
 
+    /// The same for the one of these sockets at a place, where it may not be asked.
+    #[tactic(auto, using(crate::proofs::Goes::goes_then, crate::proofs::Goes::goes_none))]
+    fn make_way_for(&mut self, alloc: Global, at: usize, turn: &mut Turn)
+        ensures { Goes S.disk R.Stream.contents R.Stream.remaining self.old.host.broker self.new.host.broker }
+    {
+        let Some(number) = self.ready.get(at).copied() else {
+            return;
+        };
+        if self.may_ask(number) {
+            return;
+        }
+        let holder = self.shares.holder(number);
+        self.make_way(alloc, holder, turn);
+    }
+
     /// Closes those sockets of a holder that take nothing of their replies for longest, until it may ask for more.
-    fn make_way(&mut self, alloc: Global, holder: usize, turn: &mut Turn) {
+    #[tactic(auto, using(crate::proofs::Goes::goes_then, crate::proofs::Goes::goes_none))]
+    fn make_way(&mut self, alloc: Global, holder: usize, turn: &mut Turn)
+        ensures { Goes S.disk R.Stream.contents R.Stream.remaining self.old.host.broker self.new.host.broker }
+    {
         for _ in 0..self.limit {
             let millis = patience(self.replies.is_open(holder), self.reply_millis);
             let Some(number) = self.silences.stalled(holder, self.clock, millis) else {
                 break;
             };
-            if !self.write_again(alloc, number, turn) {
-                self.put_behind(alloc, number);
-                self.close(alloc, number, turn);
-                turn.count_unread();
-            }
+            self.close_stalling(alloc, number, turn);
         }
+    }
+
+    /// Closes the socket of a connection that makes others wait, unless it takes something of its reply now.
+    #[tactic(auto, using(crate::proofs::Goes::goes_then, crate::proofs::Goes::goes_none))]
+    fn close_stalling(&mut self, alloc: Global, number: u64, turn: &mut Turn)
+        ensures { Goes S.disk R.Stream.contents R.Stream.remaining self.old.host.broker self.new.host.broker }
+    {
+        if self.write_again(alloc, number, turn) {
+            return;
+        }
+        self.put_behind(alloc, number);
+        self.close(alloc, number, turn);
+        turn.count_unread();
     }
 
     /// Closes the sockets whose requests are not whole in time, and those that are idle for too long. What the system has of them is read
     /// before.
-    pub(super) fn close_late(&mut self, alloc: Global, turn: &mut Turn) {
+    #[tactic(auto, using(crate::proofs::Goes::goes_then, crate::proofs::Goes::goes_none))]
+    pub(super) fn close_late(&mut self, alloc: Global, turn: &mut Turn)
+        ensures { Goes S.disk R.Stream.contents R.Stream.remaining self.old.host.broker self.new.host.broker }
+    {
         self.close_slow(alloc, turn);
         self.close_idle(alloc, turn);
+        self.drop_ended(turn);
     }
 
     /// Closes the sockets whose requests are not whole in time. Where their holder has too much unread the edge reads none of them, and
     /// their time begins anew.
-    fn close_slow(&mut self, alloc: Global, turn: &mut Turn) {
+    #[tactic(auto, using(crate::proofs::Goes::goes_then, crate::proofs::Goes::goes_none))]
+    fn close_slow(&mut self, alloc: Global, turn: &mut Turn)
+        ensures { Goes S.disk R.Stream.contents R.Stream.remaining self.old.host.broker self.new.host.broker }
+    {
         for _ in 0..self.limit {
             let Some(number) = self.times.slow(self.clock) else {
                 break;
             };
-            if self.may_ask(number) || !self.put_off(number) {
-                self.close(alloc, number, turn);
-                turn.count_slow();
-            }
+            self.close_unless_put_off(alloc, number, turn);
         }
     }
 
+    /// Closes the socket of a connection, unless its holder has too much unread and its time can begin anew.
+    #[tactic(auto, using(crate::proofs::Goes::goes_then, crate::proofs::Goes::goes_none))]
+    fn close_unless_put_off(&mut self, alloc: Global, number: u64, turn: &mut Turn)
+        ensures { Goes S.disk R.Stream.contents R.Stream.remaining self.old.host.broker self.new.host.broker }
+    {
+        if !self.may_ask(number) && self.put_off(number) {
+            return;
+        }
+        self.close(alloc, number, turn);
+        turn.count_slow();
+    }
+
     /// A request has its whole time from now on.
-    fn put_off(&mut self, number: u64) -> bool {
+    fn put_off(&mut self, number: u64) -> bool
+        ensures { self.new.host ≡ self.old.host }
+    {
         let Some(place) = self.place_of(number) else {
             return false;
         };
@@ -119,20 +187,34 @@ impl<R: Net, S: Store, L: PartitionLog + Drop> Edge<R, S, L> {
     }
 
     /// Closes the sockets that are idle for too long.
-    fn close_idle(&mut self, alloc: Global, turn: &mut Turn) {
+    #[tactic(auto, using(crate::proofs::Goes::goes_then, crate::proofs::Goes::goes_none))]
+    fn close_idle(&mut self, alloc: Global, turn: &mut Turn)
+        ensures { Goes S.disk R.Stream.contents R.Stream.remaining self.old.host.broker self.new.host.broker }
+    {
         for _ in 0..self.limit {
             let Some(number) = self.times.take_looked(self.clock) else {
                 break;
             };
-            if !self.is_used(number) {
-                self.close(alloc, number, turn);
-                turn.count_idle();
-            }
+            self.close_unless_used(alloc, number, turn);
         }
     }
 
+    /// Closes the socket of a connection, unless it was used of late.
+    #[tactic(auto, using(crate::proofs::Goes::goes_then, crate::proofs::Goes::goes_none))]
+    fn close_unless_used(&mut self, alloc: Global, number: u64, turn: &mut Turn)
+        ensures { Goes S.disk R.Stream.contents R.Stream.remaining self.old.host.broker self.new.host.broker }
+    {
+        if self.is_used(number) {
+            return;
+        }
+        self.close(alloc, number, turn);
+        turn.count_idle();
+    }
+
     /// Whether a socket was used of late, or something is waited for, which is looked at again once it may be idle for too long.
-    fn is_used(&mut self, number: u64) -> bool {
+    fn is_used(&mut self, number: u64) -> bool
+        ensures { self.new.host ≡ self.old.host }
+    {
         let Some(place) = self.place_of(number) else {
             return true;
         };
@@ -159,7 +241,10 @@ impl<R: Net, S: Store, L: PartitionLog + Drop> Edge<R, S, L> {
 
     /// Writes what a socket takes now of its reply. It answers whether it took some: then its silence begins anew, or, where that cannot be
     /// noted, it is closed.
-    fn write_again(&mut self, alloc: Global, number: u64, turn: &mut Turn) -> bool {
+    #[tactic(auto, using(crate::proofs::Goes::goes_then, crate::proofs::Goes::goes_none))]
+    fn write_again(&mut self, alloc: Global, number: u64, turn: &mut Turn) -> bool
+        ensures { Goes S.disk R.Stream.contents R.Stream.remaining self.old.host.broker self.new.host.broker }
+    {
         let Some(place) = self.place_of(number) else {
             return false;
         };
@@ -176,17 +261,29 @@ impl<R: Net, S: Store, L: PartitionLog + Drop> Edge<R, S, L> {
         let holder = self.shares.holder(number);
         let booked = self.replies.set(number, holder, after as u64);
         let noted = note_reply(&mut self.silences, socket, holder, before, true, self.clock);
+        self.count_written(holder, before.saturating_sub(after));
         if booked.is_err() || noted.is_err() {
             self.close(alloc, number, turn);
-        } else {
-            self.queue(place);
+            return true;
         }
+        self.queue(place);
         true
+    }
+
+    /// Counts bytes that were written, for the tenant that has their socket.
+    fn count_written(&mut self, holder: usize, bytes: usize)
+        ensures { self.new.host ≡ self.old.host }
+    {
+        if let Some(traffic) = self.traffic.get_mut(holder) {
+            traffic.count_bytes(0, bytes as u64);
+        }
     }
 
     /// Where a socket is closed that made all wait, the others of its user that wait for their turn go behind all: else each of them
     /// could make all wait once more.
-    fn put_behind(&mut self, alloc: Global, number: u64) {
+    fn put_behind(&mut self, alloc: Global, number: u64)
+        ensures { self.new.host ≡ self.old.host }
+    {
         let Some(name) = self.name_of(alloc, number) else {
             return;
         };
@@ -199,31 +296,44 @@ impl<R: Net, S: Store, L: PartitionLog + Drop> Edge<R, S, L> {
     }
 
     /// The name of the user of a connection, which is forgotten.
-    fn name_of(&mut self, alloc: Global, number: u64) -> Option<String> {
+    fn name_of(&mut self, alloc: Global, number: u64) -> Option<String>
+        ensures { self.new.host ≡ self.old.host }
+    {
         let place = self.place_of(number)?;
         let socket = self.sockets.get_mut(place)?;
         Some(socket.take_login(alloc))
     }
 
     /// Those of the connections whose user has the name are next, or those whose user has not.
-    fn queue_those(&mut self, numbers: &[u64], name: &str, has_name: bool) {
+    fn queue_those(&mut self, numbers: &[u64], name: &str, has_name: bool)
+        ensures { self.new.host ≡ self.old.host }
+    {
         for number in numbers {
-            if let Some(place) = self.place_of(*number)
-                && let Some(socket) = self.sockets.get(place)
-                && socket.is_of(name) == has_name
-            {
-                // there is room for each socket once
-                let _ = self.ready.push(*number);
-            }
+            self.queue_one(*number, name, has_name);
+        }
+    }
+
+    /// The same for one connection.
+    fn queue_one(&mut self, number: u64, name: &str, has_name: bool)
+        ensures { self.new.host ≡ self.old.host }
+    {
+        if let Some(place) = self.place_of(number)
+            && let Some(socket) = self.sockets.get(place)
+            && socket.is_of(name) == has_name
+        {
+            // there is room for each socket once
+            let _ = self.ready.push(number);
         }
     }
 
     /// Closes the socket of a connection.
+    #[tactic(auto, using(crate::proofs::Goes::goes_then, crate::proofs::Goes::goes_none))]
     pub(super) fn close(&mut self, alloc: Global, number: u64, turn: &mut Turn)
         ensures commits { self.new.host.commits ≡ self.old.host.commits }
         ensures released { holder_of number self.new.shares.sockets ≡ None }
         ensures replies { self.new.replies ≡ let_go number self.old.replies }
         ensures inputs { self.new.inputs ≡ let_go number self.old.inputs }
+        ensures goes { Goes S.disk R.Stream.contents R.Stream.remaining self.old.host.broker self.new.host.broker }
     {
         self.strangers.forget(number);
         self.shares.release(number);
@@ -239,16 +349,22 @@ impl<R: Net, S: Store, L: PartitionLog + Drop> Edge<R, S, L> {
         }
     }
 
-    /// The sockets whose connections are closed are kept no longer.
-    pub(super) fn drop_ended(&mut self) {
-        self.sockets.retain(|socket| !socket.is_ended());
+    /// Where a turn closed some, the sockets whose connections are closed are kept no longer.
+    fn drop_ended(&mut self, turn: &Turn)
+        ensures { self.new.host ≡ self.old.host }
+    {
+        if turn.closed > 0 {
+            self.sockets.retain(|socket| !socket.is_ended());
+        }
     }
 
     /// Makes room for one more socket where as many are open as may be, or as many that have not logged in: the oldest of those is closed.
     /// Where there is none, there is no room.
+    #[tactic(auto, using(crate::proofs::Goes::goes_then, crate::proofs::Goes::goes_none))]
     pub(super) fn make_room(&mut self, alloc: Global, turn: &mut Turn) -> bool
         ensures sockets { OnTrue result (vec_len self.new.sockets < self.new.limit) }
         ensures strangers { OnTrue result (count_of self.new.shares.tenants self.new.shares.sockets < self.new.stranger_limit) }
+        ensures goes { Goes S.disk R.Stream.contents R.Stream.remaining self.old.host.broker self.new.host.broker }
     {
         if self.has_room() {
             return true;
@@ -258,10 +374,17 @@ impl<R: Net, S: Store, L: PartitionLog + Drop> Edge<R, S, L> {
         };
         self.close(alloc, number, turn);
         turn.count_stranger();
+        self.remove(number);
+        self.has_room()
+    }
+
+    /// The socket of a connection is kept no longer.
+    fn remove(&mut self, number: u64)
+        ensures { self.new.host ≡ self.old.host }
+    {
         if let Some(place) = self.place_of(number) {
             self.sockets.remove(place);
         }
-        self.has_room()
     }
 
     /// Whether one more socket may be open that has not logged in.

@@ -1,9 +1,11 @@
 //! How an edge serves its sockets.
 
-ghost use Rattle.std.specs.Prelude.{◌≡◌, ◌≢◌, ◌-◌, min, true, false, Some, IfErr, IfSome, slice_get, vec_len};
+ghost use Rattle.std.specs.Prelude.{◌≡◌, ◌≢◌, ◌-◌, min, true, false, Some, IfErr, IfSome, slice_get, slice_set, vec_len};
+ghost use Rattle.kb_node.specs.Moves.{Goes};
 ghost use Rattle.kb_node.specs.Commits.{may_tell, tells_at_once};
 ghost use Rattle.kb_shares.specs.Ledger.{set_to};
 ghost use Rattle.kb_shares.specs.Turns.{joined};
+ghost use Rattle.kb_node.specs.TenantTraffic.{with_traffic};
 ghost use Rattle.kb_node.specs.Replies.{kept_for, place_of};
 
 use crate::closed::CLOSED;
@@ -59,19 +61,31 @@ impl Before {
 
 impl<R: Net, S: Store, L: PartitionLog + Drop> Edge<R, S, L> {
     /// The sockets that can go on are served, a request at a time, tenants in turn. What is said to them goes out at once.
+    #[tactic(auto, using(crate::proofs::Goes::goes_then, crate::proofs::Goes::goes_none))]
     pub(super) fn serve_at_once(&mut self, alloc: Global, turn: &mut Turn)
         requires { tells_at_once self.old.host.commits ≡ true }
+        ensures { Goes S.disk R.Stream.contents R.Stream.remaining self.old.host.broker self.new.host.broker }
     {
         self.line_up(alloc, true);
         for _ in 0..ROUNDS {
             if self.line.is_empty() {
                 break;
             }
-            self.serve(alloc, turn);
-            self.hear_speakers();
-            self.listen(Duration::ZERO);
-            self.line_up(alloc, false);
+            self.serve_round(alloc, turn);
         }
+    }
+
+    /// A round of these. Then those stand in line, too, who can go on now.
+    #[tactic(auto, using(crate::proofs::Goes::goes_then, crate::proofs::Goes::goes_none))]
+    fn serve_round(&mut self, alloc: Global, turn: &mut Turn)
+        requires { tells_at_once self.old.host.commits ≡ true }
+        ensures commits { tells_at_once self.new.host.commits ≡ true }
+        ensures goes { Goes S.disk R.Stream.contents R.Stream.remaining self.old.host.broker self.new.host.broker }
+    {
+        self.serve(alloc, turn);
+        self.hear_speakers();
+        self.listen(Duration::ZERO);
+        self.line_up(alloc, false);
     }
 
     /// The sockets that can go on stand in line for their turns, all of them or those alone that may be asked. Where there is no memory for
@@ -105,12 +119,14 @@ impl<R: Net, S: Store, L: PartitionLog + Drop> Edge<R, S, L> {
     /// A request of each socket whose turn it is is handed on, one commit makes all of them last, and then what is said goes out.
     ///
     /// An `Err` is the commit's: then nothing goes out.
+    #[tactic(auto, using(crate::proofs::Goes::goes_then, crate::proofs::Goes::goes_none, crate::proofs::Goes::goes_committed))]
     pub(super) fn serve_together(
         &mut self,
         alloc: Global,
         turn: &mut Turn,
     ) -> Result<(), StoreFault>
         ensures refused { IfErr result (λ fault. self.new.host.commits.fault ≡ Some fault) }
+        ensures goes { Goes S.disk R.Stream.contents R.Stream.remaining self.old.host.broker self.new.host.broker }
     {
         self.hand_on(alloc, turn);
         self.hear_speakers();
@@ -121,9 +137,11 @@ impl<R: Net, S: Store, L: PartitionLog + Drop> Edge<R, S, L> {
     }
 
     /// The next sockets in line are served once, a round of them.
+    #[tactic(auto, using(crate::proofs::Goes::goes_then, crate::proofs::Goes::goes_none))]
     fn serve(&mut self, alloc: Global, turn: &mut Turn)
         requires { tells_at_once self.old.host.commits ≡ true }
-        ensures { tells_at_once self.new.host.commits ≡ true }
+        ensures commits { tells_at_once self.new.host.commits ≡ true }
+        ensures goes { Goes S.disk R.Stream.contents R.Stream.remaining self.old.host.broker self.new.host.broker }
     {
         for _ in 0..ROUND {
             let Some(number) = self.line.next() else {
@@ -134,9 +152,11 @@ impl<R: Net, S: Store, L: PartitionLog + Drop> Edge<R, S, L> {
     }
 
     /// Serves the socket of a connection once.
+    #[tactic(auto, using(crate::proofs::Goes::goes_then, crate::proofs::Goes::goes_none, crate::proofs::Goes::goes_carried))]
     fn serve_one(&mut self, alloc: Global, number: u64, turn: &mut Turn)
         requires { tells_at_once self.old.host.commits ≡ true }
-        ensures { tells_at_once self.new.host.commits ≡ true }
+        ensures commits { tells_at_once self.new.host.commits ≡ true }
+        ensures goes { Goes S.disk R.Stream.contents R.Stream.remaining self.old.host.broker self.new.host.broker }
     {
         let may_ask = self.may_ask(number);
         let most = self.longest_request(number);
@@ -159,12 +179,16 @@ impl<R: Net, S: Store, L: PartitionLog + Drop> Edge<R, S, L> {
             most,
             turn,
         );
+        self.count(place, before, turn);
         self.note(alloc, place, before, next, turn);
     }
 
     /// Hands on a request of the next sockets in line, while so little of its holder is awaited that it may ask for more. All are told,
     /// and those that were not asked come first in the next turn.
-    fn hand_on(&mut self, alloc: Global, turn: &mut Turn) {
+    #[tactic(auto, using(crate::proofs::Goes::goes_then, crate::proofs::Goes::goes_none))]
+    fn hand_on(&mut self, alloc: Global, turn: &mut Turn)
+        ensures { Goes S.disk R.Stream.contents R.Stream.remaining self.old.host.broker self.new.host.broker }
+    {
         self.line_up(alloc, true);
         for _ in 0..TOGETHER {
             let Some(number) = self.line.next() else {
@@ -191,7 +215,10 @@ impl<R: Net, S: Store, L: PartitionLog + Drop> Edge<R, S, L> {
     }
 
     /// Hands on a request of the socket of a connection, where it may ask.
-    fn hand_on_one(&mut self, alloc: Global, number: u64, may_ask: bool, turn: &mut Turn) {
+    #[tactic(auto, using(crate::proofs::Goes::goes_then, crate::proofs::Goes::goes_none, crate::proofs::Goes::goes_carried))]
+    fn hand_on_one(&mut self, alloc: Global, number: u64, may_ask: bool, turn: &mut Turn)
+        ensures { Goes S.disk R.Stream.contents R.Stream.remaining self.old.host.broker self.new.host.broker }
+    {
         let most = self.longest_request(number);
         let Some(place) = self.place_of(number) else {
             return;
@@ -212,15 +239,19 @@ impl<R: Net, S: Store, L: PartitionLog + Drop> Edge<R, S, L> {
             most,
             turn,
         );
-        if self.note_written(alloc, place, before, turn) {
-            self.note_input(alloc, place, before, turn);
+        self.count(place, before, turn);
+        if !self.note_written(alloc, place, before, turn) {
+            return;
         }
+        self.note_input(alloc, place, before, turn);
     }
 
     /// Each socket that can go on and was not asked is told what there is to say to it.
+    #[tactic(auto, using(crate::proofs::Goes::goes_then, crate::proofs::Goes::goes_none))]
     fn tell(&mut self, alloc: Global, turn: &mut Turn)
         requires { may_tell self.old.host.commits ≡ true }
-        ensures { self.new.host.commits ≡ self.old.host.commits }
+        ensures commits { self.new.host.commits ≡ self.old.host.commits }
+        ensures goes { Goes S.disk R.Stream.contents R.Stream.remaining self.old.host.broker self.new.host.broker }
     {
         let spare = mem::replace(&mut self.spare, Vec::new(alloc));
         let mut round = mem::replace(&mut self.ready, spare);
@@ -232,8 +263,10 @@ impl<R: Net, S: Store, L: PartitionLog + Drop> Edge<R, S, L> {
     }
 
     /// Each socket that was asked is told what there is to say to it.
+    #[tactic(auto, using(crate::proofs::Goes::goes_then, crate::proofs::Goes::goes_none))]
     fn tell_asked(&mut self, alloc: Global, turn: &mut Turn)
         requires { may_tell self.old.host.commits ≡ true }
+        ensures { Goes S.disk R.Stream.contents R.Stream.remaining self.old.host.broker self.new.host.broker }
     {
         let mut round = mem::replace(&mut self.asked, Vec::new(alloc));
         for number in &round {
@@ -244,9 +277,11 @@ impl<R: Net, S: Store, L: PartitionLog + Drop> Edge<R, S, L> {
     }
 
     /// Tells the socket of a connection what there is to say to it.
+    #[tactic(auto, using(crate::proofs::Goes::goes_then, crate::proofs::Goes::goes_none, crate::proofs::Goes::goes_carried))]
     fn tell_one(&mut self, alloc: Global, number: u64, turn: &mut Turn)
         requires { may_tell self.old.host.commits ≡ true }
-        ensures { self.new.host.commits ≡ self.old.host.commits }
+        ensures commits { self.new.host.commits ≡ self.old.host.commits }
+        ensures goes { Goes S.disk R.Stream.contents R.Stream.remaining self.old.host.broker self.new.host.broker }
     {
         let Some(place) = self.place_of(number) else {
             return;
@@ -259,12 +294,68 @@ impl<R: Net, S: Store, L: PartitionLog + Drop> Edge<R, S, L> {
         }
         let before = Before::of(socket, turn);
         let next = socket.tell(alloc, &mut self.host, turn);
+        self.count(place, before, turn);
         self.note(alloc, place, before, next, turn);
     }
 
+    /// Counts for its tenant what was read and written of the socket at a place since it was served, and its request where the API key of
+    /// one came. One that was not told before that it has logged in is counted for nobody.
+    fn count(&mut self, place: usize, before: Before, turn: &Turn)
+        ensures host { self.new.host ≡ self.old.host }
+        ensures sockets { vec_len self.new.sockets ≡ vec_len self.old.sockets }
+        ensures stranger { before.is_stranger ≡ true → self.new.traffic ≡ self.old.traffic }
+        ensures counted { before.is_stranger ≡ false → IfSome (slice_get self.old.sockets.items place)
+            (λ s. let holder = place_of s.connection self.old.shares in IfSome (slice_get self.old.traffic.items holder)
+            (λ t. self.new.traffic.items ≡ slice_set self.old.traffic.items holder
+            (with_traffic s.heading.key (turn.now.read - before.read) (turn.now.written - before.written) t))) }
+    {
+        let Some(socket) = self.sockets.get_mut(place) else {
+            return;
+        };
+        let key = socket.take_key();
+        if before.is_stranger {
+            return;
+        }
+        let holder = self.shares.holder(socket.connection());
+        let Some(traffic) = self.traffic.get_mut(holder) else {
+            return;
+        };
+        if let Some(key) = key {
+            traffic.count_request(key);
+        }
+        let read = turn.read.saturating_sub(before.read);
+        traffic.count_bytes(read, turn.written.saturating_sub(before.written));
+    }
+
     /// Notes what became of the socket at a place, which was served: whether its login failed, and whether it can go on.
+    #[tactic(auto, using(crate::proofs::Goes::goes_then, crate::proofs::Goes::goes_none))]
     fn note(&mut self, alloc: Global, place: usize, before: Before, next: Next, turn: &mut Turn)
-        ensures { self.new.host.commits ≡ self.old.host.commits }
+        ensures commits { self.new.host.commits ≡ self.old.host.commits }
+        ensures goes { Goes S.disk R.Stream.contents R.Stream.remaining self.old.host.broker self.new.host.broker }
+    {
+        self.note_served(alloc, place, before, turn);
+        if !self.note_written(alloc, place, before, turn) {
+            return;
+        }
+        if !self.note_input(alloc, place, before, turn) {
+            return;
+        }
+        self.queue_next(place, next);
+    }
+
+    /// The socket at a place can go on, where it waits for nothing.
+    fn queue_next(&mut self, place: usize, next: Next)
+        ensures { self.new.host ≡ self.old.host }
+    {
+        if next == Next::Turn {
+            self.queue(place);
+        }
+    }
+
+    /// Notes whether the login of the socket at a place failed, whether the broker shut its connection, and whether it has logged in or
+    /// ended.
+    fn note_served(&mut self, alloc: Global, place: usize, before: Before, turn: &Turn)
+        ensures { self.new.host ≡ self.old.host }
     {
         let Some(socket) = self.sockets.get_mut(place) else {
             return;
@@ -296,21 +387,17 @@ impl<R: Net, S: Store, L: PartitionLog + Drop> Edge<R, S, L> {
             socket.begun = None;
             socket.looked = None;
         }
-        if self.note_written(alloc, place, before, turn)
-            && self.note_input(alloc, place, before, turn)
-            && next == Next::Turn
-        {
-            self.queue(place);
-        }
     }
 
     /// Notes what the socket at a place has still to be written, for its own holder. It answers false where that cannot be noted, and it is
     /// closed.
+    #[tactic(auto, using(crate::proofs::Goes::goes_then, crate::proofs::Goes::goes_none))]
     fn note_written(&mut self, alloc: Global, place: usize, before: Before, turn: &mut Turn) -> bool
         ensures commits { self.new.host.commits ≡ self.old.host.commits }
         ensures booked { result ≡ true → IfSome (slice_get self.old.sockets.items place) (λ s. self.new.replies
             ≡ set_to s.connection (place_of s.connection self.old.shares)
             (kept_for (vec_len s.output - s.written) before.promised) self.old.replies) }
+        ensures goes { Goes S.disk R.Stream.contents R.Stream.remaining self.old.host.broker self.new.host.broker }
     {
         let Some(socket) = self.sockets.get_mut(place) else {
             return false;
@@ -336,10 +423,12 @@ impl<R: Net, S: Store, L: PartitionLog + Drop> Edge<R, S, L> {
 
     /// Notes how many bytes the request has that the socket at a place has begun, for its own holder, and since when. It answers false
     /// where that cannot be noted, and it is closed.
+    #[tactic(auto, using(crate::proofs::Goes::goes_then, crate::proofs::Goes::goes_none))]
     fn note_input(&mut self, alloc: Global, place: usize, before: Before, turn: &mut Turn) -> bool
         ensures commits { self.new.host.commits ≡ self.old.host.commits }
         ensures booked { result ≡ true → IfSome (slice_get self.old.sockets.items place) (λ s. self.new.inputs
             ≡ set_to s.connection (place_of s.connection self.old.shares) s.input.progress.size self.old.inputs) }
+        ensures goes { Goes S.disk R.Stream.contents R.Stream.remaining self.old.host.broker self.new.host.broker }
     {
         let Some(socket) = self.sockets.get_mut(place) else {
             return false;

@@ -6,6 +6,7 @@ ghost use Rattle.kb_node.specs.Replies.{place_of};
 
 use crate::doors::DOOR;
 use crate::edge::Edge;
+use crate::edge::beside::BESIDE;
 use kb_log::PartitionLog;
 use kb_store::Store;
 use mio::event::Event;
@@ -111,6 +112,10 @@ impl<R: Net, S: Store, L: PartitionLog + Drop> Edge<R, S, L> {
         let number = event.token().0 as u64;
         if number == DOOR {
             self.can_accept = true;
+            return;
+        }
+        if number == BESIDE {
+            self.is_beside_ready = true;
             return;
         }
         if let Some(place) = self.place_of(number)

@@ -73,6 +73,7 @@ impl<T: Read + Write + Drop> Socket<T> {
             let count = self.input.advance(room);
             let piece = self.input.passed(count);
             note_login(alloc, &mut self.login, piece, is_bare, self.is_known);
+            self.heading.note(is_begun, is_bare, piece);
             host.input(alloc, self.connection, piece);
             let reserve = reply_reserve(piece, is_begun);
             self.is_anew = self.is_anew || !self.input.is_begun();
@@ -144,6 +145,7 @@ impl<T: Read + Write + Drop> Socket<T> {
             return 0;
         }
         note_login(alloc, &mut self.login, handed, is_bare, self.is_known);
+        self.heading.note(is_begun, is_bare, handed);
         host.input(alloc, self.connection, handed);
         self.is_anew = self.is_anew || !self.input.is_begun();
         reply_reserve(handed, is_begun)

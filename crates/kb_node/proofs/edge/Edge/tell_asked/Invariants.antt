@@ -1,7 +1,8 @@
 use Rattle.std.proofs.Common.{◌≡◌, true}
 use Rattle.kb_node.specs.Commits.{may_tell}
+use Rattle.kb_node.specs.Moves.{Goes}
 use Rattle.kb_node.proofs.edge.Edge.tell_asked.Given as goal
 
--- replies may go out
+-- replies may go out, and deeds without a moment lead here
 abbrev pub invariant-loop-number : goal.invariant-loop-number
-invariant-loop-number g l = may_tell l.self.host.commits ≡ true
+invariant-loop-number g l = (may_tell l.self.host.commits ≡ true) × Goes g.S.Store.disk g.R.Stream.Write.contents g.R.Stream.Read.remaining l.fn.self.host.broker l.self.host.broker

@@ -1,0 +1,6 @@
+use Rattle.kb_node.specs.Moves.{Goes}
+use Rattle.kb_node.proofs.edge.Edge.close_strangers.Given as goal
+
+-- deeds without a moment lead here
+abbrev pub invariant-loop : goal.invariant-loop
+invariant-loop g l = Goes g.S.Store.disk g.R.Stream.Write.contents g.R.Stream.Read.remaining l.fn.self.host.broker l.self.host.broker

@@ -262,7 +262,8 @@ impl<R: Net, S: Store, L: PartitionLog + Drop> Edge<R, S, L> {
         ensures ok { OnOk result (self.new.traffic.items
             ≡ replicate tenants (record { requests = replicate 64 0; request_bytes = 0; response_bytes = 0 })) }
         ensures err { OnErr result (self.new ≡ self.old) }
-        ensures rest { self.new ≡ record self.old { traffic = self.new.traffic } }
+        ensures host { self.new.host ≡ self.old.host }
+        ensures sockets { self.new.sockets ≡ self.old.sockets }
     {
         self.traffic = vec![in alloc; TenantTraffic::none(); tenants]?;
         Ok(())

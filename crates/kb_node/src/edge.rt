@@ -1,6 +1,7 @@
 //! A broker on a network. A turn waits for no peer.
 
-ghost use Rattle.std.specs.Prelude.{◌≡◌, ◌≤◌, ◌<◌, ◌*◌, ◌^◌, Err, Some, IfOk, IfErr, IfSome, OnErr, OnOk, option_map, replicate, slice_get, vec_len};
+ghost use Rattle.std.specs.Prelude.{◌≡◌, ◌≤◌, ◌<◌, ◌*◌, ◌^◌, Err, Some, IfOk, IfErr, IfSome, OnErr, OnOk};
+ghost use Rattle.std.specs.Prelude.{option_map, replicate, slice_get, vec_len};
 
 mod beside;
 mod closing;
@@ -269,8 +270,8 @@ impl<R: Net, S: Store, L: PartitionLog + Drop> Edge<R, S, L> {
         Ok(())
     }
 
-    /// What was counted of the tenant at a place since [`Edge::count_traffic`]: what its connections ask, and what they are told. The request
-    /// that logs in is not counted, nor its reply and what comes before it.
+    /// What was counted of the tenant at a place since [`Edge::count_traffic`]: what its connections ask, and what they are told. The
+    /// request that logs in is not counted, nor its reply and what comes before it.
     pub fn traffic_of(&self, place: usize) -> Option<&TenantTraffic>
         ensures { option_map (λ t. t.now) result ≡ slice_get self.now.traffic.items place }
     {

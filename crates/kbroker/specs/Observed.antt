@@ -1,5 +1,5 @@
 -- What pages of metrics tell of a broker.
-use Rattle.std.specs.Prelude.{◌≡◌, ◌++◌, ℕ, List, [], ◌∷◌, Bool, codes, if◌then◌else◌, length, Option, None, Some, option_map, slice_get}
+use Rattle.std.specs.Prelude.{◌≡◌, ◌++◌, ℕ, List, [], ◌∷◌, length, Option, None, Some, option_map, slice_get}
 use Rattle.std.specs.List.{flat_map, range_with_len}
 use Rattle.kb_isolation_spec.specs.Broker.{BrokerState}
 use Rattle.kb_isolation_spec.specs.Machine.{Line}
@@ -52,9 +52,3 @@ observed_from b traffic = flat_map (observed_slot b traffic) (range_with_len 0 (
 -- a text that begins with another
 abbrev pub BeginsWith : List ℕ → List ℕ → Type 0
 BeginsWith front text = (rest : List ℕ) × (text ≡ front ++ rest)
-
--- a line for each cause why the broker is not ready: whether the store refused something of late, and whether all sockets are open
-abbrev pub causes_text : Bool → Bool → List ℕ
-causes_text failed full =
-    (if failed then codes "the store refused a call in the last minute\n" else [])
-    ++ (if full then codes "as many sockets are open as there may be\n" else [])

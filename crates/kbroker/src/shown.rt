@@ -1,10 +1,11 @@
 //! What is on the pages of a broker that serves.
 
-ghost use Rattle.std.specs.Prelude.{◌≡◌, ◌++◌, [], IfOk, OnOk, map, option_map, slice_get};
+ghost use Rattle.std.specs.Prelude.{◌≡◌, ◌++◌, [], IfOk, OnOk, map, nat_le, option_map, slice_get, vec_len};
 ghost use Rattle.kb_store.specs.Disk.{Files};
 ghost use Rattle.kb_metrics.specs.Gauges.{tenants_text};
 ghost use Rattle.kb_metrics.specs.View.{observed};
-ghost use Rattle.kbroker.specs.Observed.{BeginsWith, causes_text, observed_at, observed_from, observed_slot};
+ghost use Rattle.kbroker.specs.Observed.{BeginsWith, observed_at, observed_from, observed_slot};
+ghost use Rattle.kbroker.specs.Causes.{causes_text, failed_lately};
 ghost use Rattle.kbroker.specs.Observed.{request_bytes_of, requests_of, response_bytes_of};
 
 use crate::history::History;
@@ -37,7 +38,8 @@ impl<'a, R: Net, S: Store, L: PartitionLog + Drop> Source for Shown<'a, R, S, L>
     // Of the other pages nothing is said here: what is written there is `kb_metrics`'s contract.
     ghost told = { λ shown. record {
       metrics = BeginsWith (tenants_text (observed_from shown.edge.now.host.broker.state shown.edge.now.traffic.items));
-      causes = λ text. Unit {0};
+      causes = λ text. text ≡ causes_text (failed_lately shown.history.now.totals.failed shown.now)
+        (nat_le shown.edge.now.limit (vec_len shown.edge.now.sockets));
       status = λ text. Unit {0};
       partitions = λ name. λ text. Unit {0};
       tenant = λ name. λ text. Unit {0};

@@ -4,9 +4,9 @@
     trials/metrics.py KBROKER
 
 Two tenants use the same names. Each sample is read by the parser of `python3-prometheus-client`, where that is there, and compared with the
-load: requests by API and bytes are those that the clients counted. Groups have ids with a quote, a backslash, a line feed and a tag. Then wrong paths, methods, bodies, long heads and tokens are tried, and what
-a broker says of wrong settings. Last, 1,000 slow and garbled clients come while a producer asks, and a page is asked for beside them. It prints
-how many of the answers were wrong.
+load: requests by API and bytes are those that the clients counted. Groups have ids with a quote, a backslash, a line feed and a tag. Then the
+status pages are read, and wrong paths, methods, bodies, long heads and tokens are tried, and what a broker says of wrong settings. Last, 1,000
+slow and garbled clients come while a producer asks, and a page is asked for beside them. It prints how many of the answers were wrong.
 """
 
 import os
@@ -30,13 +30,13 @@ def page(port, words, rest=b"", token=None, most=20):
     with socket.create_connection(("127.0.0.1", port), timeout=most) as it:
         field = f"authorization: Bearer {token}\r\n" if token else ""
         it.sendall(f"{words} HTTP/1.1\r\nhost: x\r\n{field}".encode() + (rest or b"\r\n"))
-        got = b""
+        pieces = []
         try:
-            while piece := it.recv(65_536):
-                got += piece
+            while piece := it.recv(1 << 20):
+                pieces.append(piece)
         except OSError:
             pass
-    head, _, body = got.partition(b"\r\n\r\n")
+    head, _, body = b"".join(pieces).partition(b"\r\n\r\n")
     lines = head.decode().split("\r\n")
     if not lines[0]:
         return 0, {}, b""

@@ -266,14 +266,15 @@ impl<R: Net, S: Store, L: PartitionLog + Drop> Edge<R, S, L> {
         ensures ok { OnOk result (self.new.traffic.items
             ≡ replicate tenants (record { requests = replicate 64 0; request_bytes = 0; response_bytes = 0 })) }
         ensures err { OnErr result (self.new ≡ self.old) }
-        ensures rest { self.new ≡ record self.old { traffic = self.new.traffic } }
+        ensures host { self.new.host ≡ self.old.host }
+        ensures sockets { self.new.sockets ≡ self.old.sockets }
     {
         self.traffic = vec![in alloc; TenantTraffic::none(); tenants]?;
         Ok(())
     }
 
-    /// What was counted of the tenant at a place since [`Edge::count_traffic`]: what its connections ask, and what they are told. The request
-    /// that logs in is not counted, nor its reply and what comes before it.
+    /// What was counted of the tenant at a place since [`Edge::count_traffic`]: what its connections ask, and what they are told. The
+    /// request that logs in is not counted, nor its reply and what comes before it.
     pub fn traffic_of(&self, place: usize) -> Option<&TenantTraffic>
         ensures { option_map (λ t. t.now) result ≡ slice_get self.now.traffic.items place }
     {

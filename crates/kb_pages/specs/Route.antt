@@ -1,5 +1,5 @@
 -- Which page a request gets.
-use Rattle.std.specs.Prelude.{ℕ, List, [], ◌++◌, codes, drop, length, take, Bool, true, false, not, if◌then◌else◌, Option, None, Some}
+use Rattle.std.specs.Prelude.{ℕ, List, [], ◌++◌, ◌&&◌, codes, drop, length, nat_le, take, Bool, true, false, not, if◌then◌else◌, Option, None, Some}
 use Rattle.std.specs.Str.{bytes_eq}
 use Rattle.percent_encoding.specs.Percent.{percent_decode}
 use Rattle.kb_pages.specs.declared.route.Page.{Page}
@@ -25,17 +25,17 @@ by_get method page = only_get method page
 
 -- a query names a tenant: `tenant=NAME`
 abbrev pub is_named : List ℕ → Bool
-is_named query = bytes_eq (take 7 query) (codes "tenant=")
+is_named query = nat_le 7 (length query) && bytes_eq (take 7 query) (codes "tenant=")
 
 -- a page without a query, or that of a tenant where the query names one
 abbrev pub named : Option (List ℕ) → Page → Page → Page
-named None page of_tenant = page
-named (Some query) page of_tenant = if is_named query then of_tenant else NotFound
+named None page other = page
+named (Some query) page other = if is_named query then other else NotFound
 
--- the name in a query, percent-decoded
+-- the name in a query that names a tenant, percent-decoded
 abbrev pub named_in : Option (List ℕ) → List ℕ
 named_in None = []
-named_in (Some query) = percent_decode (drop 7 query)
+named_in (Some query) = if is_named query then percent_decode (drop 7 query) else []
 
 -- the page of a path and a query
 abbrev pub page_at : List ℕ → Option (List ℕ) → Page

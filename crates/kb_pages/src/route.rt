@@ -2,13 +2,10 @@
 
 ghost use Rattle.std.specs.Prelude.{◌≡◌, IfOk, option_copied, option_map};
 ghost use Rattle.std.specs.Str.{bytes_eq};
-ghost use Rattle.kb_pages.specs.Route.{authorization, by_get, may_see, named, named_in, only_get, page_at, page_for};
+ghost use Rattle.kb_pages.specs.Route.{authorization, by_get, is_named, may_see, named, named_in, only_get, page_at, page_for};
 
 use percent_encoding::percent_decode;
 use std::alloc::{AllocError, Global};
-
-/// What stands before the name of the tenant in a query.
-const TENANT: &str = "tenant=";
 
 /// What a request gets.
 #[derive(Clone, Copy, Debug, PartialEq, Eq)]
@@ -85,9 +82,17 @@ fn named(query: Option<&str>, page: Page, of_tenant: Page) -> Page
 {
     match query {
         None => page,
-        Some(query) if query.starts_with(TENANT) => of_tenant,
+        Some(query) if is_named(query) => of_tenant,
         Some(_) => Page::NotFound,
     }
+}
+
+/// Whether a query names a tenant: `tenant=NAME`.
+fn is_named(query: &str) -> bool
+    ensures { result ≡ is_named query.now }
+{
+    let bytes = query.as_bytes();
+    bytes.len() >= 7 && &bytes[..7] == b"tenant=".as_slice()
 }
 
 /// A page that is there is asked for by GET.
@@ -110,15 +115,15 @@ fn only_get(method: &str, page: Page) -> Page
     }
 }
 
-/// The name in a query that names a tenant, with what stands percent-encoded in it (RFC 3986, section 2.1).
+/// The name in a query that names a tenant, percent-decoded (RFC 3986, section 2.1): none in any other.
 pub fn name_in(alloc: Global, query: Option<&str>) -> Result<Vec<u8>, AllocError>
     ensures { IfOk result (λ name. name.items ≡ named_in (option_copied query.entry)) }
 {
     let mut name = Vec::new(alloc);
-    if let Some(query) = query {
-        let bytes = query.as_bytes();
-        let text = bytes.get(TENANT.len()..).unwrap_or(&[]);
-        percent_decode(text).append_to(&mut name)?;
+    if let Some(query) = query
+        && is_named(query)
+    {
+        percent_decode(&query.as_bytes()[7..]).append_to(&mut name)?;
     }
     Ok(name)
 }

@@ -2,8 +2,8 @@
 
 ghost use Rattle.std.specs.Prelude.{◌≡◌, [], ◌∷◌, OnOk, IfOk, codes, option_copied, option_map, true, false};
 ghost use Rattle.http_server.specs.Response.{IsBlank, IsResponse};
-ghost use Rattle.kb_pages.specs.Answer.{IsAnswer, IsHtml, IsNoMemory, IsOfTenant, IsReadiness, IsText, IsTextWith, IsWhole, Told};
-ghost use Rattle.kb_pages.specs.Answer.{allow_field, close_field, text_field, token_field};
+ghost use Rattle.kb_pages.specs.Answer.{IsAnswer, IsHtml, IsNoMemory, IsOfTenant, IsPage, IsReadiness, IsText, IsTextWith, IsWhole, Told};
+ghost use Rattle.kb_pages.specs.Answer.{allow_field, close_field, page_of, text_field, token_field};
 ghost use Rattle.kb_pages.specs.Route.{named_in};
 
 use crate::route::{Page, name_in, page_for};
@@ -78,28 +78,55 @@ impl<'a, S: Source> Service for Site<'a, S> {
         request: &Request<Bytes>,
         response: &mut Response,
     ) -> Result<(), AllocError> {
-        let asked = match self.asked {
-            Some(field) => Some(field.as_slice()),
-            None => None,
-        };
-        let given = match request.headers().get(header::AUTHORIZATION) {
-            Some(value) => Some(value.as_bytes()),
-            None => None,
-        };
-        let method = request.method().as_str();
-        let path = request.uri().path();
+        let page = page_of(self.asked, request);
         let query = request.uri().query();
-        match page_for(asked, given, method, path, query) {
-            Page::Health => fill(response, StatusCode::OK, b"ok\n"),
-            Page::Ready => fill_ready(self.alloc, self.source, response),
-            Page::Metrics => fill_metrics(self.alloc, self.source, response),
-            Page::Partitions => fill_partitions(self.alloc, self.source, query, response),
-            Page::Status => fill_status(self.alloc, self.source, response),
-            Page::Tenant => fill_tenant(self.alloc, self.source, query, response),
-            Page::Unauthorized => fill_unauthorized(response),
-            Page::NotFound => fill(response, StatusCode::NOT_FOUND, b"no such page\n"),
-            Page::NotAllowed => fill_not_allowed(response),
-        }
+        fill_page(self.alloc, self.source, page, query, response)
+    }
+}
+
+/// The page that a request gets, where that field is asked for.
+fn page_of(asked: &Option<Vec<u8>>, request: &Request<Bytes>) -> Page
+    ensures { result ≡ page_of (option_map (λ f. f.items) asked.now) request.now }
+{
+    let asked = match asked {
+        Some(field) => Some(field.as_slice()),
+        None => None,
+    };
+    let given = match request.headers().get(header::AUTHORIZATION) {
+        Some(value) => Some(value.as_bytes()),
+        None => None,
+    };
+    let uri = request.uri();
+    page_for(
+        asked,
+        given,
+        request.method().as_str(),
+        uri.path(),
+        uri.query(),
+    )
+}
+
+/// A page, of the tenant that a query names where it is one of a tenant.
+fn fill_page<S: Source>(
+    alloc: Global,
+    source: &S,
+    page: Page,
+    query: Option<&str>,
+    response: &mut Response,
+) -> Result<(), AllocError>
+    requires { IsBlank response.old }
+    ensures { OnOk result (IsPage (S.told source.now) (named_in (option_copied query.entry)) page response.new) }
+{
+    match page {
+        Page::Health => fill(response, StatusCode::OK, b"ok\n"),
+        Page::Ready => fill_ready(alloc, source, response),
+        Page::Metrics => fill_metrics(alloc, source, response),
+        Page::Partitions => fill_partitions(alloc, source, query, response),
+        Page::Status => fill_status(alloc, source, response),
+        Page::Tenant => fill_tenant(alloc, source, query, response),
+        Page::Unauthorized => fill_unauthorized(response),
+        Page::NotFound => fill(response, StatusCode::NOT_FOUND, b"no such page\n"),
+        Page::NotAllowed => fill_not_allowed(response),
     }
 }
 

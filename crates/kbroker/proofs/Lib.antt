@@ -1,1 +1,2 @@
+mod Gathered
 mod Opened

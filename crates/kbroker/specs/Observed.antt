@@ -1,5 +1,6 @@
 -- What pages of metrics tell of a broker.
-use Rattle.std.specs.Prelude.{ℕ, ◌+◌, List, [], ◌∷◌, length, Option, None, Some, option_map, unwrap_or, slice_get}
+use Rattle.std.specs.Prelude.{◌≡◌, ◌++◌, ℕ, List, [], ◌∷◌, length, Option, None, Some, option_map, slice_get}
+use Rattle.std.specs.List.{flat_map, range_with_len}
 use Rattle.kb_isolation_spec.specs.Broker.{BrokerState}
 use Rattle.kb_isolation_spec.specs.Machine.{Line}
 use Rattle.kb_broker.specs.Counts.{lines_of, waiting_lines}
@@ -35,11 +36,19 @@ observed_at place lines traffic t = record {
   refusals = t.refusals;
 }
 
--- of tenants from a place on
-abbrev pub observed_on : ℕ → List Line → List TenantTraffic → List TenantState → List Observed
-observed_on place lines traffic [] = []
-observed_on place lines traffic (t ∷ ts) = observed_at place lines traffic t ∷ observed_on (place + 1) lines traffic ts
+-- what there is, as a list
+abbrev pub listed : {X : Type 0} → Option X → List X
+listed None = []
+listed (Some x) = x ∷ []
 
--- of all tenants of a broker
+-- of the tenant at a place of a broker, where there is one
+abbrev pub observed_slot : BrokerState → List TenantTraffic → ℕ → List Observed
+observed_slot b traffic place = listed (option_map (observed_at place b.lines traffic) (slice_get b.tenants place))
+
+-- of all its tenants, by their places
 abbrev pub observed_from : BrokerState → List TenantTraffic → List Observed
-observed_from b traffic = observed_on 0 b.lines traffic b.tenants
+observed_from b traffic = flat_map (observed_slot b traffic) (range_with_len 0 (length b.tenants))
+
+-- a text that begins with another
+abbrev pub BeginsWith : List ℕ → List ℕ → Type 0
+BeginsWith front text = (rest : List ℕ) × (text ≡ front ++ rest)

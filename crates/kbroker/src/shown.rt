@@ -1,8 +1,12 @@
 //! What is on the pages of a broker that serves.
 
-ghost use Rattle.std.specs.Prelude.{◌≡◌, ◌++◌, ℕ, List};
+ghost use Rattle.std.specs.Prelude.{◌≡◌, ◌++◌, [], IfOk, OnOk, map, nat_le, option_map, slice_get, vec_len};
+ghost use Rattle.kb_store.specs.Disk.{Files};
 ghost use Rattle.kb_metrics.specs.Gauges.{tenants_text};
-ghost use Rattle.kbroker.specs.Observed.{causes_text, observed_from};
+ghost use Rattle.kb_metrics.specs.View.{observed};
+ghost use Rattle.kbroker.specs.Observed.{BeginsWith, observed_at, observed_from, observed_slot};
+ghost use Rattle.kbroker.specs.Causes.{causes_text, failed_lately};
+ghost use Rattle.kbroker.specs.Observed.{request_bytes_of, requests_of, response_bytes_of};
 
 use crate::history::History;
 use crate::process::{cpu_millis, most_files, open_files, resident_bytes};
@@ -31,9 +35,11 @@ pub struct Shown<'a, R: Net, S: Store, L: PartitionLog + Drop> {
 }
 
 impl<'a, R: Net, S: Store, L: PartitionLog + Drop> Source for Shown<'a, R, S, L> {
+    // Of the other pages nothing is said here: what is written there is `kb_metrics`'s contract.
     ghost told = { λ shown. record {
-      metrics = λ text. (rest : List ℕ) × (text ≡ tenants_text (observed_from shown.edge.now.host.broker.state shown.edge.now.traffic.items) ++ rest);
-      causes = λ text. Unit {0};
+      metrics = BeginsWith (tenants_text (observed_from shown.edge.now.host.broker.state shown.edge.now.traffic.items));
+      causes = λ text. text ≡ causes_text (failed_lately shown.history.now.totals.failed shown.now)
+        (nat_le shown.edge.now.limit (vec_len shown.edge.now.sockets));
       status = λ text. Unit {0};
       partitions = λ name. λ text. Unit {0};
       tenant = λ name. λ text. Unit {0};
@@ -42,21 +48,15 @@ impl<'a, R: Net, S: Store, L: PartitionLog + Drop> Source for Shown<'a, R, S, L>
 
     fn push_metrics(&self, alloc: Global, out: &mut Vec<u8>) -> Result<(), AllocError> {
         let tenants = tenants_of(alloc, self.edge)?;
-        push_tenants(alloc, out, &tenants)?;
-        push_server(out, &server_of(self.edge, self.history))?;
-        push_process(out, &process_of(self.rt, self.history))?;
+        let server = server_of(self.edge, self.history);
+        let process = process_of(self.rt, self.history);
         self.history.is_told.set(true);
-        Ok(())
+        push_all(alloc, out, &tenants, &server, &process)
     }
 
     fn push_causes(&self, out: &mut Vec<u8>) -> Result<(), AllocError> {
-        if self.history.totals.failed_lately(self.now) {
-            out.extend_from_slice(b"the store refused a call in the last minute\n")?;
-        }
-        if self.edge.sockets_len() >= self.edge.most_sockets() {
-            out.extend_from_slice(b"as many sockets are open as there may be\n")?;
-        }
-        Ok(())
+        let is_full = self.edge.sockets_len() >= self.edge.most_sockets();
+        push_causes(out, self.history.totals.failed_lately(self.now), is_full)
     }
 
     fn push_status(&self, alloc: Global, out: &mut Vec<u8>) -> Result<(), AllocError> {
@@ -97,26 +97,76 @@ impl<'a, R: Net, S: Store, L: PartitionLog + Drop> Source for Shown<'a, R, S, L>
     }
 }
 
+/// Writes a line for each cause why the broker is not ready.
+fn push_causes(out: &mut Vec<u8>, has_failed: bool, is_full: bool) -> Result<(), AllocError>
+    ensures { OnOk result (out.new.items ≡ out.old.items ++ causes_text has_failed is_full) }
+{
+    if has_failed {
+        out.extend_from_slice(b"the store refused a call in the last minute\n")?;
+    }
+    if is_full {
+        out.extend_from_slice(b"as many sockets are open as there may be\n")?;
+    }
+    Ok(())
+}
+
+/// Writes the page of metrics: tenants first.
+fn push_all<L: PartitionLog>(
+    alloc: Global,
+    out: &mut Vec<u8>,
+    tenants: &[TenantGauges<'_, L>],
+    server: &ServerGauges,
+    process: &ProcessGauges<'_>,
+) -> Result<(), AllocError>
+    requires { out.old.items ≡ [] }
+    ensures { OnOk result ((files : Files) → BeginsWith (tenants_text (map (observed L.log files) tenants.now)) out.new.items) }
+{
+    push_tenants(alloc, out, tenants)?;
+    push_server(out, server)?;
+    push_process(out, process)
+}
+
 /// What is looked at of all tenants, by their places.
 fn tenants_of<'a, R: Net, S: Store, L: PartitionLog + Drop>(
     alloc: Global,
     edge: &'a Edge<R, S, L>,
-) -> Result<Vec<TenantGauges<'a, L>>, AllocError> {
+) -> Result<Vec<TenantGauges<'a, L>>, AllocError>
+    ensures { IfOk result (λ tenants. map (observed L.log (S.disk edge.now.host.broker.store).files) tenants.items
+        ≡ observed_from edge.now.host.broker.state edge.now.traffic.items) }
+{
     let count = edge.broker().tenants_len();
     let mut tenants = Vec::with_capacity(alloc, count)?;
     for place in 0..count {
-        if let Some(gauges) = gauges_at(edge, place) {
-            tenants.push(gauges)?;
-        }
+        push_gauges(&mut tenants, edge, place)?;
     }
     Ok(tenants)
+}
+
+/// Puts what is looked at of the tenant at a place behind the others, where there is one.
+fn push_gauges<'a, R: Net, S: Store, L: PartitionLog + Drop>(
+    tenants: &mut Vec<TenantGauges<'a, L>>,
+    edge: &'a Edge<R, S, L>,
+    place: usize,
+) -> Result<(), AllocError>
+    ensures { OnOk result (map (observed L.log (S.disk edge.now.host.broker.store).files) tenants.new.items
+        ≡ map (observed L.log (S.disk edge.now.host.broker.store).files) tenants.old.items
+        ++ observed_slot edge.now.host.broker.state edge.now.traffic.items place) }
+{
+    if let Some(gauges) = gauges_at(edge, place) {
+        tenants.push(gauges)?;
+    }
+    Ok(())
 }
 
 /// What is looked at of the tenant at a place, where there is one.
 fn gauges_at<'a, R: Net, S: Store, L: PartitionLog + Drop>(
     edge: &'a Edge<R, S, L>,
     place: usize,
-) -> Option<TenantGauges<'a, L>> {
+) -> Option<TenantGauges<'a, L>>
+    ensures { option_map (observed L.log (S.disk edge.now.host.broker.store).files) result
+        ≡ option_map (observed_at place edge.now.host.broker.state.lines edge.now.traffic.items)
+        (slice_get edge.now.host.broker.state.tenants place) }
+{
     let broker = edge.broker();
     let TenantView {
         name,
@@ -152,7 +202,11 @@ fn gauges_named<'a, R: Net, S: Store, L: PartitionLog + Drop>(
 fn traffic_at<'a, R: Net, S: Store, L: PartitionLog + Drop>(
     edge: &'a Edge<R, S, L>,
     place: usize,
-) -> Traffic<'a> {
+) -> Traffic<'a>
+    ensures requests { result.requests.now ≡ requests_of (slice_get edge.now.traffic.items place) }
+    ensures request_bytes { result.request_bytes ≡ request_bytes_of (slice_get edge.now.traffic.items place) }
+    ensures response_bytes { result.response_bytes ≡ response_bytes_of (slice_get edge.now.traffic.items place) }
+{
     match edge.traffic_of(place) {
         Some(counted) => Traffic {
             requests: &counted.requests,

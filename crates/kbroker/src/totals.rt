@@ -1,6 +1,7 @@
 //! What happened since the broker began to serve.
 
 ghost use Rattle.std.specs.Prelude.{◌≡◌, ◌+◌, ◌-◌, ◌^◌, min};
+ghost use Rattle.kbroker.specs.Causes.{failed_lately};
 
 use kb_node::Turn;
 
@@ -38,7 +39,9 @@ impl Totals {
     }
 
     /// Whether the store refused something in the last minute.
-    pub fn failed_lately(&self, now: u64) -> bool {
+    pub fn failed_lately(&self, now: u64) -> bool
+        ensures { result ≡ failed_lately self.now.failed now }
+    {
         match self.failed {
             Some(failed) => now < failed.saturating_add(MINUTE),
             None => false,

@@ -25,7 +25,9 @@ impl<R: Net, S: Store, L: PartitionLog + Drop> Edge<R, S, L> {
     /// Whether one of these files became ready since that was asked last.
     pub fn take_beside(&mut self) -> bool
         ensures ready { result ≡ self.old.is_beside_ready }
-        ensures rest { self.new ≡ record self.old { is_beside_ready = false } }
+        ensures asked { self.new.is_beside_ready ≡ false }
+        ensures host { self.new.host ≡ self.old.host }
+        ensures sockets { self.new.sockets ≡ self.old.sockets }
     {
         mem::replace(&mut self.is_beside_ready, false)
     }

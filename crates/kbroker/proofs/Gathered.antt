@@ -1,0 +1,16 @@
+-- What is gathered place by place.
+use Rattle.std.proofs.Common.{◌≡◌, ◌∙◌, ◌+◌, ℕ, List, [], ◌∷◌, ◌++◌, map, sym, ap, zero-add}
+use Rattle.std.specs.List.{flat_map, range_with_len}
+use Rattle.std.proofs.lemmas.List.{flat_map_more, map-id}
+use Rattle.std.proofs.lemmas.List.FromFn.{map-range_with_len_more}
+
+one_more : (n : ℕ) → range_with_len 0 n ++ n ∷ [] ≡ range_with_len 0 (n + 1)
+one_more n =
+    ap (λ ns. ns ++ n ∷ []) (sym (map-id (range_with_len 0 n))) ∙ sym (map-range_with_len_more (λ (k : ℕ). k) 0 n n (zero-add n))
+    ∙ map-id (range_with_len 0 (n + 1))
+
+-- what is at one more place
+pub place_more : {A : Type 0} (at : ℕ → List A) (out new : List A) (n : ℕ) → out ≡ flat_map at (range_with_len 0 n)
+    → new ≡ out ++ at n → new ≡ flat_map at (range_with_len 0 (n + 1))
+place_more at out new n e h =
+    h ∙ ap (λ y. y ++ at n) e ∙ flat_map_more at [] (range_with_len 0 n) n ∙ ap (λ ys. flat_map at ys) (one_more n)

@@ -4,8 +4,8 @@
 //! in memory or in the files of a data folder.
 //! `kbroker serve` listens on the address of its settings and serves sockets until it is stopped. `kbroker check` says what
 //! settings come to, or what a start on a data folder would find. `kbroker dump` prints what the files of a data folder hold.
-//! `kbroker topic` makes, deletes and lists topics of a broker that runs. Status 0 is done, 1 a fault with one line on standard
-//! error, 2 a fault of the command line with its usage.
+//! `kbroker topic` makes, deletes and lists topics of a broker that runs. `kbroker tenant` takes a tenant from one data folder to another,
+//! or away. Status 0 is done, 1 a fault with one line on standard error, 2 a fault of the command line with its usage.
 #![tactic(auto)]
 
 mod causes;
@@ -28,6 +28,7 @@ use clap::{Arg, ArgAction, ArgMatches, Command};
 use kb_node::NodeFault;
 use kb_operator::{Lines, OperatorFault};
 use kb_process::hold_streams;
+use kb_tenant_command::{TenantFault, tenant, tenant_command};
 use kb_topic_command::{TopicFault, topic, topic_command};
 use kb_version::VERSION;
 use std::alloc::{AllocError, AllocFailed, Global};
@@ -47,6 +48,8 @@ enum Fault {
     Node(NodeFault),
     #[error("kbroker: {0}")]
     Topic(TopicFault),
+    #[error("{0}")]
+    Tenant(TenantFault),
     /// There is no folder at this path.
     #[error("kbroker: no folder {0}")]
     NoFolder(String),
@@ -99,7 +102,8 @@ fn command<'a>(alloc: Global) -> Result<Command<'a>, AllocError> {
         .subcommand(serve::serve_command(alloc)?)?
         .subcommand(check::check_command(alloc)?)?
         .subcommand(dump::dump_command(alloc)?)?
-        .subcommand(topic_command(alloc)?)
+        .subcommand(topic_command(alloc)?)?
+        .subcommand(tenant_command(alloc)?)
 }
 
 /// The file of the settings.
@@ -122,6 +126,10 @@ fn run(rt: &HostRuntime) -> Result<(), Fault> {
         Some(("topic", found)) => match topic(rt, found) {
             Ok(()) => Ok(()),
             Err(fault) => topic_fault(alloc, fault),
+        },
+        Some(("tenant", found)) => match tenant(rt, found) {
+            Ok(()) => Ok(()),
+            Err(fault) => Err(Fault::Tenant(fault)),
         },
         Some((_, found)) => script::script(rt, found),
         // A subcommand is asked for: no other line is taken.

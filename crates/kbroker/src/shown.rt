@@ -39,7 +39,7 @@ impl<'a, R: Net, S: Store, L: PartitionLog + Drop> Source for Shown<'a, R, S, L>
     ghost told = { λ shown. record {
       metrics = BeginsWith (tenants_text (observed_from shown.edge.now.host.broker.state shown.edge.now.traffic.items));
       causes = λ text. text ≡ causes_text (failed_lately shown.history.now.totals.failed shown.now)
-        (nat_le shown.edge.now.limit (vec_len shown.edge.now.sockets));
+          (nat_le shown.edge.now.limit (vec_len shown.edge.now.sockets));
       status = λ text. Unit {0};
       partitions = λ name. λ text. Unit {0};
       tenant = λ name. λ text. Unit {0};

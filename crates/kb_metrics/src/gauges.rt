@@ -12,6 +12,7 @@ ghost use Rattle.kb_metrics.specs.View.{observed};
 
 use crate::lag::{groups_in, lag};
 use crate::text::{Kind, Label, push_head, push_sample};
+use kb_coordinator::Coordinator;
 use kb_log::PartitionLog;
 use kb_tenant_state::Parts;
 use kb_topics::{Catalog, Topic};
@@ -27,12 +28,26 @@ pub enum Family {
     Refusals,
 }
 
-/// A tenant to look at: its name, its topics with their partitions, and how many connections are bound to it.
+/// What came from a tenant's connections and went to them, since the process began.
+#[derive(Clone, Copy)]
+pub struct Traffic<'a> {
+    /// How many requests there were, by API key: each number stands at the place of its key.
+    pub requests: &'a [u64],
+    pub request_bytes: u64,
+    pub response_bytes: u64,
+}
+
+/// A tenant to look at: its name, its topics with their partitions, its groups, and what is counted of its connections.
 #[derive(Drop)]
 pub struct TenantGauges<'a, L: PartitionLog> {
     pub name: &'a str,
     pub parts: &'a Parts<L>,
+    pub groups: &'a Coordinator,
+    /// Connections that are bound to it.
     pub connections: u64,
+    /// Those of them that wait for the answer to a request.
+    pub waiting: u64,
+    pub traffic: Traffic<'a>,
 }
 
 impl Family {

@@ -8,8 +8,16 @@
 mod gauges;
 mod lag;
 mod laws;
+mod partitions;
+mod rates;
+mod server;
+mod status;
 mod text;
 
-pub use gauges::{TenantGauges, push_tenants};
+pub use gauges::{TenantGauges, Traffic, push_tenants};
 pub use laws::label_values_are_read_back;
+pub use partitions::push_partitions;
+pub use rates::Rates;
+pub use server::{Closed, ProcessGauges, ServerGauges, push_process, push_server};
+pub use status::{push_status, push_tenant_status};
 pub use text::{Kind, Label, push_head, push_plain, push_sample};

@@ -1,18 +1,17 @@
--- What is said of tenants: each number is defined over what the tenant keeps.
-use Rattle.std.specs.Prelude.{◌≡◌, ℕ, ℤ, pos, ◌-ℤ◌, ◌^◌, ◌-◌, List, [], ◌∷◌, ◌++◌, length, map, min, codes, Option, None, Some}
+-- What is said of tenants: each number is defined over what the tenant keeps, and over what is counted of its connections.
+use Rattle.std.specs.Prelude.{ℕ, ℤ, ◌-ℤ◌, ◌^◌, ◌-◌, List, [], ◌∷◌, ◌++◌, length, map, min, Option, None, Some, slice_get}
+use Rattle.std.specs.Option.{option_and_then}
 use Rattle.std.specs.List.{flat_map, range_with_len, sum_by}
 use Rattle.kb_batch.specs.Batch.{natural}
+use Rattle.kb_coordinator.specs.declared.groups.Entry.{Entry}
 use Rattle.kb_settings.specs.Names.{in_order}
 use Rattle.kb_topics.specs.ByName.{by_name}
-use Rattle.kb_topics.specs.Known.{CommittedOffset, PartitionState, TopicState}
-use Rattle.kb_tenant_state.specs.Calls.{committed, end_of, numbered}
+use Rattle.kb_topics.specs.Known.{CommittedOffset, PartitionState, TopicState, committed_at}
+use Rattle.kb_tenant_state.specs.Calls.{committed, end_of, known_at, numbered, start_of}
 use Rattle.kb_tenant_state.specs.World.{World}
 use Rattle.kb_tenant_state.specs.declared.topic_partition.TopicPartition.{TopicPartition}
-use Rattle.kb_metrics.specs.Text.{head_text, sample_text}
-use Rattle.kb_metrics.specs.declared.gauges.Family.{Family}
-use Rattle.kb_metrics.specs.declared.gauges.Family.TheVariants as families
-use Rattle.kb_metrics.specs.declared.text.Kind.{Kind}
-use Rattle.kb_metrics.specs.declared.text.Kind.TheVariants as kinds
+use Rattle.kb_metrics.specs.Families.{committed_text, families_text, offsets_text}
+use Rattle.kb_metrics.specs.Rows.{Commit, Group, Lag, Partition, Tenant}
 
 -- 1. Lag
 
@@ -36,14 +35,65 @@ groups_at p = map (λ c. c.0) p.commits
 abbrev pub groups_in : TopicState → List (List ℕ)
 groups_in t = in_order (flat_map groups_at t.partitions)
 
--- 2. What is said of a tenant
+-- a group's lag in a topic
+abbrev pub topic_lag : World → ℕ × TopicState → List ℕ → Lag
+topic_lag w t group = record { group = group; topic = t.1.name; value = lag_of w group t.0 (length t.1.partitions) }
 
--- a tenant: its name, what it keeps of topics, its refusals, and how many connections are bound to it
+abbrev pub topic_lags : World → ℕ × TopicState → List Lag
+topic_lags w t = map (topic_lag w t) (groups_in t.1)
+
+-- the lags of a tenant's groups, by topic
+abbrev pub lags : World → List Lag
+lags w = flat_map (topic_lags w) (by_name w.known.topics)
+
+-- 2. Partitions
+
+-- a partition, where it is there
+abbrev pub between : List ℕ → ℕ → Option ℤ → Option ℤ → List Partition
+between topic number (Some start) (Some end) = record { topic = topic; number = number; start = start; end = end } ∷ []
+between topic number start end = []
+
+abbrev pub partition_of : World → ℕ × TopicState → ℕ → List Partition
+partition_of w t number = between t.1.name number (start_of w (numbered t.0 number)) (end_of w (numbered t.0 number))
+
+abbrev pub topic_partitions : World → ℕ × TopicState → List Partition
+topic_partitions w t = flat_map (partition_of w t) (range_with_len 0 (length t.1.partitions))
+
+-- the partitions of a tenant, by topic
+abbrev pub partitions : World → List Partition
+partitions w = flat_map (topic_partitions w) (by_name w.known.topics)
+
+abbrev pub commit_of : List ℕ → ℕ → List ℕ × CommittedOffset → Commit
+commit_of topic number c = record { group = c.0; topic = topic; number = number; offset = c.1.offset }
+
+-- what groups committed to a partition, by group
+abbrev pub commits_to : List ℕ → ℕ → Option PartitionState → List Commit
+commits_to topic number None = []
+commits_to topic number (Some p) = map (commit_of topic number) p.commits
+
+abbrev pub commits_in : TopicState → ℕ → List Commit
+commits_in t number = commits_to t.name number (slice_get t.partitions number)
+
+abbrev pub topic_commits : ℕ × TopicState → List Commit
+topic_commits t = flat_map (commits_in t.1) (range_with_len 0 (length t.1.partitions))
+
+-- what groups committed to the partitions of a tenant, by topic
+abbrev pub commits : World → List Commit
+commits w = flat_map topic_commits (by_name w.known.topics)
+
+-- 3. What is said of a tenant
+
+-- a tenant: its name, what it keeps of topics and of groups, what is counted of its connections, and its refusals
 pub record Observed : Type 0 where
   pub name : List ℕ
   pub world : World
-  pub refusals : ℕ
+  pub groups : List Entry
   pub connections : ℕ
+  pub waiting : ℕ
+  pub requests : List ℕ
+  pub request_bytes : ℕ
+  pub response_bytes : ℕ
+  pub refusals : ℕ
 
 -- as far as 64 bits go
 abbrev pub counted : ℕ → ℕ
@@ -52,60 +102,30 @@ counted n = min n (2 ^ 64 - 1)
 abbrev pub partition_count : List (ℕ × TopicState) → ℕ
 partition_count ts = counted (sum_by (λ t. length t.1.partitions) ts)
 
-abbrev pub tenant_label : List ℕ → List ℕ × List ℕ
-tenant_label name = (codes "tenant", name)
+abbrev pub group_of : Entry → Group
+group_of e = record { id = e.id; members = length e.group.members; generation = e.group.generation }
 
-abbrev pub lag_sample : List ℕ → List ℕ → List ℕ → ℕ → List ℕ
-lag_sample tenant group topic lag =
-    sample_text (codes "kbroker_group_lag") (tenant_label tenant) ((codes "group", group) ∷ (codes "topic", topic) ∷ []) lag
-
--- a group's lag in a topic
-abbrev pub lag_text : List ℕ → World → ℕ × TopicState → List ℕ → List ℕ
-lag_text tenant w t group = lag_sample tenant group t.1.name (lag_of w group t.0 (length t.1.partitions))
-
-abbrev pub topic_lags : List ℕ → World → ℕ × TopicState → List ℕ
-topic_lags name w t = flat_map (lag_text name w t) (groups_in t.1)
-
--- the lags of a tenant's groups, by topic
-abbrev pub lags_text : List ℕ → World → List ℕ
-lags_text name w = flat_map (topic_lags name w) (by_name w.known.topics)
-
--- 3. The families
-
-abbrev pub name_of : Family → List ℕ
-name_of families.Connections = codes "kbroker_connections"
-name_of families.Topics = codes "kbroker_topics"
-name_of families.Partitions = codes "kbroker_partitions"
-name_of families.GroupLag = codes "kbroker_group_lag"
-name_of families.Refusals = codes "kbroker_refusals_total"
-
-abbrev pub help_of : Family → List ℕ
-help_of families.Connections = codes "Open connections that are logged in."
-help_of families.Topics = codes "Topics."
-help_of families.Partitions = codes "Partitions of all topics."
-help_of families.GroupLag = codes "Records between the committed offsets and the ends of the partitions to which the group committed."
-help_of families.Refusals = codes "Calls of memory and of the store that were refused."
-
-abbrev pub kind_of : Family → Kind
-kind_of families.Refusals = kinds.Counter
-kind_of _ = kinds.Gauge
-
-abbrev pub number_text : Family → List ℕ → ℕ → List ℕ
-number_text family name n = sample_text (name_of family) (tenant_label name) [] n
-
--- what a family says of a tenant
-abbrev pub said_of : Family → Observed → List ℕ
-said_of families.Connections o = number_text families.Connections o.name o.connections
-said_of families.Topics o = number_text families.Topics o.name (length o.world.known.topics)
-said_of families.Partitions o = number_text families.Partitions o.name (partition_count o.world.known.topics)
-said_of families.GroupLag o = lags_text o.name o.world
-said_of families.Refusals o = number_text families.Refusals o.name o.refusals
-
-abbrev pub family_text : List Observed → Family → List ℕ
-family_text os family = head_text (name_of family) (help_of family) (kind_of family) ++ flat_map (said_of family) os
+-- What pages show of a tenant. By its form it is a function of what that tenant keeps and of what is counted of its own connections:
+-- nothing of another tenant is in it.
+abbrev pub tenant_of : Observed → Tenant
+tenant_of o = record {
+  name = o.name;
+  connections = o.connections;
+  waiting = o.waiting;
+  topics = length o.world.known.topics;
+  partitions = partition_count o.world.known.topics;
+  groups = map group_of o.groups;
+  lags = lags o.world;
+  requests = o.requests;
+  request_bytes = o.request_bytes;
+  response_bytes = o.response_bytes;
+  refusals = o.refusals;
+}
 
 -- all that is said of tenants
 abbrev pub tenants_text : List Observed → List ℕ
-tenants_text os =
-    family_text os families.Connections ++ family_text os families.Topics ++ family_text os families.Partitions
-    ++ family_text os families.GroupLag ++ family_text os families.Refusals
+tenants_text os = families_text (map tenant_of os)
+
+-- all that is said of a tenant's partitions
+abbrev pub partitions_text : Observed → List ℕ
+partitions_text o = offsets_text o.name (partitions o.world) ++ committed_text o.name (commits o.world)

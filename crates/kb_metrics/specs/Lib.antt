@@ -1,3 +1,10 @@
 pub mod Text
+pub mod Server
+pub mod Rows
+pub mod Families
+pub mod Rates
+pub mod Markup
+pub mod Status
 pub mod Gauges
+pub mod Slots
 pub mod View

@@ -1,9 +1,13 @@
 -- The text format of Prometheus, 0.0.4, and how a label's value is read back.
-use Rattle.std.specs.Prelude.{ℕ, List, [], ◌∷◌, ◌++◌, Bool, true, false, ◌==◌, if◌then◌else◌, Option, None, Some, codes, decimal}
+use Rattle.std.specs.Prelude.{ℕ, ℤ, ◌+◌, ◌/◌, ◌%◌, List, [], ◌∷◌, ◌++◌, Bool, true, false, ◌==◌, if◌then◌else◌, Option, None, Some, codes, decimal}
+use Rattle.std.specs.Fmt.{signed_decimal}
 use Rattle.std.specs.List.{flat_map}
 use Rattle.kb_metrics.specs.declared.text.Kind.{Kind}
 use Rattle.kb_metrics.specs.declared.text.Kind.TheVariants as kinds
 use Rattle.kb_metrics.specs.declared.text.Label.{Label}
+use Rattle.kb_metrics.specs.declared.text.Value.{Value}
+use Rattle.kb_metrics.specs.declared.text.Value.TheVariants as values
+use Rattle.kb_metrics.specs.declared.text.Figure.{Figure}
 
 -- 1. Writing
 
@@ -21,14 +25,21 @@ label_text l = l.0 ++ 61 ∷ 34 ∷ escaped l.1 ++ 34 ∷ []
 abbrev pub more_text : List ℕ × List ℕ → List ℕ
 more_text l = 44 ∷ label_text l
 
--- `name value`
-abbrev pub plain_text : List ℕ → ℕ → List ℕ
-plain_text name value = name ++ 32 ∷ decimal value ++ 10 ∷ []
+-- `name{label,label}`
+abbrev pub labelled_text : List ℕ → List ℕ × List ℕ → List (List ℕ × List ℕ) → List ℕ
+labelled_text name first more = name ++ 123 ∷ label_text first ++ flat_map more_text more ++ 125 ∷ []
+
+-- ` value`, and the end of the line
+abbrev pub end_text : List ℕ → List ℕ
+end_text value = 32 ∷ value ++ 10 ∷ []
 
 -- `name{label,label} value`
 abbrev pub sample_text : List ℕ → List ℕ × List ℕ → List (List ℕ × List ℕ) → ℕ → List ℕ
-sample_text name first more value =
-    name ++ 123 ∷ label_text first ++ flat_map more_text more ++ 125 ∷ 32 ∷ decimal value ++ 10 ∷ []
+sample_text name first more value = labelled_text name first more ++ end_text (decimal value)
+
+-- the same of a number that may be below 0
+abbrev pub signed_sample_text : List ℕ → List ℕ × List ℕ → List (List ℕ × List ℕ) → ℤ → List ℕ
+signed_sample_text name first more value = labelled_text name first more ++ end_text (signed_decimal value)
 
 abbrev pub kind_text : Kind → List ℕ
 kind_text kinds.Counter = codes "counter"
@@ -41,6 +52,35 @@ head_text name help kind =
 
 abbrev pub label_of : Label → List ℕ × List ℕ
 label_of l = (l.name.now, l.value.now)
+
+-- the digit of a number that counts so many
+abbrev pub digit : ℕ → ℕ → ℕ
+digit n unit = 48 + n / unit % 10
+
+-- a number, or a decimal fraction with all its digits
+abbrev pub value_text : Value → List ℕ
+value_text (values.Whole n) = decimal n
+value_text (values.Thousandths n) = decimal (n / 1000) ++ 46 ∷ digit n 100 ∷ digit n 10 ∷ digit n 1 ∷ []
+value_text (values.Millionths n) =
+    decimal (n / 1000000) ++ 46 ∷ digit n 100000 ∷ digit n 10000 ∷ digit n 1000 ∷ digit n 100 ∷ digit n 10 ∷ digit n 1 ∷ []
+
+-- a family of one sample without labels: its name, what it counts in words, its kind, and the value where it is known
+pub record FigureText : Type 0 where
+  pub name : List ℕ
+  pub help : List ℕ
+  pub kind : Kind
+  pub value : Option Value
+
+abbrev pub figure_of : Figure → FigureText
+figure_of f = record { name = f.name.now; help = f.help.now; kind = f.kind; value = f.value }
+
+-- nothing where the value is not known
+abbrev pub known_text : List ℕ → List ℕ → Kind → Option Value → List ℕ
+known_text name help kind None = []
+known_text name help kind (Some value) = head_text name help kind ++ name ++ end_text (value_text value)
+
+abbrev pub figure_text : FigureText → List ℕ
+figure_text f = known_text f.name f.help f.kind f.value
 
 -- 2. Reading
 

@@ -1,36 +1,77 @@
 //! How far groups are behind.
 
-ghost use Rattle.std.specs.Prelude.{◌≡◌, ◌++◌, ◌-ℤ◌, IfOk, OnOk, map};
+ghost use Rattle.std.specs.Prelude.{◌≡◌, ◌++◌, ◌-ℤ◌, IfOk, OnOk, map, option_copied, slice_get};
+ghost use Rattle.std.specs.Option.{option_and_then};
+ghost use Rattle.std.specs.List.{range_with_len};
 ghost use Rattle.kb_batch.specs.Batch.{natural};
 ghost use Rattle.kb_settings.specs.Names.{in_order};
 ghost use Rattle.kb_store.specs.Disk.{Files};
 ghost use Rattle.kb_tenant_state.specs.Parts.{world_of};
-ghost use Rattle.kb_metrics.specs.Gauges.{groups_at, groups_in, lag_at, lag_of};
+ghost use Rattle.kb_metrics.specs.Gauges.{groups_at, groups_in};
+ghost use Rattle.kb_metrics.specs.Slots.{lag_among, lag_in, slot_at, slot_of};
 
 use kb_log::PartitionLog;
 use kb_tenant_state::{Parts, TopicPartition};
 use kb_topics::{Partition, Topic};
 use std::alloc::{AllocError, Global};
 
-/// How far a group is behind in the partitions of a topic together, of which it has so many. It stays at the greatest number.
-pub fn lag<L: PartitionLog>(parts: &Parts<L>, group: &str, instance: u64, count: usize) -> u64
-    ensures { (files : Files) → result ≡ lag_of (world_of L.log parts.now files) group.now instance count }
+/// Where a partition ends, and what groups committed to it; none where it is not there.
+#[derive(Clone, Copy)]
+pub struct Slot<'a> {
+    pub end: Option<i64>,
+    pub partition: Option<&'a Partition>,
+}
+
+/// The first partitions of a topic, so many, each looked up once.
+pub fn slots<'a, L: PartitionLog>(
+    alloc: Global,
+    parts: &'a Parts<L>,
+    instance: u64,
+    count: usize,
+) -> Result<Vec<Slot<'a>>, AllocError>
+    ensures { IfOk result (λ slots. (files : Files)
+        → map slot_of slots.items ≡ map (slot_at (world_of L.log parts.now files) instance) (range_with_len 0 count)) }
+{
+    let topic = parts.topic(instance);
+    let mut slots = Vec::with_capacity(alloc, count)?;
+    for number in 0..count {
+        slots.push(Slot {
+            end: parts.end(TopicPartition { instance, number }),
+            partition: partition_in(topic, number),
+        })?;
+    }
+    Ok(slots)
+}
+
+/// The partition of that number of a topic.
+fn partition_in<'a>(topic: Option<&'a Topic>, number: usize) -> Option<&'a Partition>
+    ensures { option_copied result ≡ option_and_then (λ t. slice_get t.partitions number) (option_copied topic.entry) }
+{
+    topic?.partitions().get(number)
+}
+
+/// How far a group is behind in partitions together. It stays at the greatest number.
+pub fn lag(slots: &[Slot<'_>], group: &str) -> u64
+    ensures { result ≡ lag_among group.now (map slot_of slots.now) }
 {
     let mut sum: u64 = 0;
-    for number in 0..count {
-        sum = sum.saturating_add(lag_at(parts, group, TopicPartition { instance, number }));
+    for slot in slots {
+        sum = sum.saturating_add(lag_in(slot, group));
     }
     sum
 }
 
 /// How far a group is behind in a partition: 0 where it committed nothing to it, or there is no such partition.
-fn lag_at<L: PartitionLog>(parts: &Parts<L>, group: &str, place: TopicPartition) -> u64
-    ensures { (files : Files) → result ≡ lag_at (world_of L.log parts.now files) group.now place }
+fn lag_in(slot: &Slot<'_>, group: &str) -> u64
+    ensures { result ≡ lag_in group.now (slot_of slot.now) }
 {
-    let Some(end) = parts.end(place) else {
+    let Some(end) = slot.end else {
         return 0;
     };
-    match parts.committed(place, group) {
+    let Some(partition) = slot.partition else {
+        return 0;
+    };
+    match partition.committed(group) {
         Some(committed) => behind(end, committed.offset()),
         None => 0,
     }

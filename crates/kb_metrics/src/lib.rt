@@ -1,23 +1,30 @@
-//! What the broker does, as text that Prometheus reads: the text format 0.0.4, without a socket.
+//! What the broker does, as text that Prometheus reads and as pages for people, without a socket.
 //!
-//! [`push_head`] and [`push_sample`] write families and samples; a label's value is read back from its text as it was, whatever bytes it
-//! has ([`label_values_are_read_back`]). [`push_tenants`] writes what tenants have and lag behind, each number as `specs/Gauges.antt`
-//! defines it over the tenant's own state. What is said of a tenant is a function of its view alone.
+//! [`push_tenants`], [`push_partitions`], [`push_server`] and [`push_process`] write the text format 0.0.4: each number as `specs/` defines
+//! it over a tenant's own state ([`TenantGauges`]) or over the numbers of the edge ([`ServerGauges`], [`ProcessGauges`]). A label's value
+//! is read back from its text as it was, whatever bytes it has ([`label_values_are_read_back`]). [`push_status`] and
+//! [`push_tenant_status`] write HTML without scripts, in which no byte of a name begins a tag ([`names_begin_no_tag`]). [`Rates`] keeps the
+//! bytes of each of the last 120 seconds.
+//!
+//! Rows are gathered from the state first (`gather`), and then written.
 #![tactic(auto)]
 
+mod families;
+mod gather;
 mod gauges;
 mod lag;
 mod laws;
-mod partitions;
+mod markup;
+mod pages;
 mod rates;
+mod rows;
 mod server;
 mod status;
 mod text;
 
-pub use gauges::{TenantGauges, Traffic, push_tenants};
-pub use laws::label_values_are_read_back;
-pub use partitions::push_partitions;
-pub use rates::Rates;
+pub use gauges::{TenantGauges, Traffic, push_partitions, push_tenants};
+pub use laws::{label_values_are_read_back, names_begin_no_tag};
+pub use pages::{push_status, push_tenant_status};
+pub use rates::{Noted, Rates};
 pub use server::{Closed, ProcessGauges, ServerGauges, push_process, push_server};
-pub use status::{push_status, push_tenant_status};
-pub use text::{Kind, Label, push_head, push_plain, push_sample};
+pub use text::{Figure, Kind, Label, Value, push_figures, push_head, push_sample};

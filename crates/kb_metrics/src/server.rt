@@ -1,5 +1,14 @@
 //! What is said of the server and of its process.
 
+ghost use Rattle.std.specs.Prelude.{◌≡◌, ◌++◌, OnOk, map};
+ghost use Rattle.std.specs.List.{flat_map};
+ghost use Rattle.kb_metrics.specs.Server.{cause_of, cause_text, causes, causes_text, closed_text, counter, cpu_figure, gauge, info_text};
+ghost use Rattle.kb_metrics.specs.Server.{known_gauge};
+ghost use Rattle.kb_metrics.specs.Server.{process_figures, process_text};
+ghost use Rattle.kb_metrics.specs.Server.{server_text, socket_figures, trouble_figures, version_text};
+ghost use Rattle.kb_metrics.specs.Text.{figure_of, label_of};
+
+use crate::text::{Figure, Kind, Label, Value, push_figures, push_head, push_sample};
 use std::alloc::AllocError;
 
 /// How many sockets the broker closed, by cause.
@@ -57,12 +66,270 @@ pub struct ProcessGauges<'a> {
     pub cpu_millis: Option<u64>,
 }
 
+/// A cause, and how many sockets were closed for it.
+#[derive(Clone, Copy)]
+struct Cause {
+    name: &'static str,
+    count: u64,
+}
+
 /// Writes what is said of the server. After an `Err`, which is want of memory, some of it may be there.
-pub fn push_server(out: &mut Vec<u8>, server: &ServerGauges) -> Result<(), AllocError> {
-    Ok(())
+pub fn push_server(out: &mut Vec<u8>, server: &ServerGauges) -> Result<(), AllocError>
+    ensures { OnOk result (out.new.items ≡ out.old.items ++ server_text server.now) }
+{
+    push_figures(out, &socket_figures(server))?;
+    push_figures(out, &trouble_figures(server))?;
+    push_closed(out, &server.closed)
 }
 
 /// Writes what is said of the process. After an `Err`, which is want of memory, some of it may be there.
-pub fn push_process(out: &mut Vec<u8>, process: &ProcessGauges<'_>) -> Result<(), AllocError> {
+pub fn push_process(out: &mut Vec<u8>, process: &ProcessGauges<'_>) -> Result<(), AllocError>
+    ensures { OnOk result (out.new.items ≡ out.old.items ++ process_text process.now) }
+{
+    push_version(out, process.version)?;
+    push_figures(out, &process_figures(process))
+}
+
+fn gauge(name: &'static str, help: &'static str, value: u64) -> Figure
+    ensures { figure_of result ≡ gauge name.now help.now value }
+{
+    Figure {
+        name,
+        help,
+        kind: Kind::Gauge,
+        value: Some(Value::Whole(value)),
+    }
+}
+
+fn counter(name: &'static str, help: &'static str, value: u64) -> Figure
+    ensures { figure_of result ≡ counter name.now help.now value }
+{
+    Figure {
+        name,
+        help,
+        kind: Kind::Counter,
+        value: Some(Value::Whole(value)),
+    }
+}
+
+/// A gauge that may not be known.
+fn known_gauge(name: &'static str, help: &'static str, value: Option<u64>) -> Figure
+    ensures { figure_of result ≡ known_gauge name.now help.now value }
+{
+    let value = match value {
+        Some(count) => Some(Value::Whole(count)),
+        None => None,
+    };
+    Figure {
+        name,
+        help,
+        kind: Kind::Gauge,
+        value,
+    }
+}
+
+/// Connections, sockets and their bytes.
+#[tactic(auto, unfolding(crate::specs::Server::socket_figures))]
+fn socket_figures(server: &ServerGauges) -> [Figure; 6]
+    ensures { map figure_of result ≡ socket_figures server.now }
+{
+    [
+        gauge(
+            "kbroker_strangers",
+            "Open connections without a login.",
+            server.strangers,
+        ),
+        gauge(
+            "kbroker_sockets",
+            "Open sockets, those without a login among them.",
+            server.sockets,
+        ),
+        gauge(
+            "kbroker_sockets_limit",
+            "Sockets that may be open at a time.",
+            server.sockets_limit,
+        ),
+        counter(
+            "kbroker_sockets_accepted_total",
+            "Sockets that were accepted, also those that were closed at once.",
+            server.accepted,
+        ),
+        counter(
+            "kbroker_read_bytes_total",
+            "Bytes that were read from sockets.",
+            server.read_bytes,
+        ),
+        counter(
+            "kbroker_written_bytes_total",
+            "Bytes that were written to sockets.",
+            server.written_bytes,
+        ),
+    ]
+}
+
+/// What failed, and how long a turn took.
+#[tactic(auto, unfolding(crate::specs::Server::trouble_figures))]
+fn trouble_figures(server: &ServerGauges) -> [Figure; 5]
+    ensures { map figure_of result ≡ trouble_figures server.now }
+{
+    [
+        counter(
+            "kbroker_logins_failed_total",
+            "Logins that failed.",
+            server.logins_failed,
+        ),
+        counter(
+            "kbroker_refusals_before_login_total",
+            "Calls that were refused for connections without a login.",
+            server.refusals_before_login,
+        ),
+        counter(
+            "kbroker_store_failures_total",
+            "Calls that the store refused.",
+            server.store_failures,
+        ),
+        known_gauge(
+            "kbroker_stray_files",
+            "Files of the folder that are of no log and are left alone.",
+            server.stray_files,
+        ),
+        Figure {
+            name: "kbroker_turn_seconds_max",
+            help: "The longest turn since the last page.",
+            kind: Kind::Gauge,
+            value: Some(Value::Millionths(server.turn_micros_max)),
+        },
+    ]
+}
+
+/// Memory, files and time of the process.
+#[tactic(auto, unfolding(crate::specs::Server::process_figures))]
+fn process_figures(process: &ProcessGauges<'_>) -> [Figure; 5]
+    ensures { map figure_of result ≡ process_figures process.now }
+{
+    [
+        gauge(
+            "process_start_time_seconds",
+            "When the broker began to serve, in seconds since the beginning of 1970.",
+            process.start_seconds,
+        ),
+        known_gauge(
+            "process_resident_memory_bytes",
+            "Memory of the process.",
+            process.resident_bytes,
+        ),
+        known_gauge(
+            "process_open_fds",
+            "Open files of the process.",
+            process.open_fds,
+        ),
+        known_gauge(
+            "process_max_fds",
+            "Files that the process may have open.",
+            process.max_fds,
+        ),
+        cpu_figure(process.cpu_millis),
+    ]
+}
+
+/// The time of processors, in milliseconds.
+fn cpu_figure(millis: Option<u64>) -> Figure
+    ensures { figure_of result ≡ cpu_figure millis }
+{
+    let value = match millis {
+        Some(count) => Some(Value::Thousandths(count)),
+        None => None,
+    };
+    Figure {
+        name: "process_cpu_seconds_total",
+        help: "Time of processors that the process took.",
+        kind: Kind::Counter,
+        value,
+    }
+}
+
+/// Writes how many sockets were closed, by cause.
+fn push_closed(out: &mut Vec<u8>, closed: &Closed) -> Result<(), AllocError>
+    ensures { OnOk result (out.new.items ≡ out.old.items ++ closed_text closed.now) }
+{
+    let help = "Sockets that the broker closed, by cause.";
+    push_causes(out, "kbroker_sockets_closed_total", help, &causes(closed))
+}
+
+/// Writes a family with a sample for each cause.
+fn push_causes(
+    out: &mut Vec<u8>,
+    name: &str,
+    help: &str,
+    causes: &[Cause],
+) -> Result<(), AllocError>
+    ensures { OnOk result (out.new.items ≡ out.old.items ++ causes_text name.now help.now (map cause_of causes.now)) }
+{
+    push_head(out, name, help, Kind::Counter)?;
+    push_each(out, name, causes)
+}
+
+#[tactic(auto, unfolding(crate::specs::Server::causes))]
+fn causes(closed: &Closed) -> [Cause; 6]
+    ensures { map cause_of result ≡ causes closed.now }
+{
+    [
+        closed_for("no_place", closed.no_place),
+        closed_for("no_login", closed.no_login),
+        closed_for("unread_reply", closed.unread_reply),
+        closed_for("idle", closed.idle),
+        closed_for("slow_request", closed.slow_request),
+        closed_for("limit", closed.limit),
+    ]
+}
+
+fn closed_for(name: &'static str, count: u64) -> Cause
+    ensures { cause_of result ≡ (name.now, count) }
+{
+    Cause { name, count }
+}
+
+/// Writes a sample for each cause.
+fn push_each(out: &mut Vec<u8>, name: &str, causes: &[Cause]) -> Result<(), AllocError>
+    ensures { OnOk result (out.new.items ≡ out.old.items ++ flat_map (cause_text name.now) (map cause_of causes.now)) }
+{
+    for cause in causes {
+        push_cause(out, name, cause)?;
+    }
     Ok(())
+}
+
+/// Writes a sample for a cause.
+fn push_cause(out: &mut Vec<u8>, name: &str, cause: &Cause) -> Result<(), AllocError>
+    ensures { OnOk result (out.new.items ≡ out.old.items ++ cause_text name.now (cause_of cause.now)) }
+{
+    let why = Label {
+        name: "why",
+        value: cause.name.as_bytes(),
+    };
+    push_sample(out, name, why, &[], cause.count)
+}
+
+/// Writes which version runs.
+fn push_version(out: &mut Vec<u8>, version: &str) -> Result<(), AllocError>
+    ensures { OnOk result (out.new.items ≡ out.old.items ++ version_text version.now) }
+{
+    let label = Label {
+        name: "version",
+        value: version.as_bytes(),
+    };
+    push_info(out, "kbroker_build_info", "The version that runs.", label)
+}
+
+/// Writes a family that tells a text, as a label of a sample that is 1.
+fn push_info(
+    out: &mut Vec<u8>,
+    name: &str,
+    help: &str,
+    label: Label<'_>,
+) -> Result<(), AllocError>
+    ensures { OnOk result (out.new.items ≡ out.old.items ++ info_text name.now help.now (label_of label.entry)) }
+{
+    push_head(out, name, help, Kind::Gauge)?;
+    push_sample(out, name, label, &[], 1)
 }

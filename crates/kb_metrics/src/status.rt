@@ -1,32 +1,357 @@
-//! The status page.
+//! The status page, and the page of a tenant.
 
-use crate::gauges::TenantGauges;
+ghost use Rattle.std.specs.Prelude.{◌≡◌, ◌++◌, map, length, codes, OnOk, option_copied};
+ghost use Rattle.std.specs.Option.{option_map};
+ghost use Rattle.std.specs.List.{flat_map, range_with_len};
+ghost use Rattle.kb_metrics.specs.Markup.{cell_of, fact_of};
+ghost use Rattle.kb_metrics.specs.Rows.{group_row, lag_row, partition_row, tenant_row};
+ghost use Rattle.kb_metrics.specs.Status.{begin_text, facts_text, group_line, lag_line, lag_sum, partition_line, piece_text, plots_text};
+ghost use Rattle.kb_metrics.specs.Status.{process_facts, row_at, rows_text, socket_facts, status_text, tenant_cells, tenant_page, tenant_text};
+ghost use Rattle.kb_metrics.specs.Status.{trouble_facts, whole};
+ghost use Rattle.kb_metrics.specs.declared.text.Value.TheVariants.{Thousandths, Whole};
+
+use crate::markup::{
+    Cell, Fact, push_cell, push_cells, push_facts, push_link_cell, push_name_cell, push_plot_cell,
+    push_signed_cell, push_text_line,
+};
 use crate::rates::Rates;
+use crate::rows::{GroupRow, LagRow, PartitionRow, TenantRow};
 use crate::server::{ProcessGauges, ServerGauges};
-use kb_log::PartitionLog;
-use std::alloc::{AllocError, Global};
+use crate::text::Value;
+use std::alloc::AllocError;
+
+/// A piece of a page that is always the same.
+#[derive(Clone, Copy, Debug, PartialEq, Eq)]
+enum Piece {
+    Head,
+    Tenants,
+    Partitions,
+    Groups,
+    Lags,
+    End,
+}
+
+impl Piece {
+    #[tactic(auto, unfolding(crate::specs::Status::piece_text))]
+    fn text(self) -> &'static str
+        ensures { result.now ≡ piece_text self }
+    {
+        match self {
+            Piece::Head => "<!DOCTYPE html>\n<html lang=\"en\"><head><meta charset=\"utf-8\"><meta http-equiv=\"refresh\" conten\
+                t=\"5\"><meta name=\"viewport\" content=\"width=device-width\"><title>kbroker</title><style>body{fon\
+                t:14px sans-serif;margin:1em}table{border-collapse:collapse;margin:0 0 1.5em}th,td{text-align:left;p\
+                adding:2px 8px;border-bottom:1px solid #999}svg{width:120px;height:26px;vertical-align:bottom}polyli\
+                ne{fill:none;stroke:currentColor}@media(max-width:700px){.w,.w tbody,.w tr,.w td{display:block}.w tr\
+                {border-bottom:2px solid #999}.w th{display:none}.w td{border:0}.w td::before{content:attr(data-l) \"\
+                : \"}}</style></head><body><h1><a href=\"/\">kbroker</a></h1>\n<table>\n",
+            Piece::Tenants => "</table>\n<h2>Tenants</h2>\n<table class=\"w\">\n<tr><th>Tenant</th><th>Connections</th><th>Waiting<\
+                /th><th>Topics</th><th>Partitions</th><th>Groups</th><th>Lag</th><th>Refusals</th><th>Bytes in</th><\
+                th>Bytes out</th><th>In a second</th><th>Out a second</th></tr>\n",
+            Piece::Partitions => "</table>\n<h2>Partitions</h2>\n<table class=\"w\">\n<tr><th>Topic</th><th>Partition</th><th>Start</t\
+                h><th>End</th></tr>\n",
+            Piece::Groups => "</table>\n<h2>Groups</h2>\n<table class=\"w\">\n<tr><th>Group</th><th>Members</th><th>Generation</th\
+                ></tr>\n",
+            Piece::Lags => "</table>\n<h2>Lag</h2>\n<table class=\"w\">\n<tr><th>Group</th><th>Topic</th><th>Lag</th></tr>\n",
+            Piece::End => "</table>\n</body></html>\n",
+        }
+    }
+}
 
 /// Writes the status page: the server, and a row for each tenant, whose rates stand at the same place.
-///
-/// After an `Err`, which is want of memory, some of it may be there.
-pub fn push_status<L: PartitionLog>(
-    alloc: Global,
+pub(crate) fn push_status_page(
     out: &mut Vec<u8>,
     server: &ServerGauges,
     process: &ProcessGauges<'_>,
-    tenants: &[TenantGauges<'_, L>],
+    tenants: &[TenantRow<'_>],
     rates: &[Rates],
-) -> Result<(), AllocError> {
+) -> Result<(), AllocError>
+    ensures { OnOk result (out.new.items ≡ out.old.items ++ status_text server.now process.now (map tenant_row tenants.now) rates.now) }
+{
+    push_piece(out, Piece::Head)?;
+    push_begin(out, process)?;
+    push_all_facts(out, server, process)?;
+    push_piece(out, Piece::Tenants)?;
+    push_rows(out, tenants, rates)?;
+    push_piece(out, Piece::End)
+}
+
+/// Writes the page of a tenant.
+pub(crate) fn push_tenant_page(
+    out: &mut Vec<u8>,
+    tenant: &TenantRow<'_>,
+    partitions: &[PartitionRow<'_>],
+) -> Result<(), AllocError>
+    ensures { OnOk result (out.new.items ≡ out.old.items ++ tenant_page (tenant_row tenant.now) (map partition_row partitions.now)) }
+{
+    push_piece(out, Piece::Head)?;
+    push_text_line(out, "Tenant", tenant.name)?;
+    push_piece(out, Piece::Partitions)?;
+    push_partition_lines(out, partitions)?;
+    push_piece(out, Piece::Groups)?;
+    push_group_lines(out, &tenant.groups)?;
+    push_piece(out, Piece::Lags)?;
+    push_lag_lines(out, &tenant.lags)?;
+    push_piece(out, Piece::End)
+}
+
+fn push_piece(out: &mut Vec<u8>, piece: Piece) -> Result<(), AllocError>
+    ensures { OnOk result (out.new.items ≡ out.old.items ++ piece_text piece) }
+{
+    out.extend_from_slice(piece.text().as_bytes())
+}
+
+/// Writes when the broker began to serve, and which version it is.
+fn push_begin(out: &mut Vec<u8>, process: &ProcessGauges<'_>) -> Result<(), AllocError>
+    ensures { OnOk result (out.new.items ≡ out.old.items ++ begin_text process.now) }
+{
+    push_text_line(out, "Up since", process.start_text)?;
+    push_text_line(out, "Version", process.version)
+}
+
+fn push_all_facts(
+    out: &mut Vec<u8>,
+    server: &ServerGauges,
+    process: &ProcessGauges<'_>,
+) -> Result<(), AllocError>
+    ensures { OnOk result (out.new.items ≡ out.old.items ++ facts_text server.now process.now) }
+{
+    push_facts(out, &process_facts(process))?;
+    push_facts(out, &socket_facts(server))?;
+    push_facts(out, &trouble_facts(server))
+}
+
+fn fact(label: &'static str, count: u64) -> Fact
+    ensures { fact_of result ≡ (label.now, whole count) }
+{
+    Fact {
+        label,
+        value: Some(Value::Whole(count)),
+    }
+}
+
+/// A line that may not be known.
+fn known_fact(label: &'static str, count: Option<u64>) -> Fact
+    ensures { fact_of result ≡ (label.now, option_map Whole count) }
+{
+    let value = match count {
+        Some(count) => Some(Value::Whole(count)),
+        None => None,
+    };
+    Fact { label, value }
+}
+
+#[tactic(auto, unfolding(crate::specs::Status::process_facts))]
+fn process_facts(process: &ProcessGauges<'_>) -> [Fact; 4]
+    ensures { map fact_of result ≡ process_facts process.now }
+{
+    [
+        known_fact("Memory, bytes", process.resident_bytes),
+        known_fact("Open files", process.open_fds),
+        known_fact("Files, at most", process.max_fds),
+        processor_fact(process.cpu_millis),
+    ]
+}
+
+fn processor_fact(millis: Option<u64>) -> Fact
+    ensures { fact_of result ≡ (codes "Processor time, seconds", option_map Thousandths millis) }
+{
+    let value = match millis {
+        Some(count) => Some(Value::Thousandths(count)),
+        None => None,
+    };
+    Fact {
+        label: "Processor time, seconds",
+        value,
+    }
+}
+
+#[tactic(auto, unfolding(crate::specs::Status::socket_facts))]
+fn socket_facts(server: &ServerGauges) -> [Fact; 7]
+    ensures { map fact_of result ≡ socket_facts server.now }
+{
+    [
+        fact("Sockets", server.sockets),
+        fact("Sockets, at most", server.sockets_limit),
+        fact("Sockets without a login", server.strangers),
+        fact("Sockets accepted", server.accepted),
+        fact("Bytes read", server.read_bytes),
+        fact("Bytes written", server.written_bytes),
+        Fact {
+            label: "Longest turn, seconds",
+            value: Some(Value::Millionths(server.turn_micros_max)),
+        },
+    ]
+}
+
+#[tactic(auto, unfolding(crate::specs::Status::trouble_facts))]
+fn trouble_facts(server: &ServerGauges) -> [Fact; 10]
+    ensures { map fact_of result ≡ trouble_facts server.now }
+{
+    [
+        fact("Logins failed", server.logins_failed),
+        fact("Refusals before login", server.refusals_before_login),
+        fact("Calls that the store refused", server.store_failures),
+        known_fact("Files of no log", server.stray_files),
+        fact("Closed: no place", server.closed.no_place),
+        fact("Closed: no login", server.closed.no_login),
+        fact("Closed: unread reply", server.closed.unread_reply),
+        fact("Closed: idle", server.closed.idle),
+        fact("Closed: slow request", server.closed.slow_request),
+        fact("Closed: limit", server.closed.limit),
+    ]
+}
+
+/// Writes a row for each tenant.
+fn push_rows(
+    out: &mut Vec<u8>,
+    tenants: &[TenantRow<'_>],
+    rates: &[Rates],
+) -> Result<(), AllocError>
+    ensures { OnOk result (out.new.items ≡ out.old.items ++ rows_text (map tenant_row tenants.now) rates.now) }
+{
+    for place in 0..tenants.len() {
+        push_row(out, tenants, rates, place)?;
+    }
     Ok(())
 }
 
-/// Writes the page of a tenant: its topics with their partitions, and its groups.
-///
-/// After an `Err`, which is want of memory, some of it may be there.
-pub fn push_tenant_status<L: PartitionLog>(
-    alloc: Global,
+/// Writes the row of the tenant at a place.
+fn push_row(
     out: &mut Vec<u8>,
-    tenant: &TenantGauges<'_, L>,
-) -> Result<(), AllocError> {
+    tenants: &[TenantRow<'_>],
+    rates: &[Rates],
+    place: usize,
+) -> Result<(), AllocError>
+    ensures { OnOk result (out.new.items ≡ out.old.items ++ row_at (map tenant_row tenants.now) rates.now place) }
+{
+    match tenants.get(place) {
+        Some(tenant) => push_tenant(out, tenant, rates.get(place)),
+        None => Ok(()),
+    }
+}
+
+/// Writes the row of a tenant.
+fn push_tenant(
+    out: &mut Vec<u8>,
+    tenant: &TenantRow<'_>,
+    rates: Option<&Rates>,
+) -> Result<(), AllocError>
+    ensures { OnOk result (out.new.items ≡ out.old.items ++ tenant_text (tenant_row tenant.now) (option_copied rates.entry)) }
+{
+    out.extend_from_slice(b"<tr>")?;
+    push_link_cell(out, "Tenant", tenant.name)?;
+    push_cells(out, &tenant_cells(tenant))?;
+    push_plots(out, rates)?;
+    out.extend_from_slice(b"</tr>\n")
+}
+
+#[tactic(auto, unfolding(crate::specs::Status::tenant_cells))]
+fn tenant_cells(tenant: &TenantRow<'_>) -> [Cell; 9]
+    ensures { map cell_of result ≡ tenant_cells (tenant_row tenant.now) }
+{
+    [
+        cell("Connections", tenant.connections),
+        cell("Waiting", tenant.waiting),
+        cell("Topics", tenant.topics),
+        cell("Partitions", tenant.partitions),
+        cell("Groups", tenant.groups.len() as u64),
+        cell("Lag", lag_sum(&tenant.lags)),
+        cell("Refusals", tenant.refusals),
+        cell("Bytes in", tenant.request_bytes),
+        cell("Bytes out", tenant.response_bytes),
+    ]
+}
+
+fn cell(label: &'static str, value: u64) -> Cell
+    ensures { cell_of result ≡ (label.now, value) }
+{
+    Cell { label, value }
+}
+
+/// How far groups are behind together. It stays at the greatest number.
+fn lag_sum(lags: &[LagRow<'_>]) -> u64
+    ensures { result ≡ lag_sum (map lag_row lags.now) }
+{
+    let mut sum: u64 = 0;
+    for lag in lags {
+        sum = sum.saturating_add(lag.value);
+    }
+    sum
+}
+
+/// Writes the bytes of each second, in and out.
+fn push_plots(out: &mut Vec<u8>, rates: Option<&Rates>) -> Result<(), AllocError>
+    ensures { OnOk result (out.new.items ≡ out.old.items ++ plots_text (option_copied rates.entry)) }
+{
+    match rates {
+        Some(rates) => {
+            push_plot_cell(out, "In a second", rates.requests())?;
+            push_plot_cell(out, "Out a second", rates.responses())
+        }
+        None => Ok(()),
+    }
+}
+
+fn push_partition_lines(
+    out: &mut Vec<u8>,
+    partitions: &[PartitionRow<'_>],
+) -> Result<(), AllocError>
+    ensures { OnOk result (out.new.items ≡ out.old.items ++ flat_map partition_line (map partition_row partitions.now)) }
+{
+    for partition in partitions {
+        push_partition_line(out, partition)?;
+    }
     Ok(())
+}
+
+fn push_partition_line(
+    out: &mut Vec<u8>,
+    partition: &PartitionRow<'_>,
+) -> Result<(), AllocError>
+    ensures { OnOk result (out.new.items ≡ out.old.items ++ partition_line (partition_row partition.now)) }
+{
+    out.extend_from_slice(b"<tr>")?;
+    push_name_cell(out, "Topic", partition.topic.as_bytes())?;
+    push_cell(out, "Partition", partition.number)?;
+    push_signed_cell(out, "Start", partition.start)?;
+    push_signed_cell(out, "End", partition.end)?;
+    out.extend_from_slice(b"</tr>\n")
+}
+
+fn push_group_lines(out: &mut Vec<u8>, groups: &[GroupRow<'_>]) -> Result<(), AllocError>
+    ensures { OnOk result (out.new.items ≡ out.old.items ++ flat_map group_line (map group_row groups.now)) }
+{
+    for group in groups {
+        push_group_line(out, group)?;
+    }
+    Ok(())
+}
+
+fn push_group_line(out: &mut Vec<u8>, group: &GroupRow<'_>) -> Result<(), AllocError>
+    ensures { OnOk result (out.new.items ≡ out.old.items ++ group_line (group_row group.now)) }
+{
+    out.extend_from_slice(b"<tr>")?;
+    push_name_cell(out, "Group", group.id)?;
+    push_cell(out, "Members", group.members)?;
+    push_signed_cell(out, "Generation", group.generation as i64)?;
+    out.extend_from_slice(b"</tr>\n")
+}
+
+fn push_lag_lines(out: &mut Vec<u8>, lags: &[LagRow<'_>]) -> Result<(), AllocError>
+    ensures { OnOk result (out.new.items ≡ out.old.items ++ flat_map lag_line (map lag_row lags.now)) }
+{
+    for lag in lags {
+        push_lag_line(out, lag)?;
+    }
+    Ok(())
+}
+
+fn push_lag_line(out: &mut Vec<u8>, lag: &LagRow<'_>) -> Result<(), AllocError>
+    ensures { OnOk result (out.new.items ≡ out.old.items ++ lag_line (lag_row lag.now)) }
+{
+    out.extend_from_slice(b"<tr>")?;
+    push_name_cell(out, "Group", lag.group.as_bytes())?;
+    push_name_cell(out, "Topic", lag.topic.as_bytes())?;
+    push_cell(out, "Lag", lag.value)?;
+    out.extend_from_slice(b"</tr>\n")
 }

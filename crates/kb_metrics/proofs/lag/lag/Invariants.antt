@@ -1,9 +1,7 @@
-use Rattle.std.proofs.Common.{◌≡◌}
-use Rattle.kb_store.specs.Disk.{Files}
-use Rattle.kb_tenant_state.specs.Parts.{world_of}
-use Rattle.kb_metrics.specs.Gauges.{lag_of}
+use Rattle.std.proofs.Common.{◌≡◌, take, map}
+use Rattle.kb_metrics.specs.Slots.{lag_among, slot_of}
 use Rattle.kb_metrics.proofs.lag.lag.Given as goal
 
 -- the lag in the partitions so far
-abbrev pub invariant-loop-number : goal.invariant-loop-number
-invariant-loop-number g l = (files : Files) → l.sum ≡ lag_of (world_of g.L.PartitionLog.log l.parts files) l.group l.instance l.number
+abbrev pub invariant-loop-slot : goal.invariant-loop-slot
+invariant-loop-slot l = l.sum ≡ lag_among l.group (map slot_of (take l.slot-index l.slots))

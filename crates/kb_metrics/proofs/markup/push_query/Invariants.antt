@@ -1,0 +1,8 @@
+use Rattle.std.proofs.Common.{◌≡◌, ◌++◌, take}
+use Rattle.std.specs.List.{flat_map}
+use Rattle.kb_metrics.specs.Markup.{query}
+use Rattle.kb_metrics.proofs.markup.push_query.Given as goal
+
+-- the bytes so far were written
+abbrev pub invariant-loop-byte : goal.invariant-loop-byte
+invariant-loop-byte l = l.out.items ≡ l.fn.out.items ++ query (take l.byte-index l.name)

@@ -1,0 +1,22 @@
+-- Partitions of a topic as the code looks at them for lag.
+use Rattle.std.specs.Prelude.{ℕ, ℤ, ◌^◌, ◌-◌, List, min, Option, None, Some, option_copied}
+use Rattle.std.specs.Option.{option_and_then}
+use Rattle.std.specs.List.{sum_by}
+use Rattle.kb_topics.specs.Known.{PartitionState, committed_at}
+use Rattle.kb_tenant_state.specs.Calls.{end_of, known_at, numbered}
+use Rattle.kb_tenant_state.specs.World.{World}
+use Rattle.kb_metrics.specs.Gauges.{behind}
+use Rattle.kb_metrics.specs.declared.lag.Slot.{Slot}
+
+abbrev pub slot_of : Slot → Option ℤ × Option PartitionState
+slot_of s = (s.end, option_copied s.partition)
+
+-- where a partition of a topic ends, and what is known of it
+abbrev pub slot_at : World → ℕ → ℕ → Option ℤ × Option PartitionState
+slot_at w instance number = (end_of w (numbered instance number), known_at w.known (numbered instance number))
+
+abbrev pub lag_in : List ℕ → Option ℤ × Option PartitionState → ℕ
+lag_in group s = behind s.0 (option_and_then (committed_at group) s.1)
+
+abbrev pub lag_among : List ℕ → List (Option ℤ × Option PartitionState) → ℕ
+lag_among group ss = min (sum_by (lag_in group) ss) (2 ^ 64 - 1)

@@ -1,0 +1,250 @@
+//! HTML: how names and numbers stand on a page.
+
+ghost use Rattle.std.specs.Prelude.{◌≡◌, ◌++◌, ◌+◌, ◌<◌, ◌/◌, map, length, OnOk};
+ghost use Rattle.std.specs.List.{flat_map, range_with_len};
+ghost use Rattle.kb_metrics.specs.Markup.{cell, cell_of, cell_start, entity, fact_of, fact_text, greatest, hex_digit, is_unreserved};
+ghost use Rattle.kb_metrics.specs.Markup.{known_line, line_text, link_cell, marked, name_cell, newest, plot_cell, point_text, points_text};
+ghost use Rattle.kb_metrics.specs.Markup.{query, query_byte, sample_at, signed_cell};
+ghost use Rattle.kb_metrics.specs.Text.{value_text};
+
+use crate::text::{Value, push_decimal, push_signed, push_value};
+use std::alloc::AllocError;
+
+/// A number in a table, with what it says in words.
+#[derive(Clone, Copy)]
+pub(crate) struct Cell {
+    pub(crate) label: &'static str,
+    pub(crate) value: u64,
+}
+
+/// A line with what it says in words; none where it is not known.
+#[derive(Clone, Copy)]
+pub(crate) struct Fact {
+    pub(crate) label: &'static str,
+    pub(crate) value: Option<Value>,
+}
+
+/// Writes a name.
+pub(crate) fn push_marked(out: &mut Vec<u8>, name: &[u8]) -> Result<(), AllocError>
+    ensures { OnOk result (out.new.items ≡ out.old.items ++ marked name.now) }
+{
+    for byte in name {
+        push_entity(out, *byte)?;
+    }
+    Ok(())
+}
+
+/// Writes a byte of a name.
+fn push_entity(out: &mut Vec<u8>, byte: u8) -> Result<(), AllocError>
+    ensures { OnOk result (out.new.items ≡ out.old.items ++ entity byte) }
+{
+    match byte {
+        b'&' => out.extend_from_slice(b"&amp;"),
+        b'<' => out.extend_from_slice(b"&lt;"),
+        b'>' => out.extend_from_slice(b"&gt;"),
+        b'"' => out.extend_from_slice(b"&quot;"),
+        b'\'' => out.extend_from_slice(b"&#39;"),
+        _ => out.extend_from_slice(&[byte]),
+    }
+}
+
+/// Writes a name as the value of a query.
+fn push_query(out: &mut Vec<u8>, name: &[u8]) -> Result<(), AllocError>
+    ensures { OnOk result (out.new.items ≡ out.old.items ++ query name.now) }
+{
+    for byte in name {
+        push_query_byte(out, *byte)?;
+    }
+    Ok(())
+}
+
+fn push_query_byte(out: &mut Vec<u8>, byte: u8) -> Result<(), AllocError>
+    ensures { OnOk result (out.new.items ≡ out.old.items ++ query_byte byte) }
+{
+    if is_unreserved(byte) {
+        out.extend_from_slice(&[byte])
+    } else {
+        out.extend_from_slice(&[b'%', hex_digit(byte / 16), hex_digit(byte % 16)])
+    }
+}
+
+fn is_unreserved(byte: u8) -> bool
+    ensures { result ≡ is_unreserved byte }
+{
+    matches!(byte, b'0'..=b'9' | b'A'..=b'Z' | b'a'..=b'z' | b'-' | b'.' | b'_' | b'~')
+}
+
+fn hex_digit(digit: u8) -> u8
+    requires { digit < 16 }
+    ensures { result ≡ hex_digit digit }
+{
+    if digit < 10 {
+        b'0' + digit
+    } else {
+        b'A' + digit - 10
+    }
+}
+
+fn push_cell_start(out: &mut Vec<u8>, label: &str) -> Result<(), AllocError>
+    ensures { OnOk result (out.new.items ≡ out.old.items ++ cell_start label.now) }
+{
+    out.extend_from_slice(b"<td data-l=\"")?;
+    out.extend_from_slice(label.as_bytes())?;
+    out.extend_from_slice(b"\">")
+}
+
+/// Writes a cell with a name.
+pub(crate) fn push_name_cell(
+    out: &mut Vec<u8>,
+    label: &str,
+    name: &[u8],
+) -> Result<(), AllocError>
+    ensures { OnOk result (out.new.items ≡ out.old.items ++ name_cell label.now name.now) }
+{
+    push_cell_start(out, label)?;
+    push_marked(out, name)?;
+    out.extend_from_slice(b"</td>")
+}
+
+/// Writes a cell with the name of a tenant, which leads to its page.
+pub(crate) fn push_link_cell(out: &mut Vec<u8>, label: &str, name: &str) -> Result<(), AllocError>
+    ensures { OnOk result (out.new.items ≡ out.old.items ++ link_cell label.now name.now) }
+{
+    push_cell_start(out, label)?;
+    out.extend_from_slice(b"<a href=\"/?tenant=")?;
+    push_query(out, name.as_bytes())?;
+    out.extend_from_slice(b"\">")?;
+    push_marked(out, name.as_bytes())?;
+    out.extend_from_slice(b"</a></td>")
+}
+
+/// Writes a cell with a number.
+pub(crate) fn push_cell(out: &mut Vec<u8>, label: &str, value: u64) -> Result<(), AllocError>
+    ensures { OnOk result (out.new.items ≡ out.old.items ++ cell (label.now, value)) }
+{
+    push_cell_start(out, label)?;
+    push_decimal(out, value)?;
+    out.extend_from_slice(b"</td>")
+}
+
+/// Writes a cell with a number that may be below 0.
+pub(crate) fn push_signed_cell(
+    out: &mut Vec<u8>,
+    label: &str,
+    value: i64,
+) -> Result<(), AllocError>
+    ensures { OnOk result (out.new.items ≡ out.old.items ++ signed_cell label.now value) }
+{
+    push_cell_start(out, label)?;
+    push_signed(out, value)?;
+    out.extend_from_slice(b"</td>")
+}
+
+/// Writes cells with numbers.
+pub(crate) fn push_cells(out: &mut Vec<u8>, cells: &[Cell]) -> Result<(), AllocError>
+    ensures { OnOk result (out.new.items ≡ out.old.items ++ flat_map cell (map cell_of cells.now)) }
+{
+    for cell in cells {
+        push_cell(out, cell.label, cell.value)?;
+    }
+    Ok(())
+}
+
+/// Writes lines, those that are known.
+pub(crate) fn push_facts(out: &mut Vec<u8>, facts: &[Fact]) -> Result<(), AllocError>
+    ensures { OnOk result (out.new.items ≡ out.old.items ++ flat_map fact_text (map fact_of facts.now)) }
+{
+    for fact in facts {
+        push_fact(out, fact)?;
+    }
+    Ok(())
+}
+
+fn push_fact(out: &mut Vec<u8>, fact: &Fact) -> Result<(), AllocError>
+    ensures { OnOk result (out.new.items ≡ out.old.items ++ fact_text (fact_of fact.now)) }
+{
+    match fact.value {
+        None => Ok(()),
+        Some(value) => push_line(out, fact.label, value),
+    }
+}
+
+/// Writes a line with a number.
+fn push_line(out: &mut Vec<u8>, label: &str, value: Value) -> Result<(), AllocError>
+    ensures { OnOk result (out.new.items ≡ out.old.items ++ line_text label.now (value_text value)) }
+{
+    out.extend_from_slice(b"<tr><th>")?;
+    out.extend_from_slice(label.as_bytes())?;
+    out.extend_from_slice(b"</th><td>")?;
+    push_value(out, value)?;
+    out.extend_from_slice(b"</td></tr>\n")
+}
+
+/// Writes a line with a text.
+pub(crate) fn push_text_line(out: &mut Vec<u8>, label: &str, text: &str) -> Result<(), AllocError>
+    ensures { OnOk result (out.new.items ≡ out.old.items ++ line_text label.now (marked text.now)) }
+{
+    out.extend_from_slice(b"<tr><th>")?;
+    out.extend_from_slice(label.as_bytes())?;
+    out.extend_from_slice(b"</th><td>")?;
+    push_marked(out, text.as_bytes())?;
+    out.extend_from_slice(b"</td></tr>\n")
+}
+
+/// Writes a plot of samples, and the newest of them as a number.
+pub(crate) fn push_plot_cell(
+    out: &mut Vec<u8>,
+    label: &str,
+    samples: &[u64],
+) -> Result<(), AllocError>
+    requires { length samples.now ≡ 120 }
+    ensures { OnOk result (out.new.items ≡ out.old.items ++ plot_cell label.now samples.now) }
+{
+    push_cell_start(out, label)?;
+    out.extend_from_slice(b"<svg viewBox=\"0 0 119 25\"><polyline points=\"")?;
+    push_points(out, samples)?;
+    out.extend_from_slice(b"\"/></svg> ")?;
+    push_decimal(out, samples[119])?;
+    out.extend_from_slice(b"</td>")
+}
+
+/// Writes the points of a plot.
+fn push_points(out: &mut Vec<u8>, samples: &[u64]) -> Result<(), AllocError>
+    ensures { OnOk result (out.new.items ≡ out.old.items ++ points_text samples.now) }
+{
+    let step = greatest(samples) / 24 + 1;
+    push_points_by(out, step, samples)
+}
+
+/// Writes points, whose height is the number of such steps.
+fn push_points_by(out: &mut Vec<u8>, step: u64, samples: &[u64]) -> Result<(), AllocError>
+    requires { 0 < step }
+    ensures { OnOk result (out.new.items
+        ≡ out.old.items ++ flat_map (point_text step) (map (sample_at samples.now) (range_with_len 0 (length samples.now)))) }
+{
+    for place in 0..samples.len() {
+        push_point(out, step, place, samples[place])?;
+    }
+    Ok(())
+}
+
+fn push_point(out: &mut Vec<u8>, step: u64, place: usize, sample: u64) -> Result<(), AllocError>
+    requires { 0 < step }
+    ensures { OnOk result (out.new.items ≡ out.old.items ++ point_text step (place, sample)) }
+{
+    push_decimal(out, place as u64)?;
+    out.push(b',')?;
+    push_decimal(out, 24u64.saturating_sub(sample / step))?;
+    out.push(b' ')?;
+    Ok(())
+}
+
+fn greatest(samples: &[u64]) -> u64
+    ensures { result ≡ greatest samples.now }
+{
+    let mut greatest: u64 = 0;
+    for sample in samples {
+        greatest = greatest.max(*sample);
+    }
+    greatest
+}

@@ -1,5 +1,5 @@
 -- HTML: how names and numbers stand on a page.
-use Rattle.std.specs.Prelude.{ℕ, ℤ, ◌+◌, ◌-◌, ◌/◌, ◌%◌, ◌≢◌, List, [], ◌∷◌, ◌++◌, Bool, ◌==◌, ◌&&◌, ◌||◌, nat_le, nat_lt, if◌then◌else◌, codes, decimal}
+use Rattle.std.specs.Prelude.{ℕ, ℤ, ◌+◌, ◌-◌, ◌/◌, ◌%◌, ◌≡◌, List, [], ◌∷◌, ◌++◌, Bool, false, ◌==◌, ◌&&◌, ◌||◌, nat_le, nat_lt, if◌then◌else◌, codes, decimal}
 use Rattle.std.specs.Prelude.{Option, None, Some, map, max, length, slice_index_or}
 use Rattle.std.specs.Fmt.{signed_decimal}
 use Rattle.std.specs.List.{flat_map, range_with_len}
@@ -21,9 +21,12 @@ entity b =
 abbrev pub marked : List ℕ → List ℕ
 marked name = flat_map entity name
 
--- neither begins nor ends a tag or a value in quotes
+-- begins or ends a tag, or a value in quotes
+abbrev pub is_markup : ℕ → Bool
+is_markup b = b == 60 || (b == 62 || (b == 34 || b == 39))
+
 abbrev pub IsPlain : ℕ → Type 0
-IsPlain b = (b ≢ 60) × (b ≢ 62) × (b ≢ 34) × (b ≢ 39)
+IsPlain b = is_markup b ≡ false
 
 -- a byte that stands for itself in a query (RFC 3986, "Unreserved Characters")
 abbrev pub is_unreserved : ℕ → Bool

@@ -1,5 +1,5 @@
 -- No byte of an escaped name begins or ends a tag, or a value in quotes.
-use Rattle.std.proofs.Common.{◌≡◌, ◌∙◌, ℕ, List, [], ◌∷◌, ◌++◌, ◌==◌, ◌||◌, Bool, true, false, tt, refl, ap, cond}
+use Rattle.std.proofs.Common.{◌≡◌, ◌∙◌, ℕ, List, [], ◌∷◌, ◌++◌, ◌==◌, ◌||◌, Bool, true, false, refl, ap, cond}
 use Rattle.std.specs.List.{AllByRecursion}
 use Rattle.kb_metrics.specs.Markup.{IsPlain, entity, marked}
 
@@ -18,10 +18,10 @@ other b n60 n62 n34 n39 =
 entity_plain : (b : ℕ) → AllByRecursion IsPlain (entity b)
 entity_plain b =
     either (b == 38) _ _ (refl, (refl, (refl, (refl, (refl, tt))))) (λ _.
-      either (b == 60) _ _ (refl, (refl, (refl, (refl, tt)))) (λ n60.
-        either (b == 62) _ _ (refl, (refl, (refl, (refl, tt)))) (λ n62.
-          either (b == 34) _ _ (refl, (refl, (refl, (refl, (refl, (refl, tt)))))) (λ n34.
-            either (b == 39) _ _ (refl, (refl, (refl, (refl, (refl, tt))))) (λ n39. (other b n60 n62 n34 n39, tt))))))
+    either (b == 60) _ _ (refl, (refl, (refl, (refl, tt)))) (λ n60.
+    either (b == 62) _ _ (refl, (refl, (refl, (refl, tt)))) (λ n62.
+    either (b == 34) _ _ (refl, (refl, (refl, (refl, (refl, (refl, tt)))))) (λ n34.
+    either (b == 39) _ _ (refl, (refl, (refl, (refl, (refl, tt))))) (λ n39. (other b n60 n62 n34 n39, tt))))))
 
 pub marked_plain : (name : List ℕ) → AllByRecursion IsPlain (marked name)
 marked_plain [] = tt

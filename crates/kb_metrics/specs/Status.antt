@@ -38,9 +38,7 @@ piece_text pieces.Partitions =
 piece_text pieces.Groups =
     codes "</table>\n<h2>Groups</h2>\n<table class=\"w\">\n<tr><th>Group</th><th>Members</th>"
     ++ codes "<th>Generation</th></tr>\n"
-piece_text pieces.Lags =
-    codes "</table>\n<h2>Lag</h2>\n<table class=\"w\">\n<tr><th>Group</th><th>Topic</th><th>Lag</th>"
-    ++ tag_text tags.RowEnd
+piece_text pieces.Lags = codes "</table>\n<h2>Lag</h2>\n<table class=\"w\">\n<tr><th>Group</th><th>Topic</th><th>Lag</th></tr>\n"
 piece_text pieces.End = codes "</table>\n</body></html>\n"
 
 -- ---- the status page

@@ -4,7 +4,8 @@ ghost use Rattle.std.specs.Prelude.{◌≡◌, ◌++◌, ◌∷◌, [], map, OnO
 ghost use Rattle.kb_store.specs.Disk.{Files};
 ghost use Rattle.kb_topics.specs.Catalog.{known};
 ghost use Rattle.kb_tenant_state.specs.Parts.{world_of};
-ghost use Rattle.kb_metrics.specs.Gauges.{between, commit_of, commits, commits_in, group_of, lags, partition_count, partition_of, partitions};
+ghost use Rattle.kb_metrics.specs.Gauges.{between, commit_of, commits, commits_in};
+ghost use Rattle.kb_metrics.specs.Gauges.{group_of, lags, partition_count, partition_of, partitions};
 ghost use Rattle.kb_metrics.specs.Gauges.{tenant_of, topic_commits, topic_lags, topic_partitions};
 ghost use Rattle.kb_metrics.specs.Rows.{commit_row, group_row, lag_row, partition_row, tenant_row};
 ghost use Rattle.kb_metrics.specs.Slots.{lag_row_among, slot_of};
@@ -231,10 +232,7 @@ pub(crate) fn commit_rows<'a, L: PartitionLog>(
 }
 
 /// Puts a row for what each group committed to each partition of a topic.
-fn push_topic_commits<'a>(
-    rows: &mut Vec<CommitRow<'a>>,
-    topic: &'a Topic,
-) -> Result<(), AllocError>
+fn push_topic_commits<'a>(rows: &mut Vec<CommitRow<'a>>, topic: &'a Topic) -> Result<(), AllocError>
     ensures { OnOk result (map commit_row rows.new.items ≡ map commit_row rows.old.items ++ topic_commits topic.now) }
 {
     for number in 0..topic.partitions().len() {

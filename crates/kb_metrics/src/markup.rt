@@ -142,11 +142,7 @@ fn push_cell_start(out: &mut Vec<u8>, label: &str) -> Result<(), AllocError>
 
 /// Writes a cell with a name.
 #[tactic(auto, unfolding(crate::specs::Markup::name_cell))]
-pub(crate) fn push_name_cell(
-    out: &mut Vec<u8>,
-    label: &str,
-    name: &[u8],
-) -> Result<(), AllocError>
+pub(crate) fn push_name_cell(out: &mut Vec<u8>, label: &str, name: &[u8]) -> Result<(), AllocError>
     ensures { OnOk result (out.new.items ≡ out.old.items ++ name_cell label.now name.now) }
 {
     push_cell_start(out, label)?;
@@ -179,11 +175,7 @@ pub(crate) fn push_cell(out: &mut Vec<u8>, label: &str, value: u64) -> Result<()
 
 /// Writes a cell with a number that may be below 0.
 #[tactic(auto, unfolding(crate::specs::Markup::signed_cell))]
-pub(crate) fn push_signed_cell(
-    out: &mut Vec<u8>,
-    label: &str,
-    value: i64,
-) -> Result<(), AllocError>
+pub(crate) fn push_signed_cell(out: &mut Vec<u8>, label: &str, value: i64) -> Result<(), AllocError>
     ensures { OnOk result (out.new.items ≡ out.old.items ++ signed_cell label.now value) }
 {
     push_cell_start(out, label)?;

@@ -5,9 +5,11 @@ ghost use Rattle.std.specs.Option.{option_map};
 ghost use Rattle.std.specs.List.{flat_map, range_with_len};
 ghost use Rattle.kb_metrics.specs.Markup.{cell_of, fact_of};
 ghost use Rattle.kb_metrics.specs.Rows.{group_row, lag_row, partition_row, tenant_row};
-ghost use Rattle.kb_metrics.specs.Status.{begin_text, both_plots, closed_facts, facts_text, group_line, lag_line, lag_sum, offset_cells, partition_line};
+ghost use Rattle.kb_metrics.specs.Status.{begin_text, both_plots, closed_facts, facts_text};
+ghost use Rattle.kb_metrics.specs.Status.{group_line, lag_line, lag_sum, offset_cells, partition_line};
 ghost use Rattle.kb_metrics.specs.Status.{piece_text, plots_text};
-ghost use Rattle.kb_metrics.specs.Status.{process_facts, row_at, rows_text, socket_facts, status_text, tenant_cells, tenant_page, tenant_text};
+ghost use Rattle.kb_metrics.specs.Status.{process_facts, row_at, rows_text, socket_facts};
+ghost use Rattle.kb_metrics.specs.Status.{status_text, tenant_cells, tenant_page, tenant_text};
 ghost use Rattle.kb_metrics.specs.Status.{title_text, trouble_facts, whole};
 ghost use Rattle.kb_metrics.specs.declared.text.Value.TheVariants.{Thousandths, Whole};
 
@@ -64,8 +66,7 @@ impl Piece {
                 <th>Generation</th></tr>\n"
             }
             Piece::Lags => {
-                "</table>\n<h2>Lag</h2>\n<table class=\"w\">\n<tr><th>Group</th><th>Topic</th><th>Lag</th>\
-                </tr>\n"
+                "</table>\n<h2>Lag</h2>\n<table class=\"w\">\n<tr><th>Group</th><th>Topic</th><th>Lag</th></tr>\n"
             }
             Piece::End => "</table>\n</body></html>\n",
         }
@@ -347,10 +348,7 @@ fn push_partition_lines(
 }
 
 #[tactic(auto, unfolding(crate::specs::Status::partition_line))]
-fn push_partition_line(
-    out: &mut Vec<u8>,
-    partition: &PartitionRow<'_>,
-) -> Result<(), AllocError>
+fn push_partition_line(out: &mut Vec<u8>, partition: &PartitionRow<'_>) -> Result<(), AllocError>
     ensures { OnOk result (out.new.items ≡ out.old.items ++ partition_line (partition_row partition.now)) }
 {
     push_tag(out, Tag::Row)?;

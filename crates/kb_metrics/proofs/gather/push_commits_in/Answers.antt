@@ -10,8 +10,8 @@ pub returns-in-Some : goal.returns-in-Some
 returns-in-Some c =
     let rows = map commit_row c.args.rows.now.items in
     on_ok c.push_commits.result (λ h.
-      h ∙ ap (λ t. rows ++ map (commit_of t c.args.number) c.in-Some.partition.now.commits) c.name.ensures
-      ∙ ap (λ o. rows ++ commits_to c.args.topic.now.name c.args.number o) (ap option_copied (sym c.in-Some.is) ∙ c.partition_at.ensures))
+    h ∙ ap (λ t. rows ++ map (commit_of t c.args.number) c.in-Some.partition.now.commits) c.name.ensures
+    ∙ ap (λ o. rows ++ commits_to c.args.topic.now.name c.args.number o) (ap option_copied (sym c.in-Some.is) ∙ c.partition_at.ensures))
     c.push_commits.ensures
 
 pub returns-in-None : goal.returns-in-None

@@ -11,7 +11,7 @@ returns g c =
     let rows = map partition_row c.args.rows.now.items in
     let place = numbered c.args.instance c.args.number in
     on_ok c.push_between.result (λ h files.
-      h ∙ ap (λ t. rows ++ between t c.args.number c.start.result c.end.result) c.name.ensures
-      ∙ ap (λ s. rows ++ between c.args.topic.now.name c.args.number s c.end.result) (c.start.ensures files)
-      ∙ ap (λ e. rows ++ between c.args.topic.now.name c.args.number (start_of (world_of g.L.PartitionLog.log c.args.parts.now files) place) e) (c.end.ensures files))
+    h ∙ ap (λ t. rows ++ between t c.args.number c.start.result c.end.result) c.name.ensures
+    ∙ ap (λ s. rows ++ between c.args.topic.now.name c.args.number s c.end.result) (c.start.ensures files)
+    ∙ ap (λ e. rows ++ between c.args.topic.now.name c.args.number (start_of (world_of g.L.PartitionLog.log c.args.parts.now files) place) e) (c.end.ensures files))
     c.push_between.ensures

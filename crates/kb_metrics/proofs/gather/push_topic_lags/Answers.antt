@@ -18,8 +18,8 @@ loop-group-preserved g c files =
     let make : List ℕ → List ℕ → ℕ → Lag = λ group topic value. record { group = group; topic = topic; value = value } in
     let among : (group : List ℕ) → lag_among group (map slot_of c.deref.result.now) ≡ lag_of w group c.args.instance (length t.partitions)
     = λ group. ap (λ ss. lag_among group (map slot_of ss)) c.deref.ensures.value ∙ ap (lag_among group) (c.in_ok-slots.ensures files)
-      ∙ ap (λ ps. lag_among group (map (slot_at w c.args.instance) (range_with_len 0 (length ps)))) c.partitions.ensures
-      ∙ among_slots w group c.args.instance (length t.partitions) in
+    ∙ ap (λ ps. lag_among group (map (slot_at w c.args.instance) (range_with_len 0 (length ps)))) c.partitions.ensures
+    ∙ among_slots w group c.args.instance (length t.partitions) in
     element_more (topic_lag w (c.args.instance, t)) (lag_row_among (map slot_of c.deref.result.now) c.name.result.now) (λ n. n.now)
     (map lag_row c.args.rows.now.items) (map lag_row c.loop-group.rows.items) (map lag_row c.push_lag.new.rows.items) items
     c.loop-group.group-index _

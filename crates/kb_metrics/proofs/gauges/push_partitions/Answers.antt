@@ -11,10 +11,10 @@ returns g c =
     let out = c.args.out.now.items in
     let name = c.args.tenant.now.name.now in
     on_ok c.push_committed.result (λ h files.
-      let w = world_of g.L.PartitionLog.log c.args.tenant.now.parts.now files in
-      let offsets = offsets_text name (partitions w) in
-      let front : c.push_offsets.new.out.items ≡ out ++ offsets
-      = c.in_ok-push_offsets.ensures ∙ ap (λ ps. out ++ offsets_text name ps) (ap (map partition_row) c.deref.ensures.value ∙ c.in_ok-partitions.ensures files) in
-      h ∙ ap (λ o. o ++ committed_text name (map commit_row c.deref-2.result.now)) front ∙ append_assoc out offsets _
-      ∙ ap (λ cs. out ++ (offsets ++ committed_text name cs)) (ap (map commit_row) c.deref-2.ensures.value ∙ c.in_ok-commits.ensures files))
+    let w = world_of g.L.PartitionLog.log c.args.tenant.now.parts.now files in
+    let offsets = offsets_text name (partitions w) in
+    let front : c.push_offsets.new.out.items ≡ out ++ offsets
+    = c.in_ok-push_offsets.ensures ∙ ap (λ ps. out ++ offsets_text name ps) (ap (map partition_row) c.deref.ensures.value ∙ c.in_ok-partitions.ensures files) in
+    h ∙ ap (λ o. o ++ committed_text name (map commit_row c.deref-2.result.now)) front ∙ append_assoc out offsets _
+    ∙ ap (λ cs. out ++ (offsets ++ committed_text name cs)) (ap (map commit_row) c.deref-2.ensures.value ∙ c.in_ok-commits.ensures files))
     c.push_committed.ensures

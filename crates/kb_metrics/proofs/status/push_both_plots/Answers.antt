@@ -12,6 +12,6 @@ returns c =
     let front : c.push_plot_cell.new.out.items ≡ out ++ into
     = c.in_ok-push_plot_cell.ensures ∙ ap (λ s. out ++ plot_cell (codes "In a second") s) c.requests.ensures.value in
     on_ok c.push_plot_cell-2.result (λ h.
-      h ∙ ap (λ o. o ++ plot_cell (codes "Out a second") c.responses.result.now) front ∙ append_assoc out into _
-      ∙ ap (λ s. out ++ (into ++ plot_cell (codes "Out a second") s)) c.responses.ensures.value)
+    h ∙ ap (λ o. o ++ plot_cell (codes "Out a second") c.responses.result.now) front ∙ append_assoc out into _
+    ∙ ap (λ s. out ++ (into ++ plot_cell (codes "Out a second") s)) c.responses.ensures.value)
     c.push_plot_cell-2.ensures

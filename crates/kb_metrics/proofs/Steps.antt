@@ -54,11 +54,3 @@ element_more T S v o out new xs i d same lt e h =
     let front = map T (map v (take i xs)) in
     h ∙ ap (λ y. out ++ y ∷ []) (same (v x)) ∙ ap (λ ys. ys ++ T (v x) ∷ []) e ∙ append_assoc o front (T (v x) ∷ [])
     ∙ ap (λ ys. o ++ ys) (sym (ap (map T) (map_more v xs i d lt) ∙ map-append T (map v (take i xs)) (v x ∷ [])))
-
--- one more piece
-then : {X : Type 0} (o x p q b : List X) → p ≡ o ++ x → q ≡ p ++ b → q ≡ o ++ (x ++ b)
-then o x p q b e f = f ∙ ap (λ y. y ++ b) e ∙ append_assoc o x b
-
-pub five : {X : Type 0} (o p q r s t a b c d e : List X) → p ≡ o ++ a → q ≡ p ++ b → r ≡ q ++ c → s ≡ r ++ d → t ≡ s ++ e → t ≡ o ++ (a ++ b ++ c ++ d ++ e)
-five o p q r s t a b c d e f g h i j =
-    then o (a ++ b ++ c ++ d) s t e (then o (a ++ b ++ c) r s d (then o (a ++ b) q r c (then o a p q b f g) h) i) j

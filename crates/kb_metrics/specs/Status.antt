@@ -117,13 +117,15 @@ status_text s p ts hs =
 
 -- ---- the page of a tenant
 
+unfoldable pub place_cells : List ℕ → ℕ → List ℕ
+place_cells topic number = name_cell (codes "Topic") topic ++ cell (codes "Partition", number)
+
 unfoldable pub offset_cells : ℤ → ℤ → List ℕ
 offset_cells start end = signed_cell (codes "Start") start ++ signed_cell (codes "End") end
 
 unfoldable pub partition_line : Partition → List ℕ
 partition_line p =
-    tag_text tags.Row ++ name_cell (codes "Topic") p.topic ++ cell (codes "Partition", p.number) ++ offset_cells p.start p.end
-    ++ tag_text tags.RowEnd
+    tag_text tags.Row ++ place_cells p.topic p.number ++ offset_cells p.start p.end ++ tag_text tags.RowEnd
 
 unfoldable pub group_line : Group → List ℕ
 group_line g =

@@ -7,7 +7,7 @@ ghost use Rattle.kb_metrics.specs.Markup.{cell_of, fact_of};
 ghost use Rattle.kb_metrics.specs.Rows.{group_row, lag_row, partition_row, tenant_row};
 ghost use Rattle.kb_metrics.specs.Status.{begin_text, both_plots, closed_facts, facts_text};
 ghost use Rattle.kb_metrics.specs.Status.{group_line, lag_line, lag_sum, offset_cells, partition_line};
-ghost use Rattle.kb_metrics.specs.Status.{piece_text, plots_text};
+ghost use Rattle.kb_metrics.specs.Status.{piece_text, place_cells, plots_text};
 ghost use Rattle.kb_metrics.specs.Status.{process_facts, row_at, rows_text, socket_facts};
 ghost use Rattle.kb_metrics.specs.Status.{status_text, tenant_cells, tenant_page, tenant_text};
 ghost use Rattle.kb_metrics.specs.Status.{title_text, trouble_facts, whole};
@@ -352,10 +352,17 @@ fn push_partition_line(out: &mut Vec<u8>, partition: &PartitionRow<'_>) -> Resul
     ensures { OnOk result (out.new.items ≡ out.old.items ++ partition_line (partition_row partition.now)) }
 {
     push_tag(out, Tag::Row)?;
-    push_name_cell(out, "Topic", partition.topic.as_bytes())?;
-    push_cell(out, "Partition", partition.number)?;
+    push_place_cells(out, partition.topic, partition.number)?;
     push_offset_cells(out, partition.start, partition.end)?;
     push_tag(out, Tag::RowEnd)
+}
+
+#[tactic(auto, unfolding(crate::specs::Status::place_cells))]
+fn push_place_cells(out: &mut Vec<u8>, topic: &str, number: u64) -> Result<(), AllocError>
+    ensures { OnOk result (out.new.items ≡ out.old.items ++ place_cells topic.now number) }
+{
+    push_name_cell(out, "Topic", topic.as_bytes())?;
+    push_cell(out, "Partition", number)
 }
 
 #[tactic(auto, unfolding(crate::specs::Status::offset_cells))]

@@ -1,5 +1,5 @@
 -- No byte of an escaped name begins or ends a tag, or a value in quotes.
-use Rattle.std.proofs.Common.{◌≡◌, ◌≢◌, ℕ, List, [], ◌∷◌, ◌++◌, ◌==◌, ◌×◌, Bool, true, false, tt, codes, arith, cond}
+use Rattle.std.proofs.Common.{◌≡◌, ◌∙◌, ℕ, List, [], ◌∷◌, ◌++◌, ◌==◌, ◌||◌, Bool, true, false, refl, ap, cond}
 use Rattle.std.specs.List.{AllByRecursion}
 use Rattle.kb_metrics.specs.Markup.{IsPlain, entity, marked}
 
@@ -7,8 +7,21 @@ both : (a b : List ℕ) → AllByRecursion IsPlain a → AllByRecursion IsPlain 
 both [] b h k = k
 both (x ∷ a) b h k = (h.0, both a b h.1 k)
 
+either : (c : Bool) (x y : List ℕ) → AllByRecursion IsPlain x → (c ≡ false → AllByRecursion IsPlain y) → AllByRecursion IsPlain (cond c x y)
+either true x y h k = h
+either false x y h k = k refl
+
+other : (b : ℕ) → (b == 60) ≡ false → (b == 62) ≡ false → (b == 34) ≡ false → (b == 39) ≡ false → IsPlain b
+other b n60 n62 n34 n39 =
+    ap (λ c. c || (b == 62 || (b == 34 || b == 39))) n60 ∙ ap (λ c. c || (b == 34 || b == 39)) n62 ∙ ap (λ c. c || b == 39) n34 ∙ n39
+
 entity_plain : (b : ℕ) → AllByRecursion IsPlain (entity b)
-entity_plain b = ?
+entity_plain b =
+    either (b == 38) _ _ (refl, (refl, (refl, (refl, (refl, tt))))) (λ _.
+    either (b == 60) _ _ (refl, (refl, (refl, (refl, tt)))) (λ n60.
+    either (b == 62) _ _ (refl, (refl, (refl, (refl, tt)))) (λ n62.
+    either (b == 34) _ _ (refl, (refl, (refl, (refl, (refl, (refl, tt)))))) (λ n34.
+    either (b == 39) _ _ (refl, (refl, (refl, (refl, (refl, tt))))) (λ n39. (other b n60 n62 n34 n39, tt))))))
 
 pub marked_plain : (name : List ℕ) → AllByRecursion IsPlain (marked name)
 marked_plain [] = tt

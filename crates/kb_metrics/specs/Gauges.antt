@@ -74,12 +74,12 @@ commits_to topic number (Some p) = map (commit_of topic number) p.commits
 abbrev pub commits_in : TopicState → ℕ → List Commit
 commits_in t number = commits_to t.name number (slice_get t.partitions number)
 
-abbrev pub topic_commits : ℕ × TopicState → List Commit
-topic_commits t = flat_map (commits_in t.1) (range_with_len 0 (length t.1.partitions))
+abbrev pub topic_commits : TopicState → List Commit
+topic_commits t = flat_map (commits_in t) (range_with_len 0 (length t.partitions))
 
 -- what groups committed to the partitions of a tenant, by topic
 abbrev pub commits : World → List Commit
-commits w = flat_map topic_commits (by_name w.known.topics)
+commits w = flat_map (λ t. topic_commits t.1) (by_name w.known.topics)
 
 -- 3. What is said of a tenant
 

@@ -14,9 +14,13 @@ no_samples = replicate 120 0
 abbrev pub no_history : History
 no_history = record { requests = no_samples; responses = no_samples; noted = None }
 
+-- so many seconds are gone where some begin
+abbrev pub gone : ℕ → List ℕ → ℕ
+gone seconds xs = min seconds (length xs)
+
 -- so many seconds begin, in which nothing came yet: as many of the oldest go
 abbrev pub begun : ℕ → List ℕ → List ℕ
-begun seconds xs = drop seconds xs ++ replicate (min seconds (length xs)) 0
+begun seconds xs = drop (gone seconds xs) xs ++ replicate (gone seconds xs) 0
 
 -- more bytes in the newest second, as far as 64 bits go
 abbrev pub added : ℕ → List ℕ → List ℕ

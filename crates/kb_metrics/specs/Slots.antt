@@ -6,6 +6,7 @@ use Rattle.kb_topics.specs.Known.{PartitionState, committed_at}
 use Rattle.kb_tenant_state.specs.Calls.{end_of, known_at, numbered}
 use Rattle.kb_tenant_state.specs.World.{World}
 use Rattle.kb_metrics.specs.Gauges.{behind}
+use Rattle.kb_metrics.specs.Rows.{Lag}
 use Rattle.kb_metrics.specs.declared.lag.Slot.{Slot}
 
 abbrev pub slot_of : Slot → Option ℤ × Option PartitionState
@@ -20,3 +21,6 @@ lag_in group s = behind s.0 (option_and_then (committed_at group) s.1)
 
 abbrev pub lag_among : List ℕ → List (Option ℤ × Option PartitionState) → ℕ
 lag_among group ss = min (sum_by (lag_in group) ss) (2 ^ 64 - 1)
+
+abbrev pub lag_row_among : List (Option ℤ × Option PartitionState) → List ℕ → List ℕ → Lag
+lag_row_among ss topic group = record { group = group; topic = topic; value = lag_among group ss }

@@ -4,7 +4,8 @@ ghost use Rattle.std.specs.Prelude.{◌≡◌, ◌++◌, map, OnOk, Some, option
 ghost use Rattle.std.specs.List.{flat_map};
 ghost use Rattle.kb_metrics.specs.Families.{all_families, api_name, api_text, commit_text, commits_text, committed_text, counted_text};
 ghost use Rattle.kb_metrics.specs.Families.{end_text, ends_text, families_text, family_text, help_of, kind_of, lag_text, members_text};
-ghost use Rattle.kb_metrics.specs.Families.{name_of, number_text, offsets_text, requests_text, said_of, start_text, starts_text, tenant_label};
+ghost use Rattle.kb_metrics.specs.Families.{name_of, number_text, offsets_text, requests_text};
+ghost use Rattle.kb_metrics.specs.Families.{said_of, start_text, starts_text, tenant_label};
 ghost use Rattle.kb_metrics.specs.Rows.{commit_row, group_row, lag_row, partition_row, tenant_row};
 ghost use Rattle.kb_metrics.specs.Text.{label_of};
 
@@ -69,10 +70,8 @@ impl Family {
         ensures { result ≡ kind_of self }
     {
         match self {
-            Family::Requests
-            | Family::RequestBytes
-            | Family::ResponseBytes
-            | Family::Refusals => Kind::Counter,
+            Family::Requests | Family::RequestBytes | Family::ResponseBytes | Family::Refusals =>
+                Kind::Counter,
             Family::Connections
             | Family::Waiting
             | Family::Topics
@@ -158,11 +157,7 @@ fn push_family(
 }
 
 /// Writes what a family says of each tenant.
-fn push_each(
-    out: &mut Vec<u8>,
-    family: Family,
-    tenants: &[TenantRow<'_>],
-) -> Result<(), AllocError>
+fn push_each(out: &mut Vec<u8>, family: Family, tenants: &[TenantRow<'_>]) -> Result<(), AllocError>
     ensures { OnOk result (out.new.items ≡ out.old.items ++ flat_map (said_of family) (map tenant_row tenants.now)) }
 {
     for tenant in tenants {
@@ -172,11 +167,7 @@ fn push_each(
 }
 
 /// Writes what a family says of a tenant.
-fn push_one(
-    out: &mut Vec<u8>,
-    family: Family,
-    tenant: &TenantRow<'_>,
-) -> Result<(), AllocError>
+fn push_one(out: &mut Vec<u8>, family: Family, tenant: &TenantRow<'_>) -> Result<(), AllocError>
     ensures { OnOk result (out.new.items ≡ out.old.items ++ said_of family (tenant_row tenant.now)) }
 {
     let name = family.name();
@@ -204,12 +195,7 @@ fn tenant_label(tenant: &str) -> Label<'_>
 }
 
 /// Writes a number of a tenant.
-fn push_number(
-    out: &mut Vec<u8>,
-    family: &str,
-    tenant: &str,
-    value: u64,
-) -> Result<(), AllocError>
+fn push_number(out: &mut Vec<u8>, family: &str, tenant: &str, value: u64) -> Result<(), AllocError>
     ensures { OnOk result (out.new.items ≡ out.old.items ++ number_text family.now tenant.now value) }
 {
     push_sample(out, family, tenant_label(tenant), &[], value)
@@ -345,7 +331,13 @@ pub(crate) fn push_offsets(
     ensures { OnOk result (out.new.items ≡ out.old.items ++ offsets_text tenant.now (map partition_row partitions.now)) }
 {
     let start = "Offset of the first record.";
-    push_starts(out, "kbroker_partition_start_offset", start, tenant, partitions)?;
+    push_starts(
+        out,
+        "kbroker_partition_start_offset",
+        start,
+        tenant,
+        partitions,
+    )?;
     let end = "Offset behind the last record.";
     push_ends(out, "kbroker_partition_end_offset", end, tenant, partitions)
 }

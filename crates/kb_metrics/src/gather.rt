@@ -1,16 +1,18 @@
 //! What pages show of tenants is gathered, row by row.
 
-ghost use Rattle.std.specs.Prelude.{◌≡◌, ◌++◌, ℕ, map, OnOk, IfOk};
+ghost use Rattle.std.specs.Prelude.{◌≡◌, ◌++◌, ◌∷◌, [], map, OnOk, IfOk, option_copied, slice_get};
 ghost use Rattle.kb_store.specs.Disk.{Files};
 ghost use Rattle.kb_topics.specs.Catalog.{known};
 ghost use Rattle.kb_tenant_state.specs.Parts.{world_of};
-ghost use Rattle.kb_metrics.specs.Gauges.{between, commit_of, commits, commits_in, group_of, lags, partition_count, partition_of, partitions};
+ghost use Rattle.kb_metrics.specs.Gauges.{between, commit_of, commits, commits_in};
+ghost use Rattle.kb_metrics.specs.Gauges.{group_of, lags, partition_count, partition_of, partitions};
 ghost use Rattle.kb_metrics.specs.Gauges.{tenant_of, topic_commits, topic_lags, topic_partitions};
 ghost use Rattle.kb_metrics.specs.Rows.{commit_row, group_row, lag_row, partition_row, tenant_row};
+ghost use Rattle.kb_metrics.specs.Slots.{lag_row_among, slot_of};
 ghost use Rattle.kb_metrics.specs.View.{observed};
 
 use crate::gauges::TenantGauges;
-use crate::lag::{groups_in, lag, slots};
+use crate::lag::{Slot, groups_in, lag, slots};
 use crate::rows::{CommitRow, GroupRow, LagRow, PartitionRow, TenantRow};
 use kb_coordinator::Entry;
 use kb_log::PartitionLog;
@@ -116,13 +118,26 @@ fn push_topic_lags<'a, L: PartitionLog>(
     let groups = groups_in(alloc, topic)?;
     let slots = slots(alloc, parts, instance, topic.partitions().len())?;
     for group in &groups {
-        let value = lag(&slots, group);
-        rows.push(LagRow {
-            group,
-            topic: topic.name(),
-            value,
-        })?;
+        push_lag(rows, &slots, group, topic.name())?;
     }
+    Ok(())
+}
+
+/// Puts a row for a group and a topic, whose partitions are those.
+fn push_lag<'a>(
+    rows: &mut Vec<LagRow<'a>>,
+    slots: &[Slot<'_>],
+    group: &'a str,
+    topic: &'a str,
+) -> Result<(), AllocError>
+    ensures { OnOk result (map lag_row rows.new.items
+        ≡ map lag_row rows.old.items ++ lag_row_among (map slot_of slots.now) topic.now group.now ∷ []) }
+{
+    rows.push(LagRow {
+        group,
+        topic,
+        value: lag(slots, group),
+    })?;
     Ok(())
 }
 
@@ -217,17 +232,20 @@ pub(crate) fn commit_rows<'a, L: PartitionLog>(
 }
 
 /// Puts a row for what each group committed to each partition of a topic.
-fn push_topic_commits<'a>(
-    rows: &mut Vec<CommitRow<'a>>,
-    topic: &'a Topic,
-) -> Result<(), AllocError>
-    ensures { (instance : ℕ) → OnOk result (map commit_row rows.new.items
-        ≡ map commit_row rows.old.items ++ topic_commits (instance, topic.now)) }
+fn push_topic_commits<'a>(rows: &mut Vec<CommitRow<'a>>, topic: &'a Topic) -> Result<(), AllocError>
+    ensures { OnOk result (map commit_row rows.new.items ≡ map commit_row rows.old.items ++ topic_commits topic.now) }
 {
     for number in 0..topic.partitions().len() {
         push_commits_in(rows, topic, number)?;
     }
     Ok(())
+}
+
+/// The partition of that number of a topic.
+fn partition_at(topic: &Topic, number: usize) -> Option<&Partition>
+    ensures { option_copied result ≡ slice_get topic.now.partitions number }
+{
+    topic.partitions().get(number)
 }
 
 /// Puts a row for what each group committed to a partition of a topic.
@@ -238,7 +256,7 @@ fn push_commits_in<'a>(
 ) -> Result<(), AllocError>
     ensures { OnOk result (map commit_row rows.new.items ≡ map commit_row rows.old.items ++ commits_in topic.now number) }
 {
-    match topic.partitions().get(number) {
+    match partition_at(topic, number) {
         Some(partition) => push_commits(rows, topic.name(), number, partition),
         None => Ok(()),
     }

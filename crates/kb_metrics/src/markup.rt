@@ -1,14 +1,53 @@
 //! HTML: how names and numbers stand on a page.
 
-ghost use Rattle.std.specs.Prelude.{◌≡◌, ◌++◌, ◌+◌, ◌<◌, ◌/◌, map, length, OnOk};
+ghost use Rattle.std.specs.Prelude.{◌≡◌, ◌++◌, ◌<◌, map, length, decimal, OnOk};
 ghost use Rattle.std.specs.List.{flat_map, range_with_len};
 ghost use Rattle.kb_metrics.specs.Markup.{cell, cell_of, cell_start, entity, fact_of, fact_text, greatest, hex_digit, is_unreserved};
 ghost use Rattle.kb_metrics.specs.Markup.{known_line, line_text, link_cell, marked, name_cell, newest, plot_cell, point_text, points_text};
-ghost use Rattle.kb_metrics.specs.Markup.{query, query_byte, sample_at, signed_cell};
+ghost use Rattle.kb_metrics.specs.Markup.{query, query_byte, sample_at, signed_cell, tag_text};
 ghost use Rattle.kb_metrics.specs.Text.{value_text};
 
 use crate::text::{Value, push_decimal, push_signed, push_value};
 use std::alloc::AllocError;
+
+/// A tag, with all that stands in it beside names and numbers.
+#[derive(Clone, Copy, Debug, PartialEq, Eq)]
+pub(crate) enum Tag {
+    Row,
+    RowEnd,
+    Cell,
+    Quote,
+    CellEnd,
+    Link,
+    LinkEnd,
+    Plot,
+    PlotEnd,
+    Line,
+    LineMiddle,
+    LineEnd,
+}
+
+impl Tag {
+    #[tactic(auto, unfolding(crate::specs::Markup::tag_text))]
+    fn text(self) -> &'static str
+        ensures { result.now ≡ tag_text self }
+    {
+        match self {
+            Tag::Row => "<tr>",
+            Tag::RowEnd => "</tr>\n",
+            Tag::Cell => "<td data-l=\"",
+            Tag::Quote => "\">",
+            Tag::CellEnd => "</td>",
+            Tag::Link => "<a href=\"/?tenant=",
+            Tag::LinkEnd => "</a></td>",
+            Tag::Plot => "<svg viewBox=\"0 0 119 25\"><polyline points=\"",
+            Tag::PlotEnd => "\"/></svg> ",
+            Tag::Line => "<tr><th>",
+            Tag::LineMiddle => "</th><td>",
+            Tag::LineEnd => "</td></tr>\n",
+        }
+    }
+}
 
 /// A number in a table, with what it says in words.
 #[derive(Clone, Copy)]
@@ -22,6 +61,13 @@ pub(crate) struct Cell {
 pub(crate) struct Fact {
     pub(crate) label: &'static str,
     pub(crate) value: Option<Value>,
+}
+
+/// Writes a tag.
+pub(crate) fn push_tag(out: &mut Vec<u8>, tag: Tag) -> Result<(), AllocError>
+    ensures { OnOk result (out.new.items ≡ out.old.items ++ tag_text tag) }
+{
+    out.extend_from_slice(tag.text().as_bytes())
 }
 
 /// Writes a name.
@@ -85,59 +131,56 @@ fn hex_digit(digit: u8) -> u8
     }
 }
 
+#[tactic(auto, unfolding(crate::specs::Markup::cell_start))]
 fn push_cell_start(out: &mut Vec<u8>, label: &str) -> Result<(), AllocError>
     ensures { OnOk result (out.new.items ≡ out.old.items ++ cell_start label.now) }
 {
-    out.extend_from_slice(b"<td data-l=\"")?;
+    push_tag(out, Tag::Cell)?;
     out.extend_from_slice(label.as_bytes())?;
-    out.extend_from_slice(b"\">")
+    push_tag(out, Tag::Quote)
 }
 
 /// Writes a cell with a name.
-pub(crate) fn push_name_cell(
-    out: &mut Vec<u8>,
-    label: &str,
-    name: &[u8],
-) -> Result<(), AllocError>
+#[tactic(auto, unfolding(crate::specs::Markup::name_cell))]
+pub(crate) fn push_name_cell(out: &mut Vec<u8>, label: &str, name: &[u8]) -> Result<(), AllocError>
     ensures { OnOk result (out.new.items ≡ out.old.items ++ name_cell label.now name.now) }
 {
     push_cell_start(out, label)?;
     push_marked(out, name)?;
-    out.extend_from_slice(b"</td>")
+    push_tag(out, Tag::CellEnd)
 }
 
 /// Writes a cell with the name of a tenant, which leads to its page.
+#[tactic(auto, unfolding(crate::specs::Markup::link_cell))]
 pub(crate) fn push_link_cell(out: &mut Vec<u8>, label: &str, name: &str) -> Result<(), AllocError>
     ensures { OnOk result (out.new.items ≡ out.old.items ++ link_cell label.now name.now) }
 {
     push_cell_start(out, label)?;
-    out.extend_from_slice(b"<a href=\"/?tenant=")?;
+    push_tag(out, Tag::Link)?;
     push_query(out, name.as_bytes())?;
-    out.extend_from_slice(b"\">")?;
+    push_tag(out, Tag::Quote)?;
     push_marked(out, name.as_bytes())?;
-    out.extend_from_slice(b"</a></td>")
+    push_tag(out, Tag::LinkEnd)
 }
 
 /// Writes a cell with a number.
+#[tactic(auto, unfolding(crate::specs::Markup::cell))]
 pub(crate) fn push_cell(out: &mut Vec<u8>, label: &str, value: u64) -> Result<(), AllocError>
     ensures { OnOk result (out.new.items ≡ out.old.items ++ cell (label.now, value)) }
 {
     push_cell_start(out, label)?;
     push_decimal(out, value)?;
-    out.extend_from_slice(b"</td>")
+    push_tag(out, Tag::CellEnd)
 }
 
 /// Writes a cell with a number that may be below 0.
-pub(crate) fn push_signed_cell(
-    out: &mut Vec<u8>,
-    label: &str,
-    value: i64,
-) -> Result<(), AllocError>
+#[tactic(auto, unfolding(crate::specs::Markup::signed_cell))]
+pub(crate) fn push_signed_cell(out: &mut Vec<u8>, label: &str, value: i64) -> Result<(), AllocError>
     ensures { OnOk result (out.new.items ≡ out.old.items ++ signed_cell label.now value) }
 {
     push_cell_start(out, label)?;
     push_signed(out, value)?;
-    out.extend_from_slice(b"</td>")
+    push_tag(out, Tag::CellEnd)
 }
 
 /// Writes cells with numbers.
@@ -170,28 +213,31 @@ fn push_fact(out: &mut Vec<u8>, fact: &Fact) -> Result<(), AllocError>
 }
 
 /// Writes a line with a number.
+#[tactic(auto, unfolding(crate::specs::Markup::line_text))]
 fn push_line(out: &mut Vec<u8>, label: &str, value: Value) -> Result<(), AllocError>
     ensures { OnOk result (out.new.items ≡ out.old.items ++ line_text label.now (value_text value)) }
 {
-    out.extend_from_slice(b"<tr><th>")?;
+    push_tag(out, Tag::Line)?;
     out.extend_from_slice(label.as_bytes())?;
-    out.extend_from_slice(b"</th><td>")?;
+    push_tag(out, Tag::LineMiddle)?;
     push_value(out, value)?;
-    out.extend_from_slice(b"</td></tr>\n")
+    push_tag(out, Tag::LineEnd)
 }
 
 /// Writes a line with a text.
+#[tactic(auto, unfolding(crate::specs::Markup::line_text))]
 pub(crate) fn push_text_line(out: &mut Vec<u8>, label: &str, text: &str) -> Result<(), AllocError>
     ensures { OnOk result (out.new.items ≡ out.old.items ++ line_text label.now (marked text.now)) }
 {
-    out.extend_from_slice(b"<tr><th>")?;
+    push_tag(out, Tag::Line)?;
     out.extend_from_slice(label.as_bytes())?;
-    out.extend_from_slice(b"</th><td>")?;
+    push_tag(out, Tag::LineMiddle)?;
     push_marked(out, text.as_bytes())?;
-    out.extend_from_slice(b"</td></tr>\n")
+    push_tag(out, Tag::LineEnd)
 }
 
 /// Writes a plot of samples, and the newest of them as a number.
+#[tactic(auto, unfolding(crate::specs::Markup::plot_cell))]
 pub(crate) fn push_plot_cell(
     out: &mut Vec<u8>,
     label: &str,
@@ -201,14 +247,23 @@ pub(crate) fn push_plot_cell(
     ensures { OnOk result (out.new.items ≡ out.old.items ++ plot_cell label.now samples.now) }
 {
     push_cell_start(out, label)?;
-    out.extend_from_slice(b"<svg viewBox=\"0 0 119 25\"><polyline points=\"")?;
+    push_tag(out, Tag::Plot)?;
     push_points(out, samples)?;
-    out.extend_from_slice(b"\"/></svg> ")?;
-    push_decimal(out, samples[119])?;
-    out.extend_from_slice(b"</td>")
+    push_tag(out, Tag::PlotEnd)?;
+    push_newest(out, samples)?;
+    push_tag(out, Tag::CellEnd)
+}
+
+/// Writes the newest sample.
+fn push_newest(out: &mut Vec<u8>, samples: &[u64]) -> Result<(), AllocError>
+    requires { length samples.now ≡ 120 }
+    ensures { OnOk result (out.new.items ≡ out.old.items ++ decimal (newest samples.now)) }
+{
+    push_decimal(out, samples[119])
 }
 
 /// Writes the points of a plot.
+#[tactic(auto, unfolding(crate::specs::Markup::points_text))]
 fn push_points(out: &mut Vec<u8>, samples: &[u64]) -> Result<(), AllocError>
     ensures { OnOk result (out.new.items ≡ out.old.items ++ points_text samples.now) }
 {

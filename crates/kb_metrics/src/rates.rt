@@ -55,9 +55,15 @@ impl Rates {
         if let Some(last) = self.noted {
             let seconds = second.saturating_sub(last.second);
             begin(&mut self.requests, seconds);
-            add(&mut self.requests, request_bytes.saturating_sub(last.request_bytes));
+            add(
+                &mut self.requests,
+                request_bytes.saturating_sub(last.request_bytes),
+            );
             begin(&mut self.responses, seconds);
-            add(&mut self.responses, response_bytes.saturating_sub(last.response_bytes));
+            add(
+                &mut self.responses,
+                response_bytes.saturating_sub(last.response_bytes),
+            );
         }
         self.noted = Some(Noted {
             second,

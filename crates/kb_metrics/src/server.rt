@@ -322,12 +322,7 @@ fn push_version(out: &mut Vec<u8>, version: &str) -> Result<(), AllocError>
 }
 
 /// Writes a family that tells a text, as a label of a sample that is 1.
-fn push_info(
-    out: &mut Vec<u8>,
-    name: &str,
-    help: &str,
-    label: Label<'_>,
-) -> Result<(), AllocError>
+fn push_info(out: &mut Vec<u8>, name: &str, help: &str, label: Label<'_>) -> Result<(), AllocError>
     ensures { OnOk result (out.new.items ≡ out.old.items ++ info_text name.now help.now (label_of label.entry)) }
 {
     push_head(out, name, help, Kind::Gauge)?;

@@ -5,18 +5,21 @@ ghost use Rattle.std.specs.Option.{option_map};
 ghost use Rattle.std.specs.List.{flat_map, range_with_len};
 ghost use Rattle.kb_metrics.specs.Markup.{cell_of, fact_of};
 ghost use Rattle.kb_metrics.specs.Rows.{group_row, lag_row, partition_row, tenant_row};
-ghost use Rattle.kb_metrics.specs.Status.{begin_text, facts_text, group_line, lag_line, lag_sum, partition_line, piece_text, plots_text};
-ghost use Rattle.kb_metrics.specs.Status.{process_facts, row_at, rows_text, socket_facts, status_text, tenant_cells, tenant_page, tenant_text};
-ghost use Rattle.kb_metrics.specs.Status.{trouble_facts, whole};
+ghost use Rattle.kb_metrics.specs.Status.{begin_text, both_plots, closed_facts, facts_text};
+ghost use Rattle.kb_metrics.specs.Status.{group_line, lag_line, lag_sum, offset_cells, partition_line};
+ghost use Rattle.kb_metrics.specs.Status.{piece_text, place_cells, plots_text};
+ghost use Rattle.kb_metrics.specs.Status.{process_facts, row_at, rows_text, socket_facts};
+ghost use Rattle.kb_metrics.specs.Status.{status_text, tenant_cells, tenant_page, tenant_text};
+ghost use Rattle.kb_metrics.specs.Status.{title_text, trouble_facts, whole};
 ghost use Rattle.kb_metrics.specs.declared.text.Value.TheVariants.{Thousandths, Whole};
 
 use crate::markup::{
-    Cell, Fact, push_cell, push_cells, push_facts, push_link_cell, push_name_cell, push_plot_cell,
-    push_signed_cell, push_text_line,
+    Cell, Fact, Tag, push_cell, push_cells, push_facts, push_link_cell, push_name_cell,
+    push_plot_cell, push_signed_cell, push_tag, push_text_line,
 };
 use crate::rates::Rates;
 use crate::rows::{GroupRow, LagRow, PartitionRow, TenantRow};
-use crate::server::{ProcessGauges, ServerGauges};
+use crate::server::{Closed, ProcessGauges, ServerGauges};
 use crate::text::Value;
 use std::alloc::AllocError;
 
@@ -37,21 +40,34 @@ impl Piece {
         ensures { result.now ≡ piece_text self }
     {
         match self {
-            Piece::Head => "<!DOCTYPE html>\n<html lang=\"en\"><head><meta charset=\"utf-8\"><meta http-equiv=\"refresh\" conten\
-                t=\"5\"><meta name=\"viewport\" content=\"width=device-width\"><title>kbroker</title><style>body{fon\
-                t:14px sans-serif;margin:1em}table{border-collapse:collapse;margin:0 0 1.5em}th,td{text-align:left;p\
-                adding:2px 8px;border-bottom:1px solid #999}svg{width:120px;height:26px;vertical-align:bottom}polyli\
-                ne{fill:none;stroke:currentColor}@media(max-width:700px){.w,.w tbody,.w tr,.w td{display:block}.w tr\
-                {border-bottom:2px solid #999}.w th{display:none}.w td{border:0}.w td::before{content:attr(data-l) \"\
-                : \"}}</style></head><body><h1><a href=\"/\">kbroker</a></h1>\n<table>\n",
-            Piece::Tenants => "</table>\n<h2>Tenants</h2>\n<table class=\"w\">\n<tr><th>Tenant</th><th>Connections</th><th>Waiting<\
-                /th><th>Topics</th><th>Partitions</th><th>Groups</th><th>Lag</th><th>Refusals</th><th>Bytes in</th><\
-                th>Bytes out</th><th>In a second</th><th>Out a second</th></tr>\n",
-            Piece::Partitions => "</table>\n<h2>Partitions</h2>\n<table class=\"w\">\n<tr><th>Topic</th><th>Partition</th><th>Start</t\
-                h><th>End</th></tr>\n",
-            Piece::Groups => "</table>\n<h2>Groups</h2>\n<table class=\"w\">\n<tr><th>Group</th><th>Members</th><th>Generation</th\
-                ></tr>\n",
-            Piece::Lags => "</table>\n<h2>Lag</h2>\n<table class=\"w\">\n<tr><th>Group</th><th>Topic</th><th>Lag</th></tr>\n",
+            Piece::Head => {
+                "<!DOCTYPE html>\n<html lang=\"en\"><head><meta charset=\"utf-8\">\
+                <meta http-equiv=\"refresh\" content=\"5\">\
+                <meta name=\"viewport\" content=\"width=device-width\"><title>kbroker</title>\
+                <style>body{font:14px sans-serif;margin:1em}table{border-collapse:collapse;margin:0 0 1.5em}\
+                th,td{text-align:left;padding:2px 8px;border-bottom:1px solid #999}\
+                svg{width:120px;height:26px;vertical-align:bottom}polyline{fill:none;stroke:currentColor}\
+                @media(max-width:700px){.w,.w tbody,.w tr,.w td{display:block}\
+                .w tr{border-bottom:2px solid #999}.w th{display:none}.w td{border:0}\
+                .w td::before{content:attr(data-l) \": \"}}</style></head><body><h1><a href=\"/\">kbroker</a>\
+                </h1>\n<table>\n"
+            }
+            Piece::Tenants => {
+                "</table>\n<h2>Tenants</h2>\n<table class=\"w\">\n<tr><th>Tenant</th><th>Connections</th>\
+                <th>Waiting</th><th>Topics</th><th>Partitions</th><th>Groups</th><th>Lag</th><th>Refusals</th>\
+                <th>Bytes in</th><th>Bytes out</th><th>In a second</th><th>Out a second</th></tr>\n"
+            }
+            Piece::Partitions => {
+                "</table>\n<h2>Partitions</h2>\n<table class=\"w\">\n<tr><th>Topic</th><th>Partition</th>\
+                <th>Start</th><th>End</th></tr>\n"
+            }
+            Piece::Groups => {
+                "</table>\n<h2>Groups</h2>\n<table class=\"w\">\n<tr><th>Group</th><th>Members</th>\
+                <th>Generation</th></tr>\n"
+            }
+            Piece::Lags => {
+                "</table>\n<h2>Lag</h2>\n<table class=\"w\">\n<tr><th>Group</th><th>Topic</th><th>Lag</th></tr>\n"
+            }
             Piece::End => "</table>\n</body></html>\n",
         }
     }
@@ -84,7 +100,7 @@ pub(crate) fn push_tenant_page(
     ensures { OnOk result (out.new.items ≡ out.old.items ++ tenant_page (tenant_row tenant.now) (map partition_row partitions.now)) }
 {
     push_piece(out, Piece::Head)?;
-    push_text_line(out, "Tenant", tenant.name)?;
+    push_title(out, tenant.name)?;
     push_piece(out, Piece::Partitions)?;
     push_partition_lines(out, partitions)?;
     push_piece(out, Piece::Groups)?;
@@ -94,6 +110,14 @@ pub(crate) fn push_tenant_page(
     push_piece(out, Piece::End)
 }
 
+/// Writes whose page it is.
+#[tactic(auto, unfolding(crate::specs::Status::title_text))]
+fn push_title(out: &mut Vec<u8>, tenant: &str) -> Result<(), AllocError>
+    ensures { OnOk result (out.new.items ≡ out.old.items ++ title_text tenant.now) }
+{
+    push_text_line(out, "Tenant", tenant)
+}
+
 fn push_piece(out: &mut Vec<u8>, piece: Piece) -> Result<(), AllocError>
     ensures { OnOk result (out.new.items ≡ out.old.items ++ piece_text piece) }
 {
@@ -101,6 +125,7 @@ fn push_piece(out: &mut Vec<u8>, piece: Piece) -> Result<(), AllocError>
 }
 
 /// Writes when the broker began to serve, and which version it is.
+#[tactic(auto, unfolding(crate::specs::Status::begin_text))]
 fn push_begin(out: &mut Vec<u8>, process: &ProcessGauges<'_>) -> Result<(), AllocError>
     ensures { OnOk result (out.new.items ≡ out.old.items ++ begin_text process.now) }
 {
@@ -108,6 +133,7 @@ fn push_begin(out: &mut Vec<u8>, process: &ProcessGauges<'_>) -> Result<(), Allo
     push_text_line(out, "Version", process.version)
 }
 
+#[tactic(auto, unfolding(crate::specs::Status::facts_text))]
 fn push_all_facts(
     out: &mut Vec<u8>,
     server: &ServerGauges,
@@ -117,7 +143,8 @@ fn push_all_facts(
 {
     push_facts(out, &process_facts(process))?;
     push_facts(out, &socket_facts(server))?;
-    push_facts(out, &trouble_facts(server))
+    push_facts(out, &trouble_facts(server))?;
+    push_facts(out, &closed_facts(&server.closed))
 }
 
 fn fact(label: &'static str, count: u64) -> Fact
@@ -184,7 +211,7 @@ fn socket_facts(server: &ServerGauges) -> [Fact; 7]
 }
 
 #[tactic(auto, unfolding(crate::specs::Status::trouble_facts))]
-fn trouble_facts(server: &ServerGauges) -> [Fact; 10]
+fn trouble_facts(server: &ServerGauges) -> [Fact; 4]
     ensures { map fact_of result ≡ trouble_facts server.now }
 {
     [
@@ -192,16 +219,26 @@ fn trouble_facts(server: &ServerGauges) -> [Fact; 10]
         fact("Refusals before login", server.refusals_before_login),
         fact("Calls that the store refused", server.store_failures),
         known_fact("Files of no log", server.stray_files),
-        fact("Closed: no place", server.closed.no_place),
-        fact("Closed: no login", server.closed.no_login),
-        fact("Closed: unread reply", server.closed.unread_reply),
-        fact("Closed: idle", server.closed.idle),
-        fact("Closed: slow request", server.closed.slow_request),
-        fact("Closed: limit", server.closed.limit),
+    ]
+}
+
+/// How many sockets the broker closed, by cause.
+#[tactic(auto, unfolding(crate::specs::Status::closed_facts))]
+fn closed_facts(closed: &Closed) -> [Fact; 6]
+    ensures { map fact_of result ≡ closed_facts closed.now }
+{
+    [
+        fact("Closed: no place", closed.no_place),
+        fact("Closed: no login", closed.no_login),
+        fact("Closed: unread reply", closed.unread_reply),
+        fact("Closed: idle", closed.idle),
+        fact("Closed: slow request", closed.slow_request),
+        fact("Closed: limit", closed.limit),
     ]
 }
 
 /// Writes a row for each tenant.
+#[tactic(auto, unfolding(crate::specs::Status::rows_text))]
 fn push_rows(
     out: &mut Vec<u8>,
     tenants: &[TenantRow<'_>],
@@ -231,6 +268,7 @@ fn push_row(
 }
 
 /// Writes the row of a tenant.
+#[tactic(auto, unfolding(crate::specs::Status::tenant_text))]
 fn push_tenant(
     out: &mut Vec<u8>,
     tenant: &TenantRow<'_>,
@@ -238,11 +276,11 @@ fn push_tenant(
 ) -> Result<(), AllocError>
     ensures { OnOk result (out.new.items ≡ out.old.items ++ tenant_text (tenant_row tenant.now) (option_copied rates.entry)) }
 {
-    out.extend_from_slice(b"<tr>")?;
+    push_tag(out, Tag::Row)?;
     push_link_cell(out, "Tenant", tenant.name)?;
     push_cells(out, &tenant_cells(tenant))?;
     push_plots(out, rates)?;
-    out.extend_from_slice(b"</tr>\n")
+    push_tag(out, Tag::RowEnd)
 }
 
 #[tactic(auto, unfolding(crate::specs::Status::tenant_cells))]
@@ -279,17 +317,22 @@ fn lag_sum(lags: &[LagRow<'_>]) -> u64
     sum
 }
 
-/// Writes the bytes of each second, in and out.
+/// Writes the bytes of each second, in and out, where they are known.
 fn push_plots(out: &mut Vec<u8>, rates: Option<&Rates>) -> Result<(), AllocError>
     ensures { OnOk result (out.new.items ≡ out.old.items ++ plots_text (option_copied rates.entry)) }
 {
     match rates {
-        Some(rates) => {
-            push_plot_cell(out, "In a second", rates.requests())?;
-            push_plot_cell(out, "Out a second", rates.responses())
-        }
+        Some(rates) => push_both_plots(out, rates),
         None => Ok(()),
     }
+}
+
+#[tactic(auto, unfolding(crate::specs::Status::both_plots))]
+fn push_both_plots(out: &mut Vec<u8>, rates: &Rates) -> Result<(), AllocError>
+    ensures { OnOk result (out.new.items ≡ out.old.items ++ both_plots rates.now) }
+{
+    push_plot_cell(out, "In a second", rates.requests())?;
+    push_plot_cell(out, "Out a second", rates.responses())
 }
 
 fn push_partition_lines(
@@ -304,18 +347,30 @@ fn push_partition_lines(
     Ok(())
 }
 
-fn push_partition_line(
-    out: &mut Vec<u8>,
-    partition: &PartitionRow<'_>,
-) -> Result<(), AllocError>
+#[tactic(auto, unfolding(crate::specs::Status::partition_line))]
+fn push_partition_line(out: &mut Vec<u8>, partition: &PartitionRow<'_>) -> Result<(), AllocError>
     ensures { OnOk result (out.new.items ≡ out.old.items ++ partition_line (partition_row partition.now)) }
 {
-    out.extend_from_slice(b"<tr>")?;
-    push_name_cell(out, "Topic", partition.topic.as_bytes())?;
-    push_cell(out, "Partition", partition.number)?;
-    push_signed_cell(out, "Start", partition.start)?;
-    push_signed_cell(out, "End", partition.end)?;
-    out.extend_from_slice(b"</tr>\n")
+    push_tag(out, Tag::Row)?;
+    push_place_cells(out, partition.topic, partition.number)?;
+    push_offset_cells(out, partition.start, partition.end)?;
+    push_tag(out, Tag::RowEnd)
+}
+
+#[tactic(auto, unfolding(crate::specs::Status::place_cells))]
+fn push_place_cells(out: &mut Vec<u8>, topic: &str, number: u64) -> Result<(), AllocError>
+    ensures { OnOk result (out.new.items ≡ out.old.items ++ place_cells topic.now number) }
+{
+    push_name_cell(out, "Topic", topic.as_bytes())?;
+    push_cell(out, "Partition", number)
+}
+
+#[tactic(auto, unfolding(crate::specs::Status::offset_cells))]
+fn push_offset_cells(out: &mut Vec<u8>, start: i64, end: i64) -> Result<(), AllocError>
+    ensures { OnOk result (out.new.items ≡ out.old.items ++ offset_cells start end) }
+{
+    push_signed_cell(out, "Start", start)?;
+    push_signed_cell(out, "End", end)
 }
 
 fn push_group_lines(out: &mut Vec<u8>, groups: &[GroupRow<'_>]) -> Result<(), AllocError>
@@ -327,14 +382,15 @@ fn push_group_lines(out: &mut Vec<u8>, groups: &[GroupRow<'_>]) -> Result<(), Al
     Ok(())
 }
 
+#[tactic(auto, unfolding(crate::specs::Status::group_line))]
 fn push_group_line(out: &mut Vec<u8>, group: &GroupRow<'_>) -> Result<(), AllocError>
     ensures { OnOk result (out.new.items ≡ out.old.items ++ group_line (group_row group.now)) }
 {
-    out.extend_from_slice(b"<tr>")?;
+    push_tag(out, Tag::Row)?;
     push_name_cell(out, "Group", group.id)?;
     push_cell(out, "Members", group.members)?;
     push_signed_cell(out, "Generation", group.generation as i64)?;
-    out.extend_from_slice(b"</tr>\n")
+    push_tag(out, Tag::RowEnd)
 }
 
 fn push_lag_lines(out: &mut Vec<u8>, lags: &[LagRow<'_>]) -> Result<(), AllocError>
@@ -346,12 +402,13 @@ fn push_lag_lines(out: &mut Vec<u8>, lags: &[LagRow<'_>]) -> Result<(), AllocErr
     Ok(())
 }
 
+#[tactic(auto, unfolding(crate::specs::Status::lag_line))]
 fn push_lag_line(out: &mut Vec<u8>, lag: &LagRow<'_>) -> Result<(), AllocError>
     ensures { OnOk result (out.new.items ≡ out.old.items ++ lag_line (lag_row lag.now)) }
 {
-    out.extend_from_slice(b"<tr>")?;
+    push_tag(out, Tag::Row)?;
     push_name_cell(out, "Group", lag.group.as_bytes())?;
     push_name_cell(out, "Topic", lag.topic.as_bytes())?;
     push_cell(out, "Lag", lag.value)?;
-    out.extend_from_slice(b"</tr>\n")
+    push_tag(out, Tag::RowEnd)
 }

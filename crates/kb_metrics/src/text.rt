@@ -3,7 +3,8 @@
 ghost use Rattle.std.specs.Prelude.{◌≡◌, ◌++◌, ◌∷◌, ◌/◌, ◌<◌, [], map, OnOk, decimal};
 ghost use Rattle.std.specs.Fmt.{signed_decimal};
 ghost use Rattle.std.specs.List.{flat_map};
-ghost use Rattle.kb_metrics.specs.Text.{digit, end_text, escape, escaped, figure_of, figure_text, head_text, kind_text, label_of, label_text};
+ghost use Rattle.kb_metrics.specs.Text.{digit, end_text, escape, escaped, figure_of};
+ghost use Rattle.kb_metrics.specs.Text.{figure_text, head_text, kind_text, label_of, label_text};
 ghost use Rattle.kb_metrics.specs.Text.{known_text, labelled_text, more_text, sample_text, signed_sample_text, value_text};
 
 use itoa::Buffer;

@@ -6,8 +6,6 @@
 #[cfg(test)]
 mod log;
 #[cfg(test)]
-mod metrics;
-#[cfg(test)]
 mod partitions;
 #[cfg(test)]
 mod refused;

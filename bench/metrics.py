@@ -41,21 +41,27 @@ def commit_all(client, group, topic, partitions):
     assert client.ask(8, 2, body)[-2:] == b"\0\0"
 
 
-def times(port, words, count=30):
-    """How long a page takes, in milliseconds: the median and the longest, and how many bytes it has."""
-    took = []
+def at_work(broker):
+    """For how many milliseconds processors were at work for the broker."""
+    with open(f"/proc/{broker.process.pid}/schedstat", encoding="ascii") as it:
+        return int(it.read().split()[0]) / 1e6
+
+
+def times(broker, port, words, count=10):
+    """How long a page takes, in milliseconds: the median, and the broker's processor time; and the page."""
+    took, worked = [], at_work(broker)
     for _ in range(count):
         began = time.monotonic()
         status, _, body = page(port, words)
         took.append(1000 * (time.monotonic() - began))
         assert status == 200, status
-    return statistics.median(took), max(took), len(body), body
+    return statistics.median(took), (at_work(broker) - worked) / count, body
 
 
-def told(port, words):
+def told(broker, port, words):
     """Prints how long a page takes, and lets promtool read it where it has metrics."""
-    middle, most, size, body = times(port, words)
-    print(f"{words}: {middle:.1f} ms, at most {most:.1f} ms, {size} bytes")
+    middle, worked, body = times(broker, port, words)
+    print(f"{words}: {middle:.1f} ms, {worked:.1f} ms of the broker's processor time, {len(body)} bytes")
     if "metrics" in words and shutil.which("promtool"):
         ran = subprocess.run(["promtool", "check", "metrics"], input=body, capture_output=True)
         print(f"  promtool: status {ran.returncode} {ran.stderr.decode()[:300]}")
@@ -77,7 +83,7 @@ def fifty(program):
                     commit_all(client, b"group-%d" % group, b"topic-%d" % (group % 20), 6)
             print("50 tenants, each with 20 topics of 6 partitions and 100 groups")
             for words in ("GET /healthz", "GET /metrics", "GET /", "GET /?tenant=t0", "GET /metrics/partitions?tenant=t0"):
-                told(port, words)
+                told(broker, port, words)
         finally:
             broker.stop()
 
@@ -95,7 +101,7 @@ def many(program):
             commit_all(client, b"readers", b"topic-0", 64)
             print("a tenant of 1,000 topics of 64 partitions")
             for words in ("GET /metrics", "GET /", "GET /?tenant=a", "GET /metrics/partitions?tenant=a"):
-                told(port, words)
+                told(broker, port, words)
         finally:
             broker.stop()
 

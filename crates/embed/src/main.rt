@@ -13,7 +13,7 @@ use std::io;
 use std::io::Write;
 use std::process::ExitCode;
 
-/// How many requests a client makes at most: a login of two, a topic, a producer id and records.
+/// How many requests a client makes at most: two for its login, a topic, a producer id and records.
 const REQUESTS: usize = 5;
 
 /// A user of the standard settings.
@@ -27,33 +27,54 @@ fn ann(alloc: Global) -> Result<Login, AllocError>
     })
 }
 
+fn topic(alloc: Global) -> Result<String, AllocError>
+    ensures { IfOk result (λ topic. length (string_bytes topic) ≤ 255) }
+{
+    String::from_str(alloc, "greetings")
+}
+
+/// A new connection, under the number behind all others.
+fn connect(alloc: Global, broker: &mut Broker<MemoryStore>) -> Result<u64, AllocError> {
+    let number = broker.last_connection().checked_add(1).ok_or(AllocError)?;
+    broker.connect(alloc, number)?;
+    Ok(number)
+}
+
+/// A producer logs in, makes the topic and sends a line.
+fn send(alloc: Global, broker: &mut Broker<MemoryStore>, line: &[u8]) -> Result<(), ClientFault> {
+    let number = connect(alloc, broker)?;
+    let mut producer = ProducerCore::new(alloc, ann(alloc)?, topic(alloc)?, 0, Some(1));
+    producer.line(line, 0)?;
+    producer.connected();
+    for _ in 0..REQUESTS {
+        broker.input(alloc, number, &producer.take_output()?);
+        producer.input(&broker.take_output(alloc, number))?;
+    }
+    Ok(())
+}
+
+/// A consumer logs in, and reads a line from the beginning of the topic.
+fn receive(alloc: Global, broker: &mut Broker<MemoryStore>) -> Result<Vec<u8>, ClientFault> {
+    let number = connect(alloc, broker)?;
+    let mut consumer = ConsumerCore::new(alloc, ann(alloc)?, topic(alloc)?, 0, 0, Some(1), false);
+    consumer.connected();
+    for _ in 0..REQUESTS {
+        broker.input(alloc, number, &consumer.take_output()?);
+        consumer.input(&broker.take_output(alloc, number))?;
+    }
+    Ok(consumer.take_lines())
+}
+
 /// What a consumer is given of a line that a producer sent.
 fn passed_on(alloc: Global, line: &[u8]) -> Result<Vec<u8>, ClientFault> {
     let settings = Settings::standard(alloc)?;
-    let Ok(opened) = Broker::<MemoryStore>::open(alloc, &settings, MemoryStore::new(alloc)) else {
-        return Err(ClientFault::Memory);
-    };
-    let mut broker = opened.broker;
-
-    let topic = String::from_str(alloc, "greetings")?;
-    let mut producer = ProducerCore::new(alloc, ann(alloc)?, topic, 0, Some(1));
-    producer.line(line, 0)?;
-    producer.connected();
-    broker.connect(alloc, 1)?;
-    for _ in 0..REQUESTS {
-        broker.input(alloc, 1, &producer.take_output()?);
-        producer.input(&broker.take_output(alloc, 1))?;
+    match Broker::<MemoryStore>::open(alloc, &settings, MemoryStore::new(alloc)) {
+        Ok(mut opened) => {
+            send(alloc, &mut opened.broker, line)?;
+            receive(alloc, &mut opened.broker)
+        }
+        Err(_) => Err(ClientFault::Memory),
     }
-
-    let topic = String::from_str(alloc, "greetings")?;
-    let mut consumer = ConsumerCore::new(alloc, ann(alloc)?, topic, 0, 0, Some(1), false);
-    consumer.connected();
-    broker.connect(alloc, 2)?;
-    for _ in 0..REQUESTS {
-        broker.input(alloc, 2, &consumer.take_output()?);
-        consumer.input(&broker.take_output(alloc, 2))?;
-    }
-    Ok(consumer.take_lines())
 }
 
 fn main(rt: HostRuntime) -> ExitCode {

@@ -1,12 +1,8 @@
 //! What is tested of the text that Prometheus reads.
 
-use kb_coordinator::Coordinator;
-use kb_log::ListLog;
 use kb_metrics::{
-    Figure, Kind, Label, ProcessGauges, Rates, TenantGauges, Traffic, Value, push_figures,
-    push_process, push_sample, push_tenants,
+    Figure, Kind, Label, ProcessGauges, Rates, Value, push_figures, push_process, push_sample,
 };
-use kb_tenant_state::Parts;
 use std::test::*;
 
 /// A group's id, and its sample.
@@ -90,63 +86,8 @@ fn seconds_without_a_note_are_zero(rt: HostRuntime) -> Result<(), Fail> {
     for (second, bytes) in [(10, 5), (11, 8), (14, 20), (14, 21), (12, 22)] {
         rates.note(second, bytes, 0);
     }
-    assert_eq!(rt; &rates.requests()[115..], &[0, 3, 0, 0, 14]);
+    assert_eq!(rt; &rates.requests()[115..], [0, 3, 0, 0, 14].as_slice());
     rates.note(1000, 30, 0);
-    assert_eq!(rt; &rates.requests()[117..], &[0, 0, 8]);
-    Ok(())
-}
-
-/// What is said of a tenant that has no topics and no groups.
-const NEW_TENANT: &str = "# HELP kbroker_connections Open connections that are logged in.\n\
-    # TYPE kbroker_connections gauge\n\
-    kbroker_connections{tenant=\"a\"} 3\n\
-    # HELP kbroker_waiting_requests Connections that wait for the answer to a request.\n\
-    # TYPE kbroker_waiting_requests gauge\n\
-    kbroker_waiting_requests{tenant=\"a\"} 2\n\
-    # HELP kbroker_topics Topics.\n\
-    # TYPE kbroker_topics gauge\n\
-    kbroker_topics{tenant=\"a\"} 0\n\
-    # HELP kbroker_partitions Partitions of all topics.\n\
-    # TYPE kbroker_partitions gauge\n\
-    kbroker_partitions{tenant=\"a\"} 0\n\
-    # HELP kbroker_group_members Members of each group.\n\
-    # TYPE kbroker_group_members gauge\n\
-    # HELP kbroker_group_lag \
-    Records between the committed offsets and the ends of the partitions to which the group committed.\n\
-    # TYPE kbroker_group_lag gauge\n\
-    # HELP kbroker_requests_total Requests, by API.\n\
-    # TYPE kbroker_requests_total counter\n\
-    kbroker_requests_total{tenant=\"a\",api=\"Produce\"} 40\n\
-    kbroker_requests_total{tenant=\"a\",api=\"ListOffsets\"} 1\n\
-    # HELP kbroker_request_bytes_total Bytes of requests.\n\
-    # TYPE kbroker_request_bytes_total counter\n\
-    kbroker_request_bytes_total{tenant=\"a\"} 81920\n\
-    # HELP kbroker_response_bytes_total Bytes of responses.\n\
-    # TYPE kbroker_response_bytes_total counter\n\
-    kbroker_response_bytes_total{tenant=\"a\"} 4096\n\
-    # HELP kbroker_refusals_total Calls of memory and of the store that were refused.\n\
-    # TYPE kbroker_refusals_total counter\n\
-    kbroker_refusals_total{tenant=\"a\"} 0\n";
-
-#[test]
-fn a_new_tenant_has_its_numbers(rt: HostRuntime) -> Result<(), Fail> {
-    let alloc = rt.alloc();
-    let parts: Parts<ListLog> = Parts::new(alloc, "a", 1 << 20)?;
-    let groups = Coordinator::new(alloc);
-    let tenant = TenantGauges {
-        name: "a",
-        parts: &parts,
-        groups: &groups,
-        connections: 3,
-        waiting: 2,
-        traffic: Traffic {
-            requests: &[40, 0, 1, 0, 9, 9],
-            request_bytes: 81_920,
-            response_bytes: 4_096,
-        },
-    };
-    let mut out = Vec::new(alloc);
-    push_tenants(alloc, &mut out, &[tenant])?;
-    assert_eq!(rt; out.as_slice(), NEW_TENANT.as_bytes());
+    assert_eq!(rt; &rates.requests()[117..], [0, 0, 8].as_slice());
     Ok(())
 }

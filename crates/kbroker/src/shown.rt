@@ -1,6 +1,6 @@
 //! What is on the pages of a broker that serves.
 
-ghost use Rattle.std.specs.Prelude.{◌≡◌, ◌++◌, [], IfOk, OnOk, map, nat_le, option_map, slice_get, vec_len};
+ghost use Rattle.std.specs.Prelude.{◌≡◌, ◌++◌, [], IfOk, OnOk, if◌then◌else◌, map, nat_le, option_map, slice_get, vec_len};
 ghost use Rattle.kb_store.specs.Disk.{Files};
 ghost use Rattle.kb_metrics.specs.Gauges.{tenants_text};
 ghost use Rattle.kb_metrics.specs.View.{observed};
@@ -101,11 +101,20 @@ impl<'a, R: Net, S: Store, L: PartitionLog + Drop> Source for Shown<'a, R, S, L>
 fn push_causes(out: &mut Vec<u8>, has_failed: bool, is_full: bool) -> Result<(), AllocError>
     ensures { OnOk result (out.new.items ≡ out.old.items ++ causes_text has_failed is_full) }
 {
-    if has_failed {
-        out.extend_from_slice(b"the store refused a call in the last minute\n")?;
-    }
-    if is_full {
-        out.extend_from_slice(b"as many sockets are open as there may be\n")?;
+    push_where(
+        out,
+        has_failed,
+        b"the store refused a call in the last minute\n",
+    )?;
+    push_where(out, is_full, b"as many sockets are open as there may be\n")
+}
+
+/// Writes a text where something holds.
+fn push_where(out: &mut Vec<u8>, holds: bool, text: &[u8]) -> Result<(), AllocError>
+    ensures { OnOk result (out.new.items ≡ out.old.items ++ (if holds then text.now else [])) }
+{
+    if holds {
+        out.extend_from_slice(text)?;
     }
     Ok(())
 }

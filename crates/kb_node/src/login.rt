@@ -1,6 +1,7 @@
 //! Whose login a request is, and from where one came that failed.
 
-ghost use Rattle.std.specs.Prelude.{◌≡◌};
+ghost use Rattle.std.specs.Prelude.{◌≡◌, ℕ, Some, IfSome, drop, option_map};
+ghost use Rattle.kb_node.specs.Logins.{plain_name};
 ghost use Rattle.kb_node.specs.Sockets.{is_welcome};
 
 use std::alloc::{AllocError, Global};
@@ -21,7 +22,9 @@ pub struct Denied {
 
 /// The name in a login: a whole request of SaslAuthenticate, its size in front (Kafka protocol guide, "The Messages:
 /// SaslAuthenticate"), or PLAIN's message as a frame by itself. Of anything else there is none.
-fn name_in(frame: &[u8], is_bare: bool) -> Option<&[u8]> {
+fn name_in(frame: &[u8], is_bare: bool) -> Option<&[u8]>
+    ensures { IfSome result (λ name. (at : ℕ) × (plain_name (drop at frame.now) ≡ Some name.now)) }
+{
     let message = if is_bare {
         frame.get(4..)?
     } else {
@@ -31,7 +34,9 @@ fn name_in(frame: &[u8], is_bare: bool) -> Option<&[u8]> {
 }
 
 /// PLAIN's message in a request of SaslAuthenticate: behind the header, with the client's id, and its own size.
-fn message_in(frame: &[u8]) -> Option<&[u8]> {
+fn message_in(frame: &[u8]) -> Option<&[u8]>
+    ensures { IfSome result (λ message. (at : ℕ) × (message.now ≡ drop at frame.now)) }
+{
     let [_, _, _, _, 0, 36, 0, 0, _, _, _, _, high, low, rest @ ..] = frame else {
         return None;
     };
@@ -43,7 +48,9 @@ fn message_in(frame: &[u8]) -> Option<&[u8]> {
 }
 
 /// The name in PLAIN's message: between its first two bytes 0 (RFC 4616).
-fn name_of(message: &[u8]) -> Option<&[u8]> {
+fn name_of(message: &[u8]) -> Option<&[u8]>
+    ensures { option_map (λ name. name.now) result ≡ plain_name message.now }
+{
     let start = message.iter().position(|byte| *byte == 0)? + 1;
     let rest = message.get(start..)?;
     let end = rest.iter().position(|byte| *byte == 0)?;

@@ -7,7 +7,7 @@ use Rattle.std.specs.Cmp.{unsigned_tied}
 use Rattle.std.specs.Map.{lookup}
 use Rattle.std.specs.BTreeMap.{insert_entry, is_at}
 use Rattle.std.proofs.lemmas.List.{length-replicate}
-use Rattle.kb_store.specs.Disk.{Disk}
+use Rattle.kb_store.specs.Disk.{Disk, Files}
 use Rattle.kb_batch.specs.Batch.{natural}
 use Rattle.kb_log.specs.OnShelf.{Identity, Log, Frames, IsLawfulLog}
 use Rattle.kb_log.specs.OnShelf as one
@@ -23,6 +23,7 @@ use Rattle.kb_tenant_state.specs.declared.partitions.Partitions.{Partitions}
 use Rattle.kb_tenant_state.specs.Parts as parts
 use Rattle.kb_tenant_state.specs.Parts.{IsSound, meta, entries, recorded_start, world_of}
 use Rattle.kb_tenant_state.specs.Steps.{IsStep}
+use Rattle.kb_tenant_state.specs.Stored.{up_to_end}
 use Rattle.kb_tenant_state.specs.Tied.{counted, partition_count}
 use Rattle.kb_tenant_state.specs.declared.parts.Parts.{Parts}
 use Rattle.kb_tenant_state.proofs.StillKept.{kept_created}
@@ -30,7 +31,8 @@ use Rattle.kb_tenant_state.proofs.Moves.{IsMove, as_step}
 use Rattle.kb_tenant_state.proofs.Recorded.{Resume, on_shelf}
 use Rattle.kb_tenant_state.proofs.Spared as spared
 use Rattle.kb_tenant_state.proofs.Starts.{create_starts, new_starts, still_started}
-use Rattle.kb_tenant_state.proofs.Tied.{counted_inserted, named_still, tied_world}
+use Rattle.kb_tenant_state.proofs.Sums.{created_offsets, told_created}
+use Rattle.kb_tenant_state.proofs.Tied.{counted_inserted, named_still, none_seen, tied_world}
 
 same_number : (k i : ℕ) → is_at (nat_cmp k) i ≡ true → k ≡ i
 same_number k i e = eqb-true k i (sym (unsigned_tied k i) ∙ e)
@@ -83,6 +85,9 @@ module _ {L : Type 0} (log : L → Log) (law : (l : L) → IsLawfulLog (log l)) 
   none : topic_at (known p.catalog).creates (known p.catalog).topics ≡ None
   none = (tied_world log p d.table next d.files sound).next (known p.catalog).creates (omega arith)
 
+  no_logs : (files : Files) → lookup (is_at (nat_cmp (known p.catalog).creates)) (logs_of log (entries p) files) ≡ None
+  no_logs files = none_seen log (entries p) (known p.catalog).creates files (sound.unmade (known p.catalog).creates (omega arith))
+
   create_move : (AreNamed log (string_bytes p.tenant) p.segment_bytes (entries p) → AreNamed log (string_bytes p.tenant) p.segment_bytes ps.topics.entries)
       → ((recorded : ℕ → ℕ → ℕ) → ((q : ℕ) → recorded (known p.catalog).creates q ≡ 0) → AreStarted log recorded (entries p) → AreStarted log recorded ps.topics.entries)
       → (log (meta_log changed)).end ≡ (meta log p).end + 1
@@ -102,6 +107,7 @@ module _ {L : Type 0} (log : L → Log) (law : (l : L) → IsLawfulLog (log l)) 
         tied = tied new topics (ap (λ ps. length ps) many ∙ length-replicate count new_partition);
         catalog_named = named_still _ _ _ _ frames.identity sound.catalog_named;
         logs_named = named sound.logs_named;
+        offsets = sound.offsets ∙ sym (ap up_to_end (created_offsets (known p.catalog) (known changed) count new none topics many));
       };
       others = record {
         later = frames.others.later;
@@ -120,6 +126,7 @@ module _ {L : Type 0} (log : L → Log) (law : (l : L) → IsLawfulLog (log l)) 
             (still_started log (entries p) (recorded_start (known p.catalog)) (recorded_start (known changed)) (create_starts (known p.catalog) (known changed) count new none topics many) agree.started);
         meta_started = resumes 0 agree.meta_started;
         until = kept_created p.next_retention_time (world_of log p d.files) (world_of log (record p { catalog = changed; partitions = ps }) d'.files) (known p.catalog).creates count new topics (created_logs honest) agree.until;
+        stored = told_created p.stored (logs_of log (entries p) d.files) (logs_of log ps.topics.entries d'.files) (known p.catalog).creates count (no_logs d.files) (created_logs honest) agree.stored;
       };
     };
     named = refl;

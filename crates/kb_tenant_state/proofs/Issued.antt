@@ -1,5 +1,5 @@
 -- What a call that gives a producer id out makes of the catalog.
-use Rattle.std.proofs.Common.{rules, ◌≡◌, ◌∙◌, ◌<◌, ◌-◌, ◌^◌, ℕ, pos, nat_le, Bool, true, false, Some, None, sym, ap, refl, arith, to_z, of_z}
+use Rattle.std.proofs.Common.{◌≡◌, ◌<◌, ◌-◌, ◌^◌, ℕ, pos, nat_le, Bool, true, false, Some, None, refl, arith, to_z, of_z}
 use Rattle.std.proofs.lemmas.Bool.Decides.{nat_tests}
 use Rattle.std.proofs.lemmas.Int.{to_z-of_z}
 use Rattle.std.specs.Prelude.{if◌then◌else◌, ◌&&◌}

@@ -20,8 +20,10 @@ pub mod Removed
 pub mod Restored
 pub mod Retained
 pub mod RetainedAll
+pub mod Sized
 pub mod Spared
 pub mod Starts
 pub mod StillKept
+pub mod Sums
 pub mod Telling
 pub mod Tied

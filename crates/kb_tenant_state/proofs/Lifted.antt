@@ -1,5 +1,5 @@
 -- A call for the partitions or for the catalog alone, as a step of the parts.
-use Rattle.std.proofs.Common.{◌≡◌, ◌∙◌, ◌⊎◌, ⊎_elim, inl, inr, ◌≤◌, ◌<◌, ◌+◌, ◌^◌, ℕ, ℤ, nat_lt, Bool, true, false, cond, Some, sym, ap, subst, refl, arith}
+use Rattle.std.proofs.Common.{◌≡◌, ◌∙◌, ◌⊎◌, ⊎_elim, inl, inr, ◌≤◌, ◌<◌, ◌+◌, ◌^◌, ℕ, ℤ, nat_lt, Bool, true, false, cond, Option, Some, sym, ap, subst, refl, arith}
 use Rattle.std.proofs.lemmas.Bool.Decides.{nat_tests}
 use Rattle.std.specs.Prelude.{IsSome, Err, string_bytes}
 use Rattle.std.specs.FinMap.{get}
@@ -22,6 +22,7 @@ use Rattle.kb_topics.specs.declared.fault.CatalogFault.{CatalogFault}
 use Rattle.kb_topics.specs.declared.fault.CatalogFault.TheVariants as catalog
 use Rattle.kb_tenant_state.specs.Parts as parts
 use Rattle.kb_tenant_state.specs.RetentionTime.{AreAllKept}
+use Rattle.kb_tenant_state.specs.Stored.{IsTold, offsets_in, stored_in, up_to_end}
 use Rattle.kb_tenant_state.specs.Parts.{IsSound, Agrees, Seen, meta, entries, recorded_start, world_of, raised, refused, counted_for, counted_for_catalog}
 use Rattle.kb_tenant_state.specs.Counts.{END, IsCalm}
 use Rattle.kb_tenant_state.specs.Steps.{IsStep, Meets, calm_then}
@@ -29,7 +30,12 @@ use Rattle.kb_tenant_state.specs.Tied.{counted, partition_count}
 use Rattle.kb_tenant_state.specs.declared.parts.Parts.{Parts}
 use Rattle.kb_tenant_state.proofs.Moves.{IsMove, as_move, as_step}
 use Rattle.kb_tenant_state.proofs.StillKept.{as_before, kept_by}
-use Rattle.kb_tenant_state.proofs.Tied.{AgreesBy, AreOf, IsUntied, KeepNames, KeepStarts, from_untied, meta_named, named_as, untied, untied_on}
+use Rattle.kb_tenant_state.proofs.Sums.{still_told}
+use Rattle.kb_tenant_state.proofs.Tied.{AgreesBy, AreCounted, AreOf, IsUntied, KeepNames, KeepStarts, from_untied, meta_named, named_as, untied, untied_on}
+
+-- the same offsets are counted, and the same is known of the bytes of batches
+abbrev pub AreTallied : {L : Type 0} → Parts L → Parts L → Type 0
+AreTallied q p = (q.offsets ≡ p.offsets) × (q.stored ≡ p.stored)
 
 -- A call for the partitions: the catalog is as before, and topics that had no partitions have none, or as many as they had. Behind it
 -- the catalog says how many, and where their logs start.
@@ -41,8 +47,9 @@ pub parts_move : {L : Type 0} (log : L → Log) (law : (l : L) → IsLawfulLog (
     → IsUntied log p d.table next → Frame (scene_on log (entries p) d next) (scene_on log (entries p') d' next')
     → (d'.honest → AgreesBy log recorded p d.files → AreStarted log (recorded_start (known p'.catalog)) (entries p'))
     → (d'.honest → AgreesBy log recorded p d.files → AreAllKept p'.next_retention_time (world_of log p' d'.files))
+    → AreCounted p' → (d'.honest → AgreesBy log recorded p d.files → IsTold p'.stored (up_to_end (stored_in (world_of log p' d'.files))))
     → IsMove (untied_on log recorded p d next) (parts.scene_on log p' d' next')
-parts_move {L} log law recorded p p' d d' next next' catalog of named unmade small grows tied sound frame started until =
+parts_move {L} log law recorded p p' d d' next next' catalog of named unmade small grows tied sound frame started until offsets stored =
     let m = meta log p in
     let lawful : IsLawfulLog m = law (meta_log p.catalog) in
     let same : meta log p' ≡ m = ap (λ c. log (meta_log c)) catalog in
@@ -63,6 +70,7 @@ parts_move {L} log law recorded p p' d d' next next' catalog of named unmade sma
           tied = tied;
           catalog_named = meta_named p p' (meta log p').identity m.identity of (ap (λ (l : Log). l.identity) same) sound.catalog_named;
           logs_named = named (string_bytes p'.tenant) p'.segment_bytes (named_as log p p' (entries p) of sound.logs_named);
+          offsets = offsets;
         };
         others = record {
           later = others.later;
@@ -85,6 +93,7 @@ parts_move {L} log law recorded p p' d d' next next' catalog of named unmade sma
               started = started honest agree;
               meta_started = subst (λ (l : Log). l.resumes 0) (sym same) agree.meta_started;
               until = until honest agree;
+              stored = stored honest agree;
             };
       };
       named = ap string_bytes of.0;
@@ -118,26 +127,29 @@ pub logs_move : {L : Type 0} (log : L → Log) (law : (l : L) → IsLawfulLog (l
     → places_of (entries p') ≡ places_of (entries p) → p.refusals ≤ p'.refusals
     → IsSound log p d.table next → Frame (scene_on log (entries p) d next) (scene_on log (entries p') d' next')
     → (d'.honest → AgreesBy log (recorded_start (known p.catalog)) p d.files → AreAllKept p'.next_retention_time (world_of log p' d'.files))
+    → p'.offsets ≡ p.offsets → (d'.honest → AgreesBy log (recorded_start (known p.catalog)) p d.files → IsTold p'.stored (up_to_end (stored_in (world_of log p' d'.files))))
     → IsMove (parts.scene_on log p d next) (parts.scene_on log p' d' next')
-logs_move log law p p' d d' next next' catalog of named starts places grows sound frame until =
+logs_move log law p p' d d' next next' catalog of named starts places grows sound frame until offsets stored =
     from_untied log p (parts.scene_on log p' d' next') d next
     (parts_move log law (recorded_start (known p.catalog)) p p' d d' next next' catalog of named
     (λ i none. ap (λ ps. lookup (is_at (nat_cmp i)) ps) places ∙ none)
     (λ i n e. ap (λ ps. lookup (is_at (nat_cmp i)) ps) (sym places) ∙ e) grows
     (places ∙ sound.tied ∙ sym (ap (λ c. counted partition_count (known c).topics) catalog)) (untied log p d.table next sound) frame
-    (λ honest agree. subst (λ c. AreStarted log (recorded_start (known c)) (entries p')) (sym catalog) (starts (recorded_start (known p.catalog)) agree.started)) until)
+    (λ honest agree. subst (λ c. AreStarted log (recorded_start (known c)) (entries p')) (sym catalog) (starts (recorded_start (known p.catalog)) agree.started)) until
+    (offsets ∙ sound.offsets ∙ sym (ap (λ c. up_to_end (offsets_in (known c))) catalog)) stored)
 
 -- A call for the partitions that leaves them as they are, and each log's batches as they were.
 pub read_move : {L : Type 0} (log : L → Log) (law : (l : L) → IsLawfulLog (log l)) (p p' : Parts L) (d d' : Disk) (next next' : ℕ)
     → p'.catalog ≡ p.catalog → AreOf p' p → KeepNames log (entries p) (entries p') → KeepStarts log (entries p) (entries p')
-    → places_of (entries p') ≡ places_of (entries p) → p.refusals ≤ p'.refusals → p'.next_retention_time ≡ p.next_retention_time
+    → places_of (entries p') ≡ places_of (entries p) → p.refusals ≤ p'.refusals → p'.next_retention_time ≡ p.next_retention_time → AreTallied p' p
     → IsSound log p d.table next → Frame (scene_on log (entries p) d next) (scene_on log (entries p') d' next') → Same (scene_on log (entries p) d next) (scene_on log (entries p') d' next')
     → IsMove (parts.scene_on log p d next) (parts.scene_on log p' d' next')
-read_move log law p p' d d' next next' catalog of named starts places grows until sound frame same =
+read_move log law p p' d d' next next' catalog of named starts places grows until tallied sound frame same =
     logs_move log law p p' d d' next next' catalog of named starts places grows sound frame
     (λ honest agree. subst (λ u. AreAllKept u (world_of log p' d'.files)) (sym until)
     (kept_by p.next_retention_time (world_of log p d.files) (world_of log p' d'.files)
     (as_before (known p.catalog) (known p'.catalog) (ap (λ c. (known c).topics) catalog)) (same honest agree.logs) agree.until))
+    tallied.0 (λ honest agree. still_told p.stored p'.stored (logs_of log (entries p) d.files) (logs_of log (entries p') d'.files) tallied.1 (same honest agree.logs) agree.stored)
 
 -- a call that changes no file
 pub kept_settle : {L : Type 0} (log : L → Log) (p : Parts L) (d d' : Disk) (next next' : ℕ) → Keeps d d' → Settles (parts.scene_on log p d next) (parts.scene_on log p d' next')
@@ -152,7 +164,7 @@ pub read_step : {L : Type 0} (log : L → Log) (law : (l : L) → IsLawfulLog (l
     → IsStep (parts.scene_on log p d next) (parts.scene_on log p d' next')
 read_step log law p d d' next next' sound frame same keeps =
     as_step (parts.scene_on log p d next) (parts.scene_on log p d' next')
-    (read_move log law p p d d' next next' refl (refl, refl) (λ tenant size named. named) (λ recorded started. started) refl (omega arith) refl sound frame same)
+    (read_move log law p p d d' next next' refl (refl, refl) (λ tenant size named. named) (λ recorded started. started) refl (omega arith) refl (refl, refl) sound frame same)
     (λ calm. kept_settle log p d d' next next' keeps)
 
 -- ---- counts
@@ -162,9 +174,9 @@ more_counted a n true le = omega (arith, le)
 more_counted a n false le = le
 
 -- the same catalog and partitions, under another count
-pub recast_move : {L : Type 0} (log : L → Log) (a : Scene Seen) (p q : Parts L) (d : Disk) (next : ℕ) → q.catalog ≡ p.catalog → AreOf q p → entries q ≡ entries p → q.next_retention_time ≡ p.next_retention_time → a.state.refusals ≤ q.refusals
+pub recast_move : {L : Type 0} (log : L → Log) (a : Scene Seen) (p q : Parts L) (d : Disk) (next : ℕ) → q.catalog ≡ p.catalog → AreOf q p → entries q ≡ entries p → q.next_retention_time ≡ p.next_retention_time → AreTallied q p → a.state.refusals ≤ q.refusals
     → IsMove a (parts.scene_on log p d next) → IsMove a (parts.scene_on log q d next)
-recast_move {L} log a p q d next c of e until le move =
+recast_move {L} log a p q d next c of e until tallied le move =
     let s = move.frame.sound in
     let m : meta log q ≡ meta log p = ap (λ (k : Catalog L). log (meta_log k)) c in
     record {
@@ -179,6 +191,7 @@ recast_move {L} log a p q d next c of e until le move =
           tied = ap places_of e ∙ s.tied ∙ sym (ap (λ (k : Catalog L). counted partition_count (known k).topics) c);
           catalog_named = meta_named p q (meta log q).identity (meta log p).identity of (ap (λ (l : Log). l.identity) m) s.catalog_named;
           logs_named = named_as log p q (entries q) of (subst (AreNamed log (string_bytes p.tenant) p.segment_bytes) (sym e) s.logs_named);
+          offsets = tallied.0 ∙ s.offsets ∙ sym (ap (λ (k : Catalog L). up_to_end (offsets_in (known k))) c);
         };
         others = record {
           later = move.frame.others.later;
@@ -197,6 +210,7 @@ recast_move {L} log a p q d next c of e until le move =
           until = subst (λ u. AreAllKept u (world_of log q d.files)) (sym until)
               (kept_by p.next_retention_time (world_of log p d.files) (world_of log q d.files)
               (as_before (known p.catalog) (known q.catalog) (ap (λ (k : Catalog L). (known k).topics) c)) (ap (λ (es : Entries L). logs_of log es d.files) e) g.until);
+          stored = still_told p.stored q.stored (logs_of log (entries p) d.files) (logs_of log (entries q) d.files) tallied.1 (ap (λ (es : Entries L). logs_of log es d.files) e) g.stored;
         };
       };
       named = ap string_bytes of.0 ∙ move.named;
@@ -216,11 +230,11 @@ recast_settles {L} log a p q d next c e settles =
           (subst (λ (l : Log). l.exact d.table) (sym m) x.0, subst (λ (es : Entries L). AreExact log es d.table) (sym e) x.1);
     }
 
-pub recast : {L : Type 0} (log : L → Log) (a : Scene Seen) (p q : Parts L) (d : Disk) (next : ℕ) → q.catalog ≡ p.catalog → AreOf q p → entries q ≡ entries p → q.next_retention_time ≡ p.next_retention_time → p.refusals ≤ q.refusals
+pub recast : {L : Type 0} (log : L → Log) (a : Scene Seen) (p q : Parts L) (d : Disk) (next : ℕ) → q.catalog ≡ p.catalog → AreOf q p → entries q ≡ entries p → q.next_retention_time ≡ p.next_retention_time → AreTallied q p → p.refusals ≤ q.refusals
     → IsStep a (parts.scene_on log p d next) → IsStep a (parts.scene_on log q d next)
-recast log a p q d next c of e until le step =
+recast log a p q d next c of e until tallied le step =
     as_step a (parts.scene_on log q d next)
-    (recast_move log a p q d next c of e until (omega (arith, step.grows, le)) (as_move a (parts.scene_on log p d next) step))
+    (recast_move log a p q d next c of e until tallied (omega (arith, step.grows, le)) (as_move a (parts.scene_on log p d next) step))
     (λ calm. recast_settles log a p q d next c e (step.settles (calm_then a.state.refusals p.refusals q.refusals step.grows le calm).0))
 
 -- a refusal that was counted is no calm, whatever was counted before
@@ -235,7 +249,7 @@ loud n p le calm = by (nat_lt p.refusals END) refl calm
 pub refused_move : {L : Type 0} (log : L → Log) (a : Scene Seen) (p : Parts L) (d : Disk) (next : ℕ) → IsMove a (parts.scene_on log p d next) → IsStep a (parts.scene_on log (refused p) d next)
 refused_move log a p d next move =
     as_step a (parts.scene_on log (refused p) d next)
-    (recast_move log a p (refused p) d next refl (refl, refl) refl refl (more_counted a.state.refusals p.refusals (nat_lt p.refusals END) move.grows) move)
+    (recast_move log a p (refused p) d next refl (refl, refl) refl refl (refl, refl) (more_counted a.state.refusals p.refusals (nat_lt p.refusals END) move.grows) move)
     (λ calm. absurd (loud a.state.refusals p move.grows calm))
 
 -- a step, and a refusal is counted
@@ -277,7 +291,7 @@ counted_step_catalog T log a p d next catalog.Memory move settled = refused_move
 
 -- a step, and the count of refusals is raised
 pub raised_step : {L : Type 0} (log : L → Log) (a : Scene Seen) (p : Parts L) (n : ℕ) (d : Disk) (next : ℕ) → IsStep a (parts.scene_on log p d next) → IsStep a (parts.scene_on log (raised p n) d next)
-raised_step log a p n d next step = recast log a p (raised p n) d next refl (refl, refl) refl refl (omega arith) step
+raised_step log a p n d next step = recast log a p (raised p n) d next refl (refl, refl) refl refl (refl, refl) (omega arith) step
 
 -- what was met is met also where the count is raised behind it
 pub raised_meets : {L : Type 0} (log : L → Log) (a : Scene Seen) (p : Parts L) (n : ℕ) (d : Disk) (next : ℕ) (P : Type 0) → IsStep a (parts.scene_on log p d next)
@@ -301,6 +315,7 @@ kept_step log a p u d next until step =
           tied = s.tied;
           catalog_named = s.catalog_named;
           logs_named = s.logs_named;
+          offsets = s.offsets;
         };
         others = record {
           later = step.frame.others.later;
@@ -317,6 +332,51 @@ kept_step log a p u d next until step =
           started = g.started;
           meta_started = g.meta_started;
           until = until honest g;
+          stored = g.stored;
+        };
+      };
+      named = step.named;
+      grows = step.grows;
+      commands = step.commands;
+      creates = step.creates;
+      settles = λ calm. let s = step.settles calm in record { accounts = s.accounts; exact = s.exact };
+    }
+
+-- a step, and then the bytes of all batches are known
+pub told_step : {L : Type 0} (log : L → Log) (a : Scene Seen) (p : Parts L) (o : Option ℕ) (d : Disk) (next : ℕ) → (d.honest → Agrees log p d.files → IsTold o (up_to_end (stored_in (world_of log p d.files))))
+    → IsStep a (parts.scene_on log p d next) → IsStep a (parts.scene_on log (record p { stored = o }) d next)
+told_step log a p o d next stored step =
+    let s = step.frame.sound in
+    record {
+      frame = record {
+        sound = record {
+          catalog = s.catalog;
+          logs = s.logs;
+          apart = s.apart;
+          few = s.few;
+          unmade = s.unmade;
+          small = s.small;
+          tied = s.tied;
+          catalog_named = s.catalog_named;
+          logs_named = s.logs_named;
+          offsets = s.offsets;
+        };
+        others = record {
+          later = step.frame.others.later;
+          honest = step.frame.others.honest;
+          owned = step.frame.others.owned;
+          lengths = step.frame.others.lengths;
+          contents = step.frame.others.contents;
+        };
+        failures = step.frame.failures;
+        agrees = λ honest agree. let g = step.frame.agrees honest agree in record {
+          catalog = g.catalog;
+          fold = g.fold;
+          logs = g.logs;
+          started = g.started;
+          meta_started = g.meta_started;
+          until = g.until;
+          stored = stored honest g;
         };
       };
       named = step.named;

@@ -92,14 +92,14 @@ lookup_put {A} es i j t u v a b =
       | inr e ↦ inr (other_number i j e, sym (found ∙ ap (λ c. cond c (Some u) (lookup (is_at (nat_cmp j)) es)) e) ∙ b)
     ]
 
-at_head : {A : Type 0} (e : ℕ × A) (es : List (ℕ × A)) → lookup (is_at (nat_cmp e.0)) (e ∷ es) ≡ Some e.1
+pub at_head : {A : Type 0} (e : ℕ × A) (es : List (ℕ × A)) → lookup (is_at (nat_cmp e.0)) (e ∷ es) ≡ Some e.1
 at_head e es = ap (λ b. cond b (Some e.1) (lookup (is_at (nat_cmp e.0)) es)) (own_number e.0)
 
 not_behind : {A : Type 0} (j : ℕ) (e : ℕ × A) (es : List (ℕ × A)) (v : A) → IsStrictlySortedBy nat_cmp (keys_of (e ∷ es)) → is_at (nat_cmp j) e.0 ≡ true → lookup (is_at (nat_cmp j)) es ≡ Some v → ⊥
 not_behind j e es v s t l =
     let none : lookup (is_at (nat_cmp j)) es ≡ None = lookup-none _ es (none_past_head (eq_by_cmp_equiv nat_cmp_total) j e es (IsDistinct-from_sorted nat_cmp (keys_of (e ∷ es)) s) t) in cc
 
-in_tail : {A : Type 0} (j : ℕ) (e : ℕ × A) (es : List (ℕ × A)) (v : A) → IsStrictlySortedBy nat_cmp (keys_of (e ∷ es)) → lookup (is_at (nat_cmp j)) es ≡ Some v → lookup (is_at (nat_cmp j)) (e ∷ es) ≡ Some v
+pub in_tail : {A : Type 0} (j : ℕ) (e : ℕ × A) (es : List (ℕ × A)) (v : A) → IsStrictlySortedBy nat_cmp (keys_of (e ∷ es)) → lookup (is_at (nat_cmp j)) es ≡ Some v → lookup (is_at (nat_cmp j)) (e ∷ es) ≡ Some v
 in_tail j e es v s l =
     elim (cases (is_at (nat_cmp j) e.0)) [
       | inl t ↦ absurd (not_behind j e es v s t l)

@@ -1,12 +1,14 @@
 -- How the partitions of a tenant stand to the topics of its catalog.
-use Rattle.std.proofs.Common.{◌≡◌, ◌∙◌, ◌≤◌, ◌<◌, ◌^◌, ℕ, ℤ, Bool, true, false, cond, List, [], ◌∷◌, length, Option, Some, None, refl, sym, ap, subst, pos}
-use Rattle.std.specs.Prelude.{int_le, option_map, string_bytes}
+use Rattle.std.proofs.Common.{◌≡◌, ◌∙◌, ◌≤◌, ◌<◌, ◌^◌, ℕ, ℤ, Bool, true, false, cond, List, [], ◌∷◌, length, Option, Some, None, refl, sym, ap, subst}
+use Rattle.std.specs.Prelude.{int_le, map, option_map, string_bytes}
 use Rattle.std.specs.Option.{option_and_then}
 use Rattle.std.specs.Ordering.{nat_cmp, match_ordering}
 use Rattle.std.specs.declared.cmp.Ordering.{Ordering}
 use Rattle.std.specs.declared.cmp.Ordering.TheVariants.{Less, Equal, Greater}
 use Rattle.std.specs.Map.{lookup, remove_entry, set_value}
 use Rattle.std.specs.BTreeMap.{insert_entry, is_at}
+use Rattle.std.specs.declared.alloc.Global.{Global}
+use Rattle.std.specs.declared.vec.Vec.{Vec}
 use Rattle.std.proofs.lemmas.List.{length-map, length-set}
 use Rattle.std.proofs.lemmas.Map.Made.{lookup-map_values}
 use Rattle.kb_store.specs.Disk.{Disk, Files, Table}
@@ -22,6 +24,7 @@ use Rattle.kb_tenant_state.specs.Scene.{Scene}
 use Rattle.kb_tenant_state.specs.declared.partition.Partition.{Partition}
 use Rattle.kb_tenant_state.specs.RetentionTime.{AreAllKept}
 use Rattle.kb_tenant_state.specs.Parts.{IsSound, Seen, entries, meta, recorded_start, scene_on, world_of}
+use Rattle.kb_tenant_state.specs.Stored.{IsTold, offsets_in, stored_in, up_to_end}
 use Rattle.kb_tenant_state.specs.Tied.{IsTied, counted, partition_count}
 use Rattle.kb_tenant_state.specs.declared.parts.Parts.{Parts}
 use Rattle.kb_tenant_state.proofs.Moves.{IsMove}
@@ -111,6 +114,10 @@ KeepNames log old new = (tenant : List ℕ) (size : ℕ) → AreNamed log tenant
 abbrev pub KeepStarts : {L : Type 0} → (L → Log) → Entries L → Entries L → Type 0
 KeepStarts log old new = (recorded : ℕ → ℕ → ℕ) → AreStarted log recorded old → AreStarted log recorded new
 
+-- the committed offsets are counted
+abbrev pub AreCounted : {L : Type 0} → Parts L → Type 0
+AreCounted p = p.offsets ≡ up_to_end (offsets_in (known p.catalog))
+
 -- ---- between a command and the call for the partitions
 
 -- sound, whatever partitions the topics have
@@ -132,6 +139,7 @@ pub record AgreesBy {L : Type 0} (log : L → Log) (recorded : ℕ → ℕ → �
   pub started : AreStarted log recorded (entries p)
   pub meta_started : (meta log p).resumes 0
   pub until : AreAllKept p.next_retention_time (world_of log p files)
+  pub stored : IsTold p.stored (up_to_end (stored_in (world_of log p files)))
 
 abbrev pub untied_on : {L : Type 0} → (L → Log) → (ℕ → ℕ → ℕ) → Parts L → Disk → ℕ → Scene Seen
 untied_on log recorded p d next = record (scene_on log p d next) { sound = IsUntied log p d.table next; agrees = AgreesBy log recorded p d.files }
@@ -161,6 +169,7 @@ from_untied log p b d next move = record {
       started = agree.started;
       meta_started = agree.meta_started;
       until = agree.until;
+      stored = agree.stored;
     });
   };
   named = move.named;
@@ -170,8 +179,8 @@ from_untied log p b d next move = record {
 }
 
 pub tie : {L : Type 0} (log : L → Log) (a : Scene Seen) (recorded : ℕ → ℕ → ℕ) (p : Parts L) (d : Disk) (next : ℕ) → places_of (entries p) ≡ counted partition_count (known p.catalog).topics
-    → ((i q : ℕ) → recorded_start (known p.catalog) i q ≡ recorded i q) → IsMove a (untied_on log recorded p d next) → IsMove a (scene_on log p d next)
-tie log a recorded p d next tied same move =
+    → ((i q : ℕ) → recorded_start (known p.catalog) i q ≡ recorded i q) → AreCounted p → IsMove a (untied_on log recorded p d next) → IsMove a (scene_on log p d next)
+tie log a recorded p d next tied same offsets move =
     let s = move.frame.sound in
     record {
       frame = record {
@@ -185,6 +194,7 @@ tie log a recorded p d next tied same move =
           tied = tied;
           catalog_named = s.catalog_named;
           logs_named = s.logs_named;
+          offsets = offsets;
         };
         others = move.frame.others;
         failures = move.frame.failures;
@@ -195,6 +205,7 @@ tie log a recorded p d next tied same move =
           started = still_started log (entries p) recorded (recorded_start (known p.catalog)) same g.started;
           meta_started = g.meta_started;
           until = g.until;
+          stored = g.stored;
         };
       };
       named = move.named;
@@ -214,6 +225,15 @@ seen_counts {L} log (e ∷ es) files =
 none_counted : {A B : Type 0} (f : A → B) (o : Option A) → option_map f o ≡ None → o ≡ None
 none_counted f None e = refl
 none_counted f (Some x) e = absurd cc
+
+-- where a topic has no partitions the tenant sees no logs
+pub none_seen : {L : Type 0} (log : L → Log) (es : Entries L) (i : ℕ) (files : Files) → IsUnmade i es → lookup (is_at (nat_cmp i)) (logs_of log es files) ≡ None
+none_seen {L} log es i files none =
+    let test : ℕ → Bool = is_at (nat_cmp i) in
+    let count : Vec (Partition L) Global → ℕ = λ t. length t.items in
+    let there = none_counted count (lookup test es) (sym (lookup-map_values count test es) ∙ none) in
+    lookup-map_values (λ (t : Vec (Partition L) Global). map (λ (x : Partition L). log_state (log x.log) files) t.items) test es
+    ∙ ap (option_map (λ (t : Vec (Partition L) Global). map (λ (x : Partition L). log_state (log x.log) files) t.items)) there
 
 -- the world of sound parts is tied, by any files
 pub tied_world : {L : Type 0} (log : L → Log) (p : Parts L) (table : Table) (next : ℕ) (files : Files) → IsSound log p table next → IsTied (world_of log p files)

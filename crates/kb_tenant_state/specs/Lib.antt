@@ -12,6 +12,7 @@ pub mod Restored
 pub mod RetentionTime
 pub mod Scene
 pub mod Steps
+pub mod Stored
 pub mod Tied
 pub mod Told
 pub mod Topic

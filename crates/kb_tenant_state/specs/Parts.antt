@@ -17,6 +17,7 @@ use Rattle.kb_topics.specs.declared.fault.CatalogFault.TheVariants as catalog
 use Rattle.kb_tenant_state.specs.declared.fault.PartitionFault.{PartitionFault}
 use Rattle.kb_tenant_state.specs.declared.fault.PartitionFault.TheVariants as partition
 use Rattle.kb_tenant_state.specs.RetentionTime.{AreAllKept}
+use Rattle.kb_tenant_state.specs.Stored.{offsets_in, stored_in, up_to_end, IsTold}
 use Rattle.kb_tenant_state.specs.Tied.{counted, partition_count}
 use Rattle.kb_tenant_state.specs.World.{World}
 use Rattle.kb_tenant_state.specs.declared.parts.Parts.{Parts}
@@ -35,7 +36,7 @@ Owns log p file = (meta log p).owns file ⊎ Owned log (entries p) file
 
 -- Each log is sound and the tenant's own, the meta log in whatever generation, and no file is of two logs. No instance that is still
 -- to be given out has partitions, and no topic has more than 64. Each topic has as many partitions as the catalog says, under its
--- instance, and there are no others.
+-- instance, and there are no others. The committed offsets are counted.
 pub record IsSound {L : Type 0} (log : L → Log) (p : Parts L) (table : Table) (next : ℕ) : Type 0 where
   pub catalog : (meta log p).sound table next
   pub logs : AreSound log (entries p) table next
@@ -46,6 +47,7 @@ pub record IsSound {L : Type 0} (log : L → Log) (p : Parts L) (table : Table) 
   pub tied : places_of (entries p) ≡ counted partition_count (known p.catalog).topics
   pub catalog_named : (meta log p).identity ≡ catalog_identity (string_bytes p.tenant) (meta log p).identity.generation p.segment_bytes
   pub logs_named : AreNamed log (string_bytes p.tenant) p.segment_bytes (entries p)
+  pub offsets : p.offsets ≡ up_to_end (offsets_in (known p.catalog))
 
 -- what the tenant sees
 abbrev pub world_of : {L : Type 0} → (L → Log) → Parts L → Files → World
@@ -60,7 +62,8 @@ abbrev pub recorded_start : Known → ℕ → ℕ → ℕ
 recorded_start k i p = start_said (partition_at k (pos i) (pos p))
 
 -- Each log agrees with its files, and would start where it does if it were opened from them again; the catalog is what its meta log
--- comes to, by the generation that the log is of; and up to a clock no partition has anything to drop.
+-- comes to, by the generation that the log is of; up to a clock no partition has anything to drop; and what is known of the bytes of all
+-- batches is right.
 pub record Agrees {L : Type 0} (log : L → Log) (p : Parts L) (files : Files) : Type 0 where
   pub catalog : (meta log p).agrees files
   pub fold : IsFoldOf (natural (meta log p).identity.generation) ((meta log p).batches files) (known p.catalog)
@@ -68,6 +71,7 @@ pub record Agrees {L : Type 0} (log : L → Log) (p : Parts L) (files : Files) :
   pub started : AreStarted log (recorded_start (known p.catalog)) (entries p)
   pub meta_started : (meta log p).resumes 0
   pub until : AreAllKept p.next_retention_time (world_of log p files)
+  pub stored : IsTold p.stored (up_to_end (stored_in (world_of log p files)))
 
 -- whose the parts are, what the tenant sees, how many refusals were counted for it, and how many commands its meta log has recorded,
 -- which is where that log ends

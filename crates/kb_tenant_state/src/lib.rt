@@ -18,9 +18,11 @@ mod parts;
 mod records;
 mod retention;
 mod retention_time;
+mod sizes;
 mod topic;
 mod topic_partition;
 mod topics;
+mod usage;
 
 pub use fault::PartitionFault;
 pub use partition::Partition;

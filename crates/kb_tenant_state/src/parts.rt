@@ -1,5 +1,5 @@
 //! The parts of a tenant.
-ghost use Rattle.std.specs.Prelude.{◌≡◌, ◌⊎◌, ◌≤◌, ◌≤ℤ◌, ℕ, pos, negsuc, false, length, string_bytes, IfOk};
+ghost use Rattle.std.specs.Prelude.{◌≡◌, ◌⊎◌, ◌≤◌, ◌≤ℤ◌, ℕ, None, pos, negsuc, false, length, string_bytes, IfOk};
 ghost use Rattle.std.specs.Option.{option_copied};
 ghost use Rattle.kb_store.specs.Disk.{Table, Files};
 ghost use Rattle.kb_topics.specs.ByName.{by_name};
@@ -8,19 +8,21 @@ ghost use Rattle.kb_topics.specs.Known.{named, topic_at};
 ghost use Rattle.kb_tenant_state.specs.Calls.{start_of, end_of, judged, committed, retain_all};
 ghost use Rattle.kb_tenant_state.specs.Partitions.{AreExact};
 ghost use Rattle.kb_tenant_state.specs.Parts.{Agrees, IsSound, Owns, entries, meta, raised, refused, world_of};
+ghost use Rattle.kb_tenant_state.specs.Stored.{offsets_in, up_to_end};
 ghost use Rattle.kb_tenant_state.specs.Restored.{AreFitting, DoAgree, IsOfEither, restored_world};
 ghost use Rattle.kb_tenant_state.specs.World.{new_world};
 
 use crate::partitions::Partitions;
 use crate::topic_partition::TopicPartition;
+use crate::usage::offset_count;
 use kb_batch::BatchView;
 use kb_log::PartitionLog;
 use kb_producers::Verdict;
 use kb_topics::{Catalog, Committed, Topic, TopicsByName};
 use std::alloc::{AllocError, Global};
 
-/// A tenant's catalog and its partitions, a clock up to which no partition has anything to drop, and how many refusals of
-/// memory and of the store were counted for it.
+/// A tenant's catalog and its partitions, a clock up to which no partition has anything to drop, what is known of the bytes of its
+/// batches, how many offsets its groups have committed, and how many refusals of memory and of the store were counted for it.
 #[derive(Drop)]
 pub struct Parts<L: PartitionLog> {
     pub(crate) alloc: Global,
@@ -29,6 +31,10 @@ pub struct Parts<L: PartitionLog> {
     pub(crate) catalog: Catalog<L>,
     pub(crate) partitions: Partitions<L>,
     pub(crate) next_retention_time: i64,
+    /// How many bytes the batches in all logs have, or else the greatest number, where it is known.
+    pub(crate) stored: Option<u64>,
+    /// How many offsets all groups have committed, or else the greatest number.
+    pub(crate) offsets: u64,
     pub(crate) refusals: u64,
 }
 
@@ -50,8 +56,9 @@ impl<L: PartitionLog> Parts<L> {
         let catalog = Catalog::new(alloc, meta_tenant, segment_bytes);
         let partitions = Partitions::new(alloc);
         let mut parts = Parts::restored(alloc, tenant, segment_bytes, catalog, partitions);
-        // there is nothing to drop
+        // there is nothing to drop, and no batch
         parts.next_retention_time = i64::MAX;
+        parts.stored = Some(0);
         Ok(parts)
     }
 
@@ -78,9 +85,12 @@ impl<L: PartitionLog> Parts<L> {
           catalog = catalog;
           partitions = partitions;
           next_retention_time = negsuc 0;
+          stored = None;
+          offsets = up_to_end (offsets_in (known catalog));
           refusals = 0;
         } }
     {
+        let offsets = offset_count(&catalog);
         Parts {
             alloc,
             tenant,
@@ -89,6 +99,8 @@ impl<L: PartitionLog> Parts<L> {
             partitions,
             // when retention is due is not known yet, so it may be at each clock
             next_retention_time: -1,
+            stored: None,
+            offsets,
             refusals: 0,
         }
     }

@@ -1,4 +1,4 @@
-use Rattle.std.proofs.Common.{◌≡◌, ◌∙◌, sym, ap, subst}
+use Rattle.std.proofs.Common.{◌≡◌, ◌∙◌, sym, ap, refl, subst}
 use Rattle.std.proofs.lemmas.Option.{none-some}
 use Rattle.kb_tenant_state.specs.Partitions.{AreExact}
 use Rattle.kb_batch.specs.Batch.{natural}
@@ -16,7 +16,7 @@ returns-clause-agrees g c = λ files.
     (subst (λ k. IsNew (g.L.PartitionLog.log (meta_log k))) catalog c.new-catalog.ensures.log)
     (ap (λ k. natural (g.L.PartitionLog.log (meta_log k)).identity.generation) (sym catalog) ∙ ap (λ (i : Identity). natural i.generation) c.new-catalog.ensures.identity)
     (subst (λ k. known k ≡ empty) catalog c.new-catalog.ensures.known)
-    (ap (λ p. p.partitions.topics.entries) made ∙ c.new-partitions.ensures)
+    (ap (λ p. p.partitions.topics.entries) made ∙ c.new-partitions.ensures) refl
 
 pub returns-clause-exact : goal.returns-clause-exact
 returns-clause-exact g c = λ table.

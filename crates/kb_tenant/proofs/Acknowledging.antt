@@ -23,7 +23,7 @@ use Rattle.kb_topics.specs.Known.{named}
 use Rattle.kb_tenant.specs.Produce.{Progress, answer, is_due, progress, refusal_of, reply_bytes, entry_served, where_due}
 use Rattle.kb_tenant.specs.Replies.{begun, IsAnswer, Replies}
 use Rattle.kb_tenant.specs.Room.{length_due, reply_length, IsLonger}
-use Rattle.kb_tenant.specs.Told.{FailedBy, IsAcknowledged, IsAppendWant, IsEntryTold, IsProduceTold, IsReplied, IsSpared, IsTold, IsTopicTold, IsWanting}
+use Rattle.kb_tenant.specs.Told.{FailedBy, HasFailed, IsAcknowledged, IsAppendWant, IsEntryTold, IsProduceTold, IsReplied, IsSpared, IsTold, IsTopicTold, IsWanting}
 use Rattle.kb_tenant.specs.Turns.{AreServed}
 use Rattle.kb_tenant.specs.declared.answer.Answer.{Answer}
 use Rattle.kb_tenant.specs.declared.answer.Answer.TheVariants as answers
@@ -91,51 +91,51 @@ failed_in before now next first last early since until later failed = ⊎_elim (
 -- ---- one entry
 
 wanting : (failed : Type 0) (a b : Scene Seen) (old new : List TopicPartition) (e : ProducePartition) (x : ProducePartitionReply)
-    → (Failed a b → failed) → IsAppendWant a b old new x.error_code × (x ≡ answer e.index (Err x.error_code)) → IsWanting failed e x
+    → (WhereHonest a b (HasFailed a b) → failed) → IsAppendWant a b old new x.error_code × (x ≡ answer e.index (Err x.error_code)) → IsWanting failed e x
 wanting failed a b old new e x cause want =
     ⊎_elim (λ store. inl (want.1 ∙ ap (λ code. answer e.index (Err code)) store.0, cause store.1)) (λ memory. inr (want.1 ∙ ap (λ code. answer e.index (Err code)) memory)) want.0.0
 
-pub entry_told_so : (before now next : ℕ) (a b : Scene Seen) (old new : List TopicPartition) (refusal : Option ℤ) (topic : Option ℕ) (e : ProducePartition) (x : ProducePartitionReply)
+pub entry_told_so : (before now next : ℕ) (a b : Scene Seen) (old new : List TopicPartition) (limit : Option ℕ) (refusal : Option ℤ) (topic : Option ℕ) (e : ProducePartition) (x : ProducePartitionReply)
     → IsStep a b → before ≤ a.disk.failures → b.disk.failures ≤ now → b.next ≤ next
-    → IsTold a b ((progress b.state.world new, x) ≡ entry_served refusal topic (progress a.state.world old) e) (IsAppendWant a b old new x.error_code × (x ≡ answer e.index (Err x.error_code)))
-    → WhereHonest a b (IsEntryTold (FailedBy before now next) refusal topic (progress a.state.world old) e (progress b.state.world new) x)
-entry_told_so before now next a b old new refusal topic e x step since until later told honest agree =
-    let cause : Failed a b → FailedBy before now next = λ failed. failed_in before now next a.disk.failures b.disk.failures a.next since until (next_by a b next step later) (failed honest agree) in
+    → IsTold a b ((progress b.state.world new, x) ≡ entry_served limit refusal topic (progress a.state.world old) e) (IsAppendWant a b old new x.error_code × (x ≡ answer e.index (Err x.error_code)))
+    → WhereHonest a b (IsEntryTold (FailedBy before now next) limit refusal topic (progress a.state.world old) e (progress b.state.world new) x)
+entry_told_so before now next a b old new limit refusal topic e x step since until later told honest agree =
+    let cause : WhereHonest a b (HasFailed a b) → FailedBy before now next = λ failed. failed_in before now next a.disk.failures b.disk.failures b.next since until later (failed honest agree) in
     ⊎_elim (λ done. inl (done.met honest agree))
     (λ refused. inr (ap (λ w. progress w new) (refused.stays honest agree) ∙ ap (progress a.state.world) refused.want.0.1, wanting (FailedBy before now next) a b old new e x cause refused.want)) told
 
 -- ---- a topic, and the whole
 
 -- a topic's name, the count of its entries and what they were answered
-pub topic_told_so : (failed : Type 0) (due : Bool) (refusal : Option ℤ) (topic : Option ℕ) (p q : Progress) (t : ProduceTopic) (name : List ℕ) (entries : List ProducePartition) (n : ℕ) (out out1 out2 out3 : List ℕ)
+pub topic_told_so : (failed : Type 0) (due : Bool) (limit : Option ℕ) (refusal : Option ℤ) (topic : Option ℕ) (p q : Progress) (t : ProduceTopic) (name : List ℕ) (entries : List ProducePartition) (n : ℕ) (out out1 out2 out3 : List ℕ)
     → name ≡ t.name → entries ≡ t.partitions → n ≡ length t.partitions → topic ≡ named t.name p.world.known.topics
     → out1 ≡ out ++ where_due due (string.written name) → out2 ≡ out1 ++ where_due due ((count w32).written n)
-    → (replies : List ProducePartitionReply) × ((out3 ≡ out2 ++ flat_map (λ x. where_due due (produce_partition_reply.written x)) replies) × AreServed (IsEntryTold failed refusal topic) p entries q replies)
-    → (reply : ProduceTopicReply) × ((out3 ≡ out ++ where_due due (produce_topic_reply.written reply)) × IsTopicTold failed refusal p t q reply)
-topic_told_so failed due refusal topic p q t name entries n out out1 out2 out3 nis eis lis tis first second told =
+    → (replies : List ProducePartitionReply) × ((out3 ≡ out2 ++ flat_map (λ x. where_due due (produce_partition_reply.written x)) replies) × AreServed (IsEntryTold failed limit refusal topic) p entries q replies)
+    → (reply : ProduceTopicReply) × ((out3 ≡ out ++ where_due due (produce_topic_reply.written reply)) × IsTopicTold failed limit refusal p t q reply)
+topic_told_so failed due limit refusal topic p q t name entries n out out1 out2 out3 nis eis lis tis first second told =
     let instance = named t.name p.world.known.topics in
     let replies : List ProducePartitionReply = told.0 in
     let write : ProducePartitionReply → List ℕ = λ x. where_due due (produce_partition_reply.written x) in
-    let told_of : AreServed (IsEntryTold failed refusal instance) p t.partitions q replies =
-    subst (λ es. AreServed (IsEntryTold failed refusal instance) p es q replies) eis (subst (λ i. AreServed (IsEntryTold failed refusal i) p entries q replies) tis told.1.1) in
-    let many : n ≡ length replies = lis ∙ sym (served_length (IsEntryTold failed refusal instance) p q t.partitions replies told_of) in
+    let told_of : AreServed (IsEntryTold failed limit refusal instance) p t.partitions q replies =
+    subst (λ es. AreServed (IsEntryTold failed limit refusal instance) p es q replies) eis (subst (λ i. AreServed (IsEntryTold failed limit refusal i) p entries q replies) tis told.1.1) in
+    let many : n ≡ length replies = lis ∙ sym (served_length (IsEntryTold failed limit refusal instance) p q t.partitions replies told_of) in
     let before : out2 ≡ (out ++ where_due due (string.written t.name)) ++ where_due due ((count w32).written n) =
     second ∙ ap (λ l. l ++ where_due due ((count w32).written n)) (first ∙ ap (λ m. out ++ where_due due (string.written m)) nis) in
     (record { name = t.name; partitions = replies }, (told.1.0 ∙ ap (λ l. l ++ flat_map write replies) before ∙ topic_bytes due t.name n replies out many, (refl, told_of)))
 
 -- the count of the topics, what they were answered, and the throttle time
-pub produce_told_so : (failed : Type 0) (terms : Terms) (request : ProduceRequest) (p q : Progress) (n : ℕ) (out out1 out2 out3 : List ℕ)
+pub produce_told_so : (failed : Type 0) (limit : Option ℕ) (terms : Terms) (request : ProduceRequest) (p q : Progress) (n : ℕ) (out out1 out2 out3 : List ℕ)
     → terms.refusal ≡ refusal_of request.transactional_id request.acks → terms.due ≡ is_due request.acks → n ≡ length request.topics
     → out1 ≡ out ++ where_due terms.due ((count w32).written n)
-    → (replies : List ProduceTopicReply) × ((out2 ≡ out1 ++ flat_map (λ x. where_due terms.due (produce_topic_reply.written x)) replies) × AreServed (IsTopicTold failed terms.refusal) p request.topics q replies)
+    → (replies : List ProduceTopicReply) × ((out2 ≡ out1 ++ flat_map (λ x. where_due terms.due (produce_topic_reply.written x)) replies) × AreServed (IsTopicTold failed limit terms.refusal) p request.topics q replies)
     → out3 ≡ out2 ++ where_due terms.due (int32.written (pos 0))
-    → (reply : ProduceReply) × ((out3 ≡ out ++ reply_bytes request.acks reply) × IsProduceTold failed p request q reply)
-produce_told_so failed terms request p q n out out1 out2 out3 ris dis lis first told last =
+    → (reply : ProduceReply) × ((out3 ≡ out ++ reply_bytes request.acks reply) × IsProduceTold failed limit p request q reply)
+produce_told_so failed limit terms request p q n out out1 out2 out3 ris dis lis first told last =
     let due : Bool = terms.due in
     let replies : List ProduceTopicReply = told.0 in
     let write : ProduceTopicReply → List ℕ = λ x. where_due due (produce_topic_reply.written x) in
-    let told_of : AreServed (IsTopicTold failed (refusal_of request.transactional_id request.acks)) p request.topics q replies = subst (λ r. AreServed (IsTopicTold failed r) p request.topics q replies) ris told.1.1 in
-    let many : n ≡ length replies = lis ∙ sym (served_length (IsTopicTold failed terms.refusal) p q request.topics replies told.1.1) in
+    let told_of : AreServed (IsTopicTold failed limit (refusal_of request.transactional_id request.acks)) p request.topics q replies = subst (λ r. AreServed (IsTopicTold failed limit r) p request.topics q replies) ris told.1.1 in
+    let many : n ≡ length replies = lis ∙ sym (served_length (IsTopicTold failed limit terms.refusal) p q request.topics replies told.1.1) in
     let reply : ProduceReply = record { topics = replies; throttle_time_ms = pos 0 } in (
       reply,
       (
@@ -153,19 +153,19 @@ honest_then a b d P Q p q first second honest agree =
 -- ---- the answer
 
 -- the reply is sent as it stands behind what was begun
-pub acknowledged_by : (failed : Type 0) (id : ℤ) (w : World) (r : ProduceRequest) (v : World) (old new : List TopicPartition) (s t : List ℕ) (answer : Answer) → s ≡ begun id → is_due r.acks ≡ true → old ≡ []
-    → (reply : ProduceReply) × ((t ≡ s ++ reply_bytes r.acks reply) × IsProduceTold failed (progress w old) r (progress v new) reply)
-    → ((id : ℤ) (body : List ℕ) → t ≡ begun id ++ body → IsAnswer id (Replies body) answer) → IsAcknowledged failed id w r v new answer
-acknowledged_by failed id w r v old new s t answer from due none told made =
+pub acknowledged_by : (failed : Type 0) (limit : Option ℕ) (id : ℤ) (w : World) (r : ProduceRequest) (v : World) (old new : List TopicPartition) (s t : List ℕ) (answer : Answer) → s ≡ begun id → is_due r.acks ≡ true → old ≡ []
+    → (reply : ProduceReply) × ((t ≡ s ++ reply_bytes r.acks reply) × IsProduceTold failed limit (progress w old) r (progress v new) reply)
+    → ((id : ℤ) (body : List ℕ) → t ≡ begun id ++ body → IsAnswer id (Replies body) answer) → IsAcknowledged failed limit id w r v new answer
+acknowledged_by failed limit id w r v old new s t answer from due none told made =
     by answer (made id (produce_reply.written reply) (told.1.0 ∙ ap (λ d. s ++ where_due d (produce_reply.written reply)) due ∙ ap (λ b. b ++ produce_reply.written reply) from))
   where
     reply : ProduceReply
     reply = told.0
 
-    so : IsProduceTold failed (progress w []) r (progress v new) reply
-    so = subst (λ places. IsProduceTold failed (progress w places) r (progress v new) reply) none told.1.1
+    so : IsProduceTold failed limit (progress w []) r (progress v new) reply
+    so = subst (λ places. IsProduceTold failed limit (progress w places) r (progress v new) reply) none told.1.1
 
-    by : (x : Answer) → IsAnswer id (Replies (produce_reply.written reply)) x → IsAcknowledged failed id w r v new x
+    by : (x : Answer) → IsAnswer id (Replies (produce_reply.written reply)) x → IsAcknowledged failed limit id w r v new x
     by (answers.Reply bytes) h = (reply, (h.1, so))
     by (answers.Wait deadline keys) h = absurd h
     by answers.NoReply h = absurd h

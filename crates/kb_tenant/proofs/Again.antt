@@ -16,6 +16,7 @@ use Rattle.kb_tenant.specs.OffsetCommit.{committed_all, refusal_of}
 use Rattle.kb_tenant.specs.Serve.{Outcome, of_produce, of_offset_commit, of_delete_records, of_delete_topics, of_init_producer_id, plainly_served}
 use Rattle.kb_topics.specs.WellFormed.{AreNamedApart}
 use Rattle.kb_tenant.specs.Waiting.{HasOwnNames}
+use Rattle.kb_tenant.specs.declared.limits.DataLimits.{DataLimits}
 use Rattle.kb_tenant.specs.declared.node.Node.{Node}
 use Rattle.kb_tenant.proofs.Asked.{Finds, all_found}
 use Rattle.kb_tenant.proofs.ByRequest.{by_request, of_creations}
@@ -72,15 +73,15 @@ pub served_again : (node : Node) (w : World) (clock n : ℕ) (key version : ℤ)
     → fetch_answer (plainly_served node w clock n key version body).world clock r deadline ≡ None → places_of (plainly_served node w clock n key version body).world r ≡ places_of w r
 served_again node w clock n key version body r deadline tied own waits =
     by_request (λ (o : Outcome). fetch_answer o.world clock r deadline ≡ None → places_of o.world r ≡ places_of w r) node w clock n key version body (record {
-      produce = λ q read after. places_back w (of_produce w q).world ((produce_loses w q).before own) clock r deadline after;
+      produce = λ q read after. places_back w (of_produce node.limits.bytes w q).world ((produce_loses node.limits.bytes w q).before own) clock r deadline after;
       fetch = λ q read after. refl;
       list_offsets = λ q read after. refl;
       metadata = λ q read after. refl;
-      offset_commit = λ q read after. untold w (of_offset_commit w q).world (commit_moves w (refusal_of q.group_id q.generation_id) q) tied clock r deadline waits;
+      offset_commit = λ q read after. untold w (of_offset_commit node.limits w q).world (commit_moves node.limits w (refusal_of q.group_id q.generation_id) q) tied clock r deadline waits;
       offset_fetch = λ q read after. refl;
       find_coordinator = λ q read after. refl;
-      create_topics = λ q read. of_creations (λ (o : Outcome). fetch_answer o.world clock r deadline ≡ None → places_of o.world r ≡ places_of w r) version w q (λ reaction after. refl)
-          (λ after. untold w (created_all w (made_of q)).0 (create_moves w (made_of q)) tied clock r deadline waits);
+      create_topics = λ q read. of_creations (λ (o : Outcome). fetch_answer o.world clock r deadline ≡ None → places_of o.world r ≡ places_of w r) node.limits version w q (λ reaction after. refl)
+          (λ after. untold w (created_all node.limits w (made_of q)).0 (create_moves node.limits w (made_of q)) tied clock r deadline waits);
       delete_topics = λ q read after. places_back w (of_delete_topics version w q).world ((delete_loses w q).before own) clock r deadline after;
       delete_records = λ q read after. same_places w (of_delete_records w q).world (records_alike w q).names r;
       init_producer_id = λ q read after. untold w (of_init_producer_id w q).world (init_moves w q) tied clock r deadline waits;
@@ -88,21 +89,21 @@ served_again node w clock n key version body r deadline tied own waits =
     })
 
 -- the same after each commit
-pub committed_again : (w : World) (clock : ℕ) (refusal : Option ℤ) (q : OffsetCommitRequest) (r : FetchRequest) (deadline : ℕ) → IsTied w → HasOwnNames w → fetch_answer w clock r deadline ≡ None
-    → fetch_answer (committed_all w refusal q).0 clock r deadline ≡ None → places_of (committed_all w refusal q).0 r ≡ places_of w r
-committed_again w clock refusal q r deadline tied own waits after = (committed_waits w clock refusal q r deadline tied waits).1
+pub committed_again : (limits : DataLimits) (w : World) (clock : ℕ) (refusal : Option ℤ) (q : OffsetCommitRequest) (r : FetchRequest) (deadline : ℕ) → IsTied w → HasOwnNames w → fetch_answer w clock r deadline ≡ None
+    → fetch_answer (committed_all limits w refusal q).0 clock r deadline ≡ None → places_of (committed_all limits w refusal q).0 r ≡ places_of w r
+committed_again limits w clock refusal q r deadline tied own waits after = (committed_waits limits w clock refusal q r deadline tied waits).1
 
 -- the names of topics stay apart
 pub served_names : (node : Node) (w : World) (clock n : ℕ) (key version : ℤ) (body : List ℕ) → HasOwnNames w → HasOwnNames (plainly_served node w clock n key version body).world
 served_names node w clock n key version body own = by_request (λ (o : Outcome). HasOwnNames o.world) node w clock n key version body (record {
-  produce = λ q read. (produce_loses w q).apart own;
+  produce = λ q read. (produce_loses node.limits.bytes w q).apart own;
   fetch = λ q read. own;
   list_offsets = λ q read. own;
   metadata = λ q read. own;
-  offset_commit = λ q read. commit_names w (refusal_of q.group_id q.generation_id) q own;
+  offset_commit = λ q read. commit_names node.limits w (refusal_of q.group_id q.generation_id) q own;
   offset_fetch = λ q read. own;
   find_coordinator = λ q read. own;
-  create_topics = λ q read. of_creations (λ (o : Outcome). HasOwnNames o.world) version w q (λ reaction. own) (create_apart w (made_of q) own);
+  create_topics = λ q read. of_creations (λ (o : Outcome). HasOwnNames o.world) node.limits version w q (λ reaction. own) (create_apart node.limits w (made_of q) own);
   delete_topics = λ q read. (delete_loses w q).apart own;
   delete_records = λ q read. (records_alike w q).apart own;
   init_producer_id = λ q read. subst AreNamedApart (sym (init_topics w q)) own;

@@ -53,7 +53,7 @@ IsToldOf a b node clock request touched answer =
 -- Each API's function tells what its part of that says; the other parts are of other keys.
 module _ (a b : Scene Seen) (node : Node) (clock : ℕ) (request : Request) (touched : List TopicPartition) where
   pub produce_told : (r : Result Answer ReadFault) → request.api_key ≡ PRODUCE
-      → IfOk r (λ answer. WhereHonest a b (Acknowledges (HasFailed a b) request.correlation_id a.state.world request.body.now
+      → IfOk r (λ answer. WhereHonest a b (Acknowledges (HasFailed a b) node.limits.bytes request.correlation_id a.state.world request.body.now
       b.state.world touched answer))
       → IfOk r (λ answer. IsSpared a.state.world request.body.now b.state.world answer)
       → IfOk r (λ answer. WhereHonest a b (IsToldOf a b node clock request touched answer))
@@ -112,7 +112,7 @@ module _ (a b : Scene Seen) (node : Node) (clock : ℕ) (request : Request) (tou
   list_offsets_told (Err fault) is told same = tt
 
   pub create_topics_told : (r : Result Answer ReadFault) → request.api_key ≡ CREATE_TOPICS
-      → IfOk r (λ answer. WhereHonest a b (AcknowledgesCreations (CreationFailed a b) request.correlation_id request.api_version
+      → IfOk r (λ answer. WhereHonest a b (AcknowledgesCreations (CreationFailed a b) node.limits request.correlation_id request.api_version
       a.state.world request.body.now b.state.world answer))
       → IfOk r (λ answer. WhereHonest a b (IsToldOf a b node clock request touched answer))
   create_topics_told (Ok answer) is told = λ honest agree. record {
@@ -188,7 +188,7 @@ module _ (a b : Scene Seen) (node : Node) (clock : ℕ) (request : Request) (tou
   init_producer_id_told (Err fault) is told = tt
 
   pub offset_commit_told : (r : Result Answer ReadFault) → request.api_key ≡ OFFSET_COMMIT
-      → IfOk r (λ answer. WhereHonest a b (AcknowledgesCommits (CatalogFailed a b) request.correlation_id a.state.world request.body.now
+      → IfOk r (λ answer. WhereHonest a b (AcknowledgesCommits (CatalogFailed a b) node.limits request.correlation_id a.state.world request.body.now
       b.state.world answer))
       → IfOk r (λ answer. WhereHonest a b (IsToldOf a b node clock request touched answer))
   offset_commit_told (Ok answer) is told = λ honest agree. record {

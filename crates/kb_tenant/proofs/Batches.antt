@@ -4,6 +4,7 @@ use Rattle.std.specs.Prelude.{nat_le, int_lt, option_map, if◌then◌else◌}
 use Rattle.std.specs.List.{concat}
 use Rattle.std.proofs.lemmas.Bool.Decides.{nat_tests}
 use Rattle.kb_wire.specs.declared.api_key.TheConstants.{FETCH}
+use Rattle.kb_wire.specs.declared.fault.WireFault.TheVariants as faults
 use Rattle.kb_batch.specs.Batch.{natural}
 use Rattle.kb_log.specs.Log.{base_of, next_of, holds, from_holding, fitting, fetched as fetched_of}
 use Rattle.kb_api_data.specs.declared.fetch.FetchPartition.{FetchPartition}
@@ -17,7 +18,9 @@ use Rattle.kb_tenant_state.specs.Calls.{fetched_from}
 use Rattle.kb_tenant_state.specs.World.{World, log_in, place_in}
 use Rattle.kb_tenant_state.specs.declared.topic_partition.TopicPartition.{TopicPartition}
 use Rattle.kb_tenant.specs.Batches.{BeginAt, GivesBatches, EachAnswered, IsPartitionAnswered, IsTopicAnswered, HasSmallLogs, HoldsBatches, Spells}
+use Rattle.kb_tenant.specs.Entries.{fetch_entries, within as within_limit}
 use Rattle.kb_tenant.specs.Fetch.{Limits, fetch_answered, answered_at, answered_by, answered_topic, asked_fetch, begun, fetch_answer, fetched, has_starts, is_ready, limit_of, deadline_of, fetched_in}
+use Rattle.kb_tenant.specs.Limits.{is_past}
 use Rattle.kb_tenant.specs.Replies.{Replies, Silent}
 use Rattle.kb_tenant.specs.Serve.{plainly_served, looked, looked_at, of_fetch, if_read, fetch_reaction}
 use Rattle.kb_tenant.specs.Turns.{in_turn}
@@ -159,7 +162,12 @@ reaction-holds version w clock r bytes (Some reply) spelled e is = written-holds
 
 pub served-holds : (node : Node) (w : World) (clock n : ℕ) (version : ℤ) (body bytes : List ℕ) (r : FetchRequest) → HasSmallLogs w → asked_fetch version body ≡ Ok r → (plainly_served node w clock n FETCH version body).reaction ≡ Replies bytes → HoldsBatches version w r bytes
 unfolding plainly_served
-served-holds node w clock n version body bytes r small read replies = reaction-holds version w clock r bytes (fetch_answer w clock r (deadline_of clock r)) (reply_spelled w (has_starts version) body r small read) refl (sym (ap (λ x. (if_read w x (of_fetch version w clock)).reaction) read) ∙ replies)
+served-holds node w clock n version body bytes r small read replies =
+    by (is_past node.limits.request_entries (fetch_entries r)) (sym (ap (λ x. (if_read w (within_limit node.limits.request_entries fetch_entries x) (of_fetch version w clock)).reaction) read) ∙ replies)
+  where
+    by : (b : Bool) → (if_read w (if b then Err faults.Bad else Ok r) (of_fetch version w clock)).reaction ≡ Replies bytes → HoldsBatches version w r bytes
+    by true is = absurd cc
+    by false is = reaction-holds version w clock r bytes (fetch_answer w clock r (deadline_of clock r)) (reply_spelled w (has_starts version) body r small read) refl is
 
 look-holds : (version : ℤ) (w : World) (clock deadline : ℕ) (r : FetchRequest) (bytes : List ℕ) (answer : Option FetchReplyV5) → Spelled version w r → fetch_answer w clock r deadline ≡ answer → (elim answer [ Some reply ↦ Replies (fetched_in version reply) | None ↦ Silent ]) ≡ Replies bytes → HoldsBatches version w r bytes
 look-holds version w clock deadline r bytes None spelled e is = absurd (cc)

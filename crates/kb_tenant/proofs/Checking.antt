@@ -2,13 +2,14 @@
 use Rattle.std.proofs.Common.{◌≡◌, ◌∙◌, ℕ, ℤ, ◌+◌, ◌-◌, ◌<◌, ◌≤◌, ◌^◌, Bool, true, false, cond, List, [], ◌∷◌, ◌++◌, length, Option, Some, None, refl, sym, subst, ap, append_assoc, arith}
 use Rattle.std.specs.Prelude.{pos, negsuc, ⊤, codes, is_some, nat_le, nat_lt, not, unwrap_or, ◌&&◌, if◌then◌else◌, Err}
 use Rattle.std.specs.Option.{option_and_then}
-use Rattle.std.specs.List.{count_by}
+use Rattle.std.specs.List.{count_by, sum_by}
 use Rattle.std.specs.Ordering.{int_eq, nat_cmp, match_ordering, is_eq}
 use Rattle.std.specs.declared.cmp.Ordering.{Ordering}
 use Rattle.std.specs.declared.cmp.Ordering.TheVariants.{Less, Equal, Greater}
 use Rattle.std.specs.BTreeMap.{insert_entry}
 use Rattle.std.specs.Str.{bytes_eq}
 use Rattle.std.specs.Str.Parse.{digits_value}
+use Rattle.std.proofs.lemmas.List.{length-replicate}
 use Rattle.std.proofs.lemmas.List.Sums.{sum_by-append, sum_by-cons}
 use Rattle.std.proofs.lemmas.Slice.Eq.{bytes_eq-Decides}
 use Rattle.kb_batch.specs.Batch.{natural}
@@ -20,7 +21,7 @@ use Rattle.kb_api_data.specs.declared.create_topics.CreateTopic.{CreateTopic}
 use Rattle.kb_api_data.specs.declared.create_topics.CreateTopicsRequest.{CreateTopicsRequest}
 use Rattle.kb_api_data.specs.declared.create_topics.CreateTopicReply.{CreateTopicReply}
 use Rattle.kb_topics.specs.Config.{is_numeral, limit_in, number_in}
-use Rattle.kb_topics.specs.Known.{TopicState, is_limit, is_partition_count, named, new_topic, topic_at}
+use Rattle.kb_topics.specs.Known.{TopicState, is_limit, is_partition_count, named, new_partition, new_topic, topic_at, with_topic}
 use Rattle.kb_topics.specs.Name.{is_legal}
 use Rattle.kb_topics.specs.Refusals.{create_refusal}
 use Rattle.kb_topics.specs.declared.config.TopicConfig.{TopicConfig}
@@ -29,8 +30,13 @@ use Rattle.kb_topics.specs.declared.fault.CatalogFault.TheVariants as faults
 use Rattle.kb_tenant_state.specs.Calls.{created_unless}
 use Rattle.kb_tenant_state.specs.Tied.{IsTied}
 use Rattle.kb_tenant_state.specs.World.{World}
-use Rattle.kb_tenant.specs.CreateTopics.{checked_all, checked_topic, checked_unless, checked_with, code_in}
-use Rattle.kb_tenant.specs.CreateTopics.{created_all, created_topic, made_unless, made_with, refusal, stands_twice}
+use Rattle.kb_tenant.specs.CreateTopics.{checked_all, checked_topic, checked_unless, checked_unless_full, checked_with, code_in}
+use Rattle.kb_tenant.specs.CreateTopics.{created_all, created_topic, made_unless, made_unless_full, made_with, refusal, stands_twice}
+use Rattle.kb_tenant.specs.CreateTopics.{is_too_much, room_behind, room_in}
+use Rattle.kb_tenant.specs.Limits.{left_of}
+use Rattle.kb_tenant_state.specs.Stored.{partitions_in}
+use Rattle.kb_tenant.specs.declared.create_topics.room.Room.{Room}
+use Rattle.kb_tenant.specs.declared.limits.DataLimits.{DataLimits}
 use Rattle.kb_tenant.specs.Settings.{are_allowed, entry_named, limit_named, settings_in, settings_of}
 use Rattle.kb_tenant.specs.Turns.{in_turn}
 use Rattle.kb_tenant.proofs.Entries.{insert_other}
@@ -99,15 +105,15 @@ abbrev HasNext : World → Type 0
 HasNext w = (i : ℕ) → w.known.creates ≤ i → topic_at i w.known.topics ≡ None
 
 -- What is foretold of a topic of that name is what making it comes to, and no other name is given by it.
-record Foretells (v : World) (name : List ℕ) (r : ℕ × ℤ) (m : World × ℤ) : Type 0 where
-  pub count : r.0 ≡ length m.0.known.topics
+record Foretells (limits : DataLimits) (v : World) (name : List ℕ) (r : Room × ℤ) (m : World × ℤ) : Type 0 where
+  pub room : HasNext v → r.0 ≡ room_in limits m.0.known
   pub code : r.1 ≡ m.1
   pub creates : m.0.known.creates ≤ v.known.creates + 1
   pub next : HasNext v → HasNext m.0
   pub names : HasNext v → (other : List ℕ) → bytes_eq other name ≡ false → named other m.0.known.topics ≡ named other v.known.topics
 
-nothing_made : (v : World) (name : List ℕ) (code : ℤ) → Foretells v name (length v.known.topics, code) (v, code)
-nothing_made v name code = record { count = refl; code = refl; creates = omega arith; next = λ h. h; names = λ h other apart. refl }
+nothing_made : (limits : DataLimits) (v : World) (name : List ℕ) (code : ℤ) → Foretells limits v name (room_in limits v.known, code) (v, code)
+nothing_made limits v name code = record { room = λ h. refl; code = refl; creates = omega arith; next = λ h. h; names = λ h other apart. refl }
 
 length_inserted : (ts : List (ℕ × TopicState)) (n : ℕ) (t : TopicState) → topic_at n ts ≡ None → length (insert_entry nat_cmp ts n t) ≡ length ts + 1
 length_inserted [] n t none = refl
@@ -118,6 +124,20 @@ length_inserted (e ∷ ts) n t none = by (nat_cmp n e.0) none (length_inserted t
     by Less gone rest = omega arith
     by Equal gone rest = absurd cc
     by Greater gone rest = let h = rest gone in omega (arith, h)
+
+sum_inserted : (size : ℕ × TopicState → ℕ) (ts : List (ℕ × TopicState)) (n : ℕ) (t : TopicState) → topic_at n ts ≡ None → sum_by size (insert_entry nat_cmp ts n t) ≡ sum_by size ts + size (n, t)
+sum_inserted size [] n t none = let one = sum_by-cons size (n, t) [] in omega (arith, one)
+sum_inserted size (e ∷ ts) n t none = by (nat_cmp n e.0) none (sum_inserted size ts n t)
+  where
+    by : (o : Ordering) → cond (is_eq o) (Some e.1) (topic_at n ts) ≡ None → (topic_at n ts ≡ None → sum_by size (insert_entry nat_cmp ts n t) ≡ sum_by size ts + size (n, t))
+        → sum_by size (match_ordering {X = List (ℕ × TopicState)} o ((n, t) ∷ e ∷ ts) ((e.0, t) ∷ ts) (e ∷ insert_entry nat_cmp ts n t)) ≡ sum_by size (e ∷ ts) + size (n, t)
+    by Less gone rest = let one = sum_by-cons size (n, t) (e ∷ ts) in omega (arith, one)
+    by Equal gone rest = absurd cc
+    by Greater gone rest =
+        let h = rest gone in
+        let new = sum_by-cons size e (insert_entry nat_cmp ts n t) in
+        let old = sum_by-cons size e ts in
+        omega (arith, h, new, old)
 
 -- what is left of the chain of refusals where none holds
 passed : (twice legal there count replica brokers : Bool)
@@ -142,36 +162,57 @@ room_alone v t twice config none limits left =
     let early : nat_le (2 ^ 63 - 1) v.known.creates ≡ false = grind (arith, left) in
     rw (p.0, p.1, p.2, limits, early) refl
 
-one_more : (v : World) (name : List ℕ) (partitions : ℤ) (config : TopicConfig) → HasNext v
-    → let m = created_unless v name partitions config None in Foretells v name (length v.known.topics + 1, code_of codes_of.None) (m.0, code_in m.1)
-one_more v name partitions config next =
+-- the partitions of one topic more are counted
+more_partitions : (v : World) (name : List ℕ) (count : ℕ) (config : TopicConfig) → HasNext v
+    → partitions_in (with_topic v.known (new_topic name count config)) ≡ partitions_in v.known + count
+more_partitions v name count config next =
+    let t : TopicState = new_topic name count config in
+    sum_inserted (λ (s : ℕ × TopicState). length s.1.partitions) v.known.topics v.known.creates t (next v.known.creates (omega arith))
+    ∙ ap (λ n. partitions_in v.known + n) (length-replicate count new_partition)
+
+left_twice : (o : Option ℕ) (a b n : ℕ) → n ≡ a + b → left_of (left_of o a) b ≡ left_of o n
+left_twice None a b n is = refl
+left_twice (Some limit) a b n is = ap Some (let e : (limit - a) - b ≡ limit - n = omega (arith, is) in e)
+
+one_more : (limits : DataLimits) (v : World) (name : List ℕ) (partitions : ℤ) (config : TopicConfig) → HasNext v
+    → let m = created_unless v name partitions config None in Foretells limits v name (room_behind (room_in limits v.known) partitions, code_of codes_of.None) (m.0, code_in m.1)
+one_more limits v name partitions config next =
     let t : TopicState = new_topic name (natural partitions) config in
     let k = v.known.creates in
     record {
-      count = sym (length_inserted v.known.topics k t (next k (omega arith)));
+      room = λ h. ap (λ n. let r : Room = record { topics = n; partitions = left_of (left_of limits.partitions (partitions_in v.known)) (natural partitions) } in r) (sym (length_inserted v.known.topics k t (next k (omega arith))))
+          ∙ ap (λ o. let r : Room = record { topics = length (with_topic v.known t).topics; partitions = o } in r)
+          (left_twice limits.partitions (partitions_in v.known) (natural partitions) (partitions_in (with_topic v.known t)) (more_partitions v name (natural partitions) config next));
       code = refl;
       creates = omega arith;
       next = λ h i le. insert_other v.known.topics k i t (λ same. omega (arith, same, le)) ∙ h i (omega (arith, le));
       names = λ h other apart. named_inserted v.known.topics k t other (h k (omega arith)) apart;
     }
 
-foretold_with : (v : World) (t : CreateTopic) (twice : Bool) (o : Option TopicConfig) → settings_in t.configs ≡ o → refusal twice (is_some (named t.name v.known.topics)) t ≡ None
-    → HasNext v → v.known.creates < 2 ^ 63 - 1 → Foretells v t.name (checked_with (length v.known.topics) o) (made_with v t o)
-foretold_with v t twice None is none next left = nothing_made v t.name (code_of codes_of.InvalidConfig)
-foretold_with v t twice (Some config) is none next left =
+-- a topic that the tenant may not have, or may
+foretold_by : (limits : DataLimits) (v : World) (t : CreateTopic) (twice : Bool) (config : TopicConfig) (full : Bool) → settings_in t.configs ≡ Some config → refusal twice (is_some (named t.name v.known.topics)) t ≡ None
+    → HasNext v → v.known.creates < 2 ^ 63 - 1 → Foretells limits v t.name (checked_unless_full full (room_in limits v.known) t) (made_unless_full full v t config)
+foretold_by limits v t twice config true is none next left = nothing_made limits v t.name (code_of codes_of.PolicyViolation)
+foretold_by limits v t twice config false is none next left =
     let refused = room_alone v t twice config none (settings_limits t.configs config is) left in
-    subst (λ (o : Option CatalogFault). let m = created_unless v t.name t.num_partitions config o in Foretells v t.name (checked_with (length v.known.topics) (Some config)) (m.0, code_in m.1)) (sym refused)
+    subst (λ (o : Option CatalogFault). let m = created_unless v t.name t.num_partitions config o in Foretells limits v t.name (checked_unless_full false (room_in limits v.known) t) (m.0, code_in m.1)) (sym refused)
     (by (nat_le 1000 (length v.known.topics)))
   where
     by : (b : Bool) → let m = created_unless v t.name t.num_partitions config (if b then Some faults.TooMany else None) in
-        Foretells v t.name (if b then (length v.known.topics, code_in (Err faults.TooMany)) else (length v.known.topics + 1, code_of codes_of.None)) (m.0, code_in m.1)
-    by true = nothing_made v t.name (code_in (Err faults.TooMany))
-    by false = one_more v t.name t.num_partitions config next
+        Foretells limits v t.name (if b then (room_in limits v.known, code_in (Err faults.TooMany)) else (room_behind (room_in limits v.known) t.num_partitions, code_of codes_of.None)) (m.0, code_in m.1)
+    by true = nothing_made limits v t.name (code_in (Err faults.TooMany))
+    by false = one_more limits v t.name t.num_partitions config next
 
-foretold : (v : World) (t : CreateTopic) (twice : Bool) (o : Option ErrorCode) → refusal twice (is_some (named t.name v.known.topics)) t ≡ o
-    → HasNext v → v.known.creates < 2 ^ 63 - 1 → Foretells v t.name (checked_unless (length v.known.topics) t o) (made_unless v t o)
-foretold v t twice (Some e) is next left = nothing_made v t.name (code_of e)
-foretold v t twice None is next left = foretold_with v t twice (settings_in t.configs) refl is next left
+foretold_with : (limits : DataLimits) (v : World) (t : CreateTopic) (twice : Bool) (o : Option TopicConfig) → settings_in t.configs ≡ o → refusal twice (is_some (named t.name v.known.topics)) t ≡ None
+    → HasNext v → v.known.creates < 2 ^ 63 - 1 → Foretells limits v t.name (checked_with limits (room_in limits v.known) t o) (made_with limits v t o)
+foretold_with limits v t twice None is none next left = nothing_made limits v t.name (code_of codes_of.InvalidConfig)
+foretold_with limits v t twice (Some config) is none next left =
+    foretold_by limits v t twice config (is_too_much limits (room_in limits v.known) t.num_partitions) is none next left
+
+foretold : (limits : DataLimits) (v : World) (t : CreateTopic) (twice : Bool) (o : Option ErrorCode) → refusal twice (is_some (named t.name v.known.topics)) t ≡ o
+    → HasNext v → v.known.creates < 2 ^ 63 - 1 → Foretells limits v t.name (checked_unless limits (room_in limits v.known) t o) (made_unless limits v t o)
+foretold limits v t twice (Some e) is next left = nothing_made limits v t.name (code_of e)
+foretold limits v t twice None is next left = foretold_with limits v t twice (settings_in t.configs) refl is next left
 
 -- ---- the entries of a request
 
@@ -222,29 +263,29 @@ refusal_same w v ts done es t split follows = by (stands_twice t.name ts) refl
     by true is = refl
     by false is = ap (λ b. refusal false b t) (sym (follows.names t.name (not_before ts done es t split is)))
 
-follows_more : (w v : World) (done : List CreateTopic) (t : CreateTopic) (r : ℕ × ℤ) (m : World × ℤ) → Follows w v done → Foretells v t.name r m → Follows w m.0 (done ++ t ∷ [])
-follows_more w v done t r m follows f = record {
+follows_more : (limits : DataLimits) (w v : World) (done : List CreateTopic) (t : CreateTopic) (r : Room × ℤ) (m : World × ℤ) → Follows w v done → Foretells limits v t.name r m → Follows w m.0 (done ++ t ∷ [])
+follows_more limits w v done t r m follows f = record {
   next = f.next follows.next;
   names = λ name none. let h = not_among name done t none in ap is_some (f.names follows.next name h.1) ∙ follows.names name h.0;
 }
 
-all_foretold : (w v : World) (ts done es : List CreateTopic) → ts ≡ done ++ es → Follows w v done → v.known.creates + length es < 2 ^ 63
-    → (in_turn (checked_topic ts w) (length v.known.topics) es).1 ≡ (in_turn (created_topic ts) v es).1
-all_foretold w v ts done [] split follows left = refl
-all_foretold w v ts done (t ∷ es) split follows left =
+all_foretold : (limits : DataLimits) (w v : World) (ts done es : List CreateTopic) → ts ≡ done ++ es → Follows w v done → v.known.creates + length es < 2 ^ 63
+    → (in_turn (checked_topic limits ts w) (room_in limits v.known) es).1 ≡ (in_turn (created_topic limits ts) v es).1
+all_foretold limits w v ts done [] split follows left = refl
+all_foretold limits w v ts done (t ∷ es) split follows left =
     let twice = stands_twice t.name ts in
-    let count = length v.known.topics in
+    let room : Room = room_in limits v.known in
     let ref : Option ErrorCode = refusal twice (is_some (named t.name v.known.topics)) t in
-    let f = foretold v t twice ref refl follows.next (omega (arith, left)) in
-    let m : World × ℤ = made_unless v t ref in
-    let r : ℕ × ℤ = checked_unless count t ref in
+    let f = foretold limits v t twice ref refl follows.next (omega (arith, left)) in
+    let m : World × ℤ = made_unless limits v t ref in
+    let r : Room × ℤ = checked_unless limits room t ref in
     let answer = λ (code : ℤ). let x : CreateTopicReply = record { name = t.name; error_code = code } in x in
-    let rest = λ (n : ℕ). (in_turn (checked_topic ts w) n es).1 in
-    let later : rest (length m.0.known.topics) ≡ (in_turn (created_topic ts) m.0 es).1 =
-    all_foretold w m.0 ts (done ++ t ∷ []) es (split ∙ sym (append_assoc done (t ∷ []) es)) (follows_more w v done t r m follows f) (let c = f.creates in omega (arith, left, c)) in
-    ap (λ (o : Option ErrorCode). answer (checked_unless count t o).1 ∷ rest (checked_unless count t o).0) (refusal_same w v ts done es t split follows)
-    ∙ ap (λ z. answer z ∷ rest r.0) f.code ∙ ap (λ n. answer m.1 ∷ rest n) f.count ∙ ap (λ l. answer m.1 ∷ l) later
+    let rest = λ (n : Room). (in_turn (checked_topic limits ts w) n es).1 in
+    let later : rest (room_in limits m.0.known) ≡ (in_turn (created_topic limits ts) m.0 es).1 =
+    all_foretold limits w m.0 ts (done ++ t ∷ []) es (split ∙ sym (append_assoc done (t ∷ []) es)) (follows_more limits w v done t r m follows f) (let c = f.creates in omega (arith, left, c)) in
+    ap (λ (o : Option ErrorCode). answer (checked_unless limits room t o).1 ∷ rest (checked_unless limits room t o).0) (refusal_same w v ts done es t split follows)
+    ∙ ap (λ z. answer z ∷ rest r.0) f.code ∙ ap (λ n. answer m.1 ∷ rest n) (f.room follows.next) ∙ ap (λ l. answer m.1 ∷ l) later
 
-pub checks_foretell : (w : World) (q : CreateTopicsRequest) → IsTied w → w.known.creates + length q.topics < 2 ^ 63 → checked_all w q.topics ≡ (created_all w q).1
-checks_foretell w q tied left =
-    ap (λ l. record { topics = l }) (all_foretold w w q.topics [] q.topics refl (record { next = tied.next; names = λ name none. refl }) left)
+pub checks_foretell : (limits : DataLimits) (w : World) (q : CreateTopicsRequest) → IsTied w → w.known.creates + length q.topics < 2 ^ 63 → checked_all limits w q.topics ≡ (created_all limits w q).1
+checks_foretell limits w q tied left =
+    ap (λ l. record { topics = l }) (all_foretold limits w w q.topics [] q.topics refl (record { next = tied.next; names = λ name none. refl }) left)

@@ -1,5 +1,5 @@
 -- OffsetCommit tells no place, touches no log and no name.
-use Rattle.std.proofs.Common.{◌≡◌, ◌∙◌, ◌≤◌, ℕ, ℤ, List, [], ◌∷◌, length, Option, Some, None, refl, sym, subst, ap}
+use Rattle.std.proofs.Common.{◌≡◌, ◌∙◌, ◌≤◌, ℕ, ℤ, Bool, true, false, List, [], ◌∷◌, length, Option, Some, None, refl, sym, subst, ap}
 use Rattle.kb_api_group.specs.declared.offset_commit.CommitPartition.{CommitPartition}
 use Rattle.kb_api_group.specs.declared.offset_commit.CommitTopic.{CommitTopic}
 use Rattle.kb_api_group.specs.declared.offset_commit.OffsetCommitRequest.{OffsetCommitRequest}
@@ -11,9 +11,10 @@ use Rattle.kb_tenant_state.specs.Logs.{log_at}
 use Rattle.kb_tenant_state.specs.Tied.{IsTied, counted}
 use Rattle.kb_tenant_state.specs.World.{World, place_in}
 use Rattle.kb_tenant_state.specs.declared.topic_partition.TopicPartition.{TopicPartition}
-use Rattle.kb_tenant.specs.OffsetCommit.{committed_all, committed_at, committed_entry, committed_topic, metadata_in}
+use Rattle.kb_tenant.specs.OffsetCommit.{committed_all, committed_at, committed_entry, committed_topic, committed_unless_full, is_one_too_many, metadata_in}
 use Rattle.kb_tenant.specs.Turns.{in_turn}
 use Rattle.kb_tenant.specs.Waiting.{HasOwnNames}
+use Rattle.kb_tenant.specs.declared.limits.DataLimits.{DataLimits}
 use Rattle.kb_tenant.proofs.Moves.{Moves}
 use Rattle.kb_tenant.proofs.RetainMoves.{IsAlike, alike_same, put_alike}
 
@@ -53,23 +54,28 @@ unless_commits : (w : World) (place : TopicPartition) (group : List ℕ) (c : Co
 unless_commits w place group c (Some f) = commits_none w
 unless_commits w place group c None = put_commits w place group c (known_at w.known place)
 
-at_commits : (w : World) (o : Option TopicPartition) (group : List ℕ) (e : CommitPartition) → Commits w (committed_at w o group e).0
-at_commits w None group e = commits_none w
-at_commits w (Some place) group e =
+full_commits : (full : Bool) (w : World) (place : TopicPartition) (group : List ℕ) (offset : ℤ) (metadata : List ℕ) → Commits w (committed_unless_full full w place group offset metadata).0
+full_commits true w place group offset metadata = commits_none w
+full_commits false w place group offset metadata =
+    unless_commits w place group (record { offset = offset; metadata = metadata }) (commit_refusal metadata (known_at w.known place))
+
+at_commits : (limits : DataLimits) (w : World) (o : Option TopicPartition) (group : List ℕ) (e : CommitPartition) → Commits w (committed_at limits w o group e).0
+at_commits limits w None group e = commits_none w
+at_commits limits w (Some place) group e =
     let metadata = metadata_in e.metadata in
-    unless_commits w place group (record { offset = e.offset; metadata = metadata }) (commit_refusal metadata (known_at w.known place))
+    full_commits (is_one_too_many limits w place group metadata) w place group e.offset metadata
 
-entry_commits : (refusal : Option ℤ) (group : List ℕ) (topic : Option ℕ) (w : World) (e : CommitPartition) → Commits w (committed_entry refusal group topic w e).0
-entry_commits (Some code) group topic w e = commits_none w
-entry_commits None group topic w e = at_commits w (place_in topic e.partition) group e
+entry_commits : (limits : DataLimits) (refusal : Option ℤ) (group : List ℕ) (topic : Option ℕ) (w : World) (e : CommitPartition) → Commits w (committed_entry limits refusal group topic w e).0
+entry_commits limits (Some code) group topic w e = commits_none w
+entry_commits limits None group topic w e = at_commits limits w (place_in topic e.partition) group e
 
-topic_commits : (refusal : Option ℤ) (group : List ℕ) (w : World) (t : CommitTopic) → Commits w (committed_topic refusal group w t).0
-topic_commits refusal group w t =
+topic_commits : (limits : DataLimits) (refusal : Option ℤ) (group : List ℕ) (w : World) (t : CommitTopic) → Commits w (committed_topic limits refusal group w t).0
+topic_commits limits refusal group w t =
     let topic = named t.name w.known.topics in
-    turns_commit (committed_entry refusal group topic) (entry_commits refusal group topic) w t.partitions
+    turns_commit (committed_entry limits refusal group topic) (entry_commits limits refusal group topic) w t.partitions
 
-all_commits : (w : World) (refusal : Option ℤ) (r : OffsetCommitRequest) → Commits w (committed_all w refusal r).0
-all_commits w refusal r = turns_commit (committed_topic refusal r.group_id) (topic_commits refusal r.group_id) w r.topics
+all_commits : (limits : DataLimits) (w : World) (refusal : Option ℤ) (r : OffsetCommitRequest) → Commits w (committed_all limits w refusal r).0
+all_commits limits w refusal r = turns_commit (committed_topic limits refusal r.group_id) (topic_commits limits refusal r.group_id) w r.topics
 
 -- ---- the laws
 
@@ -86,14 +92,14 @@ moves_by w v c = record {
   };
 }
 
-pub commit_moves : (w : World) (refusal : Option ℤ) (r : OffsetCommitRequest) → Moves [] [] w (committed_all w refusal r).0
-commit_moves w refusal r = moves_by w (committed_all w refusal r).0 (all_commits w refusal r)
+pub commit_moves : (limits : DataLimits) (w : World) (refusal : Option ℤ) (r : OffsetCommitRequest) → Moves [] [] w (committed_all limits w refusal r).0
+commit_moves limits w refusal r = moves_by w (committed_all limits w refusal r).0 (all_commits limits w refusal r)
 
-pub commit_tied : (w : World) (refusal : Option ℤ) (r : OffsetCommitRequest) → IsTied w → IsTied (committed_all w refusal r).0
-commit_tied w refusal r = (commit_moves w refusal r).tied
+pub commit_tied : (limits : DataLimits) (w : World) (refusal : Option ℤ) (r : OffsetCommitRequest) → IsTied w → IsTied (committed_all limits w refusal r).0
+commit_tied limits w refusal r = (commit_moves limits w refusal r).tied
 
-pub commit_names : (w : World) (refusal : Option ℤ) (r : OffsetCommitRequest) → HasOwnNames w → HasOwnNames (committed_all w refusal r).0
-commit_names w refusal r = (all_commits w refusal r).alike.apart
+pub commit_names : (limits : DataLimits) (w : World) (refusal : Option ℤ) (r : OffsetCommitRequest) → HasOwnNames w → HasOwnNames (committed_all limits w refusal r).0
+commit_names limits w refusal r = (all_commits limits w refusal r).alike.apart
 
-pub commit_logs : (w : World) (refusal : Option ℤ) (r : OffsetCommitRequest) → (committed_all w refusal r).0.logs ≡ w.logs
-commit_logs w refusal r = (all_commits w refusal r).logs
+pub commit_logs : (limits : DataLimits) (w : World) (refusal : Option ℤ) (r : OffsetCommitRequest) → (committed_all limits w refusal r).0.logs ≡ w.logs
+commit_logs limits w refusal r = (all_commits limits w refusal r).logs

@@ -21,8 +21,9 @@ use Rattle.kb_tenant_state.specs.Calls.{created_unless}
 use Rattle.kb_tenant_state.specs.Tied.{IsTied, counted, partition_count}
 use Rattle.kb_tenant_state.specs.World.{World}
 use Rattle.kb_tenant_state.specs.declared.topic_partition.TopicPartition.{TopicPartition}
-use Rattle.kb_tenant.specs.CreateTopics.{created_all, created_topic, made_unless, made_with, refusal, stands_twice}
+use Rattle.kb_tenant.specs.CreateTopics.{created_all, created_topic, made_unless, made_unless_full, made_with, is_too_much, refusal, room_in, stands_twice}
 use Rattle.kb_tenant.specs.Settings.{settings_in}
+use Rattle.kb_tenant.specs.declared.limits.DataLimits.{DataLimits}
 use Rattle.kb_tenant.proofs.Asked.{IsHeld}
 use Rattle.kb_tenant.proofs.Entries.{counted_inserted, insert_other}
 use Rattle.kb_tenant.proofs.Moves.{Moves, stays_same, turns_move}
@@ -76,15 +77,19 @@ create_moves_by : (w : World) (name : List ℕ) (partitions : ℤ) (config : Top
 create_moves_by w name partitions config (Some f) e = stays_same w []
 create_moves_by w name partitions config None e = one_more_moves w name (natural partitions) config (unnamed w.known name partitions config e)
 
-settled_moves : (w : World) (t : CreateTopic) (o : Option TopicConfig) → Moves [] [] w (made_with w t o).0
-settled_moves w t None = stays_same w []
-settled_moves w t (Some config) = create_moves_by w t.name t.num_partitions config (create_refusal w.known t.name t.num_partitions config) refl
+full_moves : (w : World) (t : CreateTopic) (config : TopicConfig) (full : Bool) → Moves [] [] w (made_unless_full full w t config).0
+full_moves w t config true = stays_same w []
+full_moves w t config false = create_moves_by w t.name t.num_partitions config (create_refusal w.known t.name t.num_partitions config) refl
 
-made_moves : (w : World) (t : CreateTopic) (o : Option ErrorCode) → Moves [] [] w (made_unless w t o).0
-made_moves w t (Some e) = stays_same w []
-made_moves w t None = settled_moves w t (settings_in t.configs)
+settled_moves : (limits : DataLimits) (w : World) (t : CreateTopic) (o : Option TopicConfig) → Moves [] [] w (made_with limits w t o).0
+settled_moves limits w t None = stays_same w []
+settled_moves limits w t (Some config) = full_moves w t config (is_too_much limits (room_in limits w.known) t.num_partitions)
 
-pub create_moves : (w : World) (r : CreateTopicsRequest) → Moves [] [] w (created_all w r).0
-create_moves w r =
-    turns_move (λ (s : World). s) (λ (s : World). []) (created_topic r.topics)
-    (λ s t. made_moves s t (refusal (stands_twice t.name r.topics) (is_some (named t.name s.known.topics)) t)) w r.topics
+made_moves : (limits : DataLimits) (w : World) (t : CreateTopic) (o : Option ErrorCode) → Moves [] [] w (made_unless limits w t o).0
+made_moves limits w t (Some e) = stays_same w []
+made_moves limits w t None = settled_moves limits w t (settings_in t.configs)
+
+pub create_moves : (limits : DataLimits) (w : World) (r : CreateTopicsRequest) → Moves [] [] w (created_all limits w r).0
+create_moves limits w r =
+    turns_move (λ (s : World). s) (λ (s : World). []) (created_topic limits r.topics)
+    (λ s t. made_moves limits s t (refusal (stands_twice t.name r.topics) (is_some (named t.name s.known.topics)) t)) w r.topics

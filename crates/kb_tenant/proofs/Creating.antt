@@ -20,7 +20,9 @@ use Rattle.kb_topics.specs.Known.{named}
 use Rattle.kb_topics.specs.declared.config.TopicConfig.{TopicConfig}
 use Rattle.kb_topics.specs.declared.fault.CatalogFault.{CatalogFault}
 use Rattle.kb_tenant_state.specs.Calls.{create}
-use Rattle.kb_tenant.specs.CreateTopics.{stands_twice, code_in, refusal, made, made_unless, made_with}
+use Rattle.kb_tenant.specs.CreateTopics.{stands_twice, code_in, refusal, is_too_much, made, made_unless, made_unless_full, made_with, room_in}
+use Rattle.kb_tenant.specs.declared.create_topics.room.Room.{Room}
+use Rattle.kb_tenant.specs.declared.limits.DataLimits.{DataLimits}
 use Rattle.kb_tenant.specs.CreateTopics.{created_topic, checked_topic, checked_unless, creation_in, creations_in, reply_v1, topic_reply_v1}
 use Rattle.kb_tenant.specs.Settings.{settings_in}
 use Rattle.kb_tenant.specs.Turns.{in_turn, written_behind}
@@ -28,36 +30,42 @@ use Rattle.kb_tenant_state.specs.World.{World}
 use Rattle.kb_tenant.proofs.Turning.{turn_length, turn_next, turn_over}
 
 -- where its test says so
-tested : (w : World) (t : CreateTopic) (twice there : Bool) (r : Option ErrorCode) → there ≡ is_some (named t.name w.known.topics) → r ≡ refusal twice there t → made_unless w t r ≡ made twice w t
-tested w t twice there r at is = ap (made_unless w t) (is ∙ ap (λ b. refusal twice b t) at)
+tested : (limits : DataLimits) (w : World) (t : CreateTopic) (twice there : Bool) (r : Option ErrorCode) → there ≡ is_some (named t.name w.known.topics) → r ≡ refusal twice there t → made_unless limits w t r ≡ made limits twice w t
+tested limits w t twice there r at is = ap (made_unless limits w t) (is ∙ ap (λ b. refusal twice b t) at)
 
-pub made_refused : (w : World) (t : CreateTopic) (twice there : Bool) (e : ErrorCode) (code : ℤ) → there ≡ is_some (named t.name w.known.topics) → Some e ≡ refusal twice there t → code ≡ code_of e → (w, code) ≡ made twice w t
-made_refused w t twice there e code at is here = ap (λ z. (w, z)) here ∙ tested w t twice there (Some e) at is
+pub made_refused : (limits : DataLimits) (w : World) (t : CreateTopic) (twice there : Bool) (e : ErrorCode) (code : ℤ) → there ≡ is_some (named t.name w.known.topics) → Some e ≡ refusal twice there t → code ≡ code_of e → (w, code) ≡ made limits twice w t
+made_refused limits w t twice there e code at is here = ap (λ z. (w, z)) here ∙ tested limits w t twice there (Some e) at is
 
-pub made_unset : (w : World) (t : CreateTopic) (twice there : Bool) (code : ℤ) → there ≡ is_some (named t.name w.known.topics) → None ≡ refusal twice there t → None ≡ settings_in t.configs → code ≡ code_of codes.InvalidConfig → (w, code) ≡ made twice w t
-made_unset w t twice there code at is none here = ap (λ z. (w, z)) here ∙ ap (made_with w t) none ∙ tested w t twice there None at is
+pub made_unset : (limits : DataLimits) (w : World) (t : CreateTopic) (twice there : Bool) (code : ℤ) → there ≡ is_some (named t.name w.known.topics) → None ≡ refusal twice there t → None ≡ settings_in t.configs → code ≡ code_of codes.InvalidConfig → (w, code) ≡ made limits twice w t
+made_unset limits w t twice there code at is none here = ap (λ z. (w, z)) here ∙ ap (made_with limits w t) none ∙ tested limits w t twice there None at is
 
-pub made_set : (w v : World) (t : CreateTopic) (twice there : Bool) (name : List ℕ) (partitions : ℤ) (config : TopicConfig) (r : Result (Unit {0}) CatalogFault) (code : ℤ) → there ≡ is_some (named t.name w.known.topics) → None ≡ refusal twice there t → Some config ≡ settings_in t.configs
-    → name ≡ t.name → partitions ≡ t.num_partitions → (v, r) ≡ create w name partitions config → code ≡ code_in r → (v, code) ≡ made twice w t
-made_set w v t twice there name partitions config r code at is some one many made here =
+-- where the tenant may not have it
+pub made_full : (limits : DataLimits) (w : World) (t : CreateTopic) (twice there : Bool) (partitions : ℤ) (config : TopicConfig) (full : Bool) (code : ℤ) → there ≡ is_some (named t.name w.known.topics) → None ≡ refusal twice there t → Some config ≡ settings_in t.configs
+    → partitions ≡ t.num_partitions → full ≡ is_too_much limits (room_in limits w.known) partitions → full ≡ true → code ≡ code_of codes.PolicyViolation → (w, code) ≡ made limits twice w t
+made_full limits w t twice there partitions config full code at is some many past over here =
+    ap (λ z. (w, z)) here ∙ ap (λ b. made_unless_full b w t config) (sym over ∙ past ∙ ap (is_too_much limits (room_in limits w.known)) many) ∙ ap (made_with limits w t) some ∙ tested limits w t twice there None at is
+
+pub made_set : (limits : DataLimits) (w v : World) (t : CreateTopic) (twice there : Bool) (name : List ℕ) (partitions : ℤ) (config : TopicConfig) (full : Bool) (r : Result (Unit {0}) CatalogFault) (code : ℤ) → there ≡ is_some (named t.name w.known.topics) → None ≡ refusal twice there t → Some config ≡ settings_in t.configs
+    → name ≡ t.name → partitions ≡ t.num_partitions → full ≡ is_too_much limits (room_in limits w.known) partitions → full ≡ false → (v, r) ≡ create w name partitions config → code ≡ code_in r → (v, code) ≡ made limits twice w t
+made_set limits w v t twice there name partitions config full r code at is some one many past under made here =
     ap (λ z. (v, z)) here ∙ ap (λ (x : World × Result (Unit {0}) CatalogFault). (x.0, code_in x.1)) (made ∙ ap (λ n. create w n partitions config) one ∙ ap (λ p. create w t.name p config) many)
-    ∙ ap (made_with w t) some ∙ tested w t twice there None at is
+    ∙ ap (λ b. made_unless_full b w t config) (sym under ∙ past ∙ ap (is_too_much limits (room_in limits w.known)) many) ∙ ap (made_with limits w t) some ∙ tested limits w t twice there None at is
 
 -- the answer for an entry of a request
-pub created_is : (w v : World) (ts : List CreateTopic) (t : CreateTopic) (name : List ℕ) (twice : Bool) (code sent : ℤ) → name ≡ t.name → twice ≡ stands_twice t.name ts → (v, code) ≡ made twice w t → sent ≡ code
-    → (v, (let x : CreateTopicReply = record { name = name; error_code = sent } in x)) ≡ created_topic ts w t
-created_is w v ts t name twice code sent one again step same =
+pub created_is : (limits : DataLimits) (w v : World) (ts : List CreateTopic) (t : CreateTopic) (name : List ℕ) (twice : Bool) (code sent : ℤ) → name ≡ t.name → twice ≡ stands_twice t.name ts → (v, code) ≡ made limits twice w t → sent ≡ code
+    → (v, (let x : CreateTopicReply = record { name = name; error_code = sent } in x)) ≡ created_topic limits ts w t
+created_is limits w v ts t name twice code sent one again step same =
     ap (λ n. (v, (let x : CreateTopicReply = record { name = n; error_code = sent } in x))) one ∙ ap (λ z. (v, (let x : CreateTopicReply = record { name = t.name; error_code = z } in x))) same
-    ∙ ap (λ (r : World × ℤ). (r.0, (let x : CreateTopicReply = record { name = t.name; error_code = r.1 } in x))) (step ∙ ap (λ b. made b w t) again)
+    ∙ ap (λ (r : World × ℤ). (r.0, (let x : CreateTopicReply = record { name = t.name; error_code = r.1 } in x))) (step ∙ ap (λ b. made limits b w t) again)
 
 -- the same, where it is only checked
-pub checked_is : (w : World) (ts : List CreateTopic) (t : CreateTopic) (name : List ℕ) (twice there : Bool) (old new : ℕ) (code sent : ℤ) → name ≡ t.name → twice ≡ stands_twice t.name ts
-    → there ≡ is_some (named t.name w.known.topics) → (new, code) ≡ checked_unless old t (refusal twice there t) → sent ≡ code
-    → (new, (let x : CreateTopicReply = record { name = name; error_code = sent } in x)) ≡ checked_topic ts w old t
-checked_is w ts t name twice there old new code sent one again at step same =
+pub checked_is : (limits : DataLimits) (w : World) (ts : List CreateTopic) (t : CreateTopic) (name : List ℕ) (twice there : Bool) (old new : Room) (code sent : ℤ) → name ≡ t.name → twice ≡ stands_twice t.name ts
+    → there ≡ is_some (named t.name w.known.topics) → (new, code) ≡ checked_unless limits old t (refusal twice there t) → sent ≡ code
+    → (new, (let x : CreateTopicReply = record { name = name; error_code = sent } in x)) ≡ checked_topic limits ts w old t
+checked_is limits w ts t name twice there old new code sent one again at step same =
     ap (λ n. (new, (let x : CreateTopicReply = record { name = n; error_code = sent } in x))) one ∙ ap (λ z. (new, (let x : CreateTopicReply = record { name = t.name; error_code = z } in x))) same
-    ∙ ap (λ (r : ℕ × ℤ). (r.0, (let x : CreateTopicReply = record { name = t.name; error_code = r.1 } in x)))
-    (step ∙ ap (λ b. checked_unless old t (refusal b there t)) again ∙ ap (λ b. checked_unless old t (refusal (stands_twice t.name ts) b t)) at)
+    ∙ ap (λ (r : Room × ℤ). (r.0, (let x : CreateTopicReply = record { name = t.name; error_code = r.1 } in x)))
+    (step ∙ ap (λ b. checked_unless limits old t (refusal b there t)) again ∙ ap (λ b. checked_unless limits old t (refusal (stands_twice t.name ts) b t)) at)
 
 -- ---- what was read can be written
 

@@ -12,6 +12,7 @@ use Rattle.kb_tenant.specs.CreateTopics.{checked_all, created_all, creations_in,
 use Rattle.kb_api_data.specs.declared.fetch_v5.FetchReplyV5.{FetchReplyV5}
 use Rattle.kb_api_data.specs.declared.fetch.FetchRequest.{FetchRequest}
 use Rattle.kb_tenant_state.specs.declared.topic_partition.TopicPartition.{TopicPartition}
+use Rattle.kb_tenant.specs.Entries.{metadata_entries, offset_fetch_entries, within}
 use Rattle.kb_tenant.specs.Fetch.{has_starts, look_written, reply_written, fetched_in, IsServed}
 use Rattle.kb_tenant.specs.Metadata.{asked_metadata}
 use Rattle.kb_tenant.specs.OffsetFetch.{asked_offsets}
@@ -21,13 +22,14 @@ use Rattle.kb_tenant.specs.Serve.{fetch_reaction, if_read, of_find_coordinator, 
 use Rattle.kb_tenant.specs.declared.answer.Answer.{Answer}
 use Rattle.kb_tenant.specs.declared.answer.Answer.TheVariants as answers
 use Rattle.kb_tenant.specs.declared.fetch.waiting.Fetching.TheVariants as fetching
+use Rattle.kb_tenant.specs.declared.limits.DataLimits.{DataLimits}
 use Rattle.kb_tenant.specs.declared.node.Node.{Node}
 
-pub served_metadata : (node : Node) (w : World) (clock n : ℕ) (key version : ℤ) (body : List ℕ) → key ≡ METADATA → plainly_served node w clock n key version body ≡ if_read w (asked_metadata version body) (of_metadata node version w)
+pub served_metadata : (node : Node) (w : World) (clock n : ℕ) (key version : ℤ) (body : List ℕ) → key ≡ METADATA → plainly_served node w clock n key version body ≡ if_read w (within node.limits.request_entries metadata_entries (asked_metadata version body)) (of_metadata node version w)
 unfolding plainly_served
 served_metadata node w clock n key version body is = ap (λ k. plainly_served node w clock n k version body) is
 
-pub served_offset_fetch : (node : Node) (w : World) (clock n : ℕ) (key version : ℤ) (body : List ℕ) → key ≡ OFFSET_FETCH → plainly_served node w clock n key version body ≡ if_read w (asked_offsets version body) (of_offset_fetch version w)
+pub served_offset_fetch : (node : Node) (w : World) (clock n : ℕ) (key version : ℤ) (body : List ℕ) → key ≡ OFFSET_FETCH → plainly_served node w clock n key version body ≡ if_read w (within node.limits.request_entries offset_fetch_entries (asked_offsets version body)) (of_offset_fetch version w)
 unfolding plainly_served
 served_offset_fetch node w clock n key version body is = ap (λ k. plainly_served node w clock n k version body) is
 
@@ -37,17 +39,17 @@ served_find_coordinator node w clock n key version body is = ap (λ k. plainly_s
 
 -- ---- CreateTopics: a request that is only checked, and one that is not
 
-pub checked_outcome : (id version : ℤ) (w : World) (r : CreateTopicsRequestV1) (answer : Answer) → r.validate_only ≡ true → IsAnswer id (Replies (creations_in version (checked_all w r.topics))) answer
-    → IsOutcome id (of_create_topics version w r) w [] answer
-checked_outcome id version w r answer is told =
-    let made : Outcome = record { world = (created_all w (made_of r)).0; touched = []; reaction = Replies (creations_in version (created_all w (made_of r)).1) } in
-    subst (λ b. IsOutcome id (if b then stays w (Replies (creations_in version (checked_all w r.topics))) else made) w [] answer) (sym is) (refl, refl, told)
+pub checked_outcome : (limits : DataLimits) (id version : ℤ) (w : World) (r : CreateTopicsRequestV1) (answer : Answer) → r.validate_only ≡ true → IsAnswer id (Replies (creations_in version (checked_all limits w r.topics))) answer
+    → IsOutcome id (of_create_topics limits version w r) w [] answer
+checked_outcome limits id version w r answer is told =
+    let made : Outcome = record { world = (created_all limits w (made_of r)).0; touched = []; reaction = Replies (creations_in version (created_all limits w (made_of r)).1) } in
+    subst (λ b. IsOutcome id (if b then stays w (Replies (creations_in version (checked_all limits w r.topics))) else made) w [] answer) (sym is) (refl, refl, told)
 
-pub made_outcome : (id version : ℤ) (w v : World) (r : CreateTopicsRequestV1) (answer : Answer) → r.validate_only ≡ false → v ≡ (created_all w (made_of r)).0
-    → IsAnswer id (Replies (creations_in version (created_all w (made_of r)).1)) answer → IsOutcome id (of_create_topics version w r) v [] answer
-made_outcome id version w v r answer is world told =
-    let made : Outcome = record { world = (created_all w (made_of r)).0; touched = []; reaction = Replies (creations_in version (created_all w (made_of r)).1) } in
-    subst (λ b. IsOutcome id (if b then stays w (Replies (creations_in version (checked_all w r.topics))) else made) v [] answer) (sym is) (world, refl, told)
+pub made_outcome : (limits : DataLimits) (id version : ℤ) (w v : World) (r : CreateTopicsRequestV1) (answer : Answer) → r.validate_only ≡ false → v ≡ (created_all limits w (made_of r)).0
+    → IsAnswer id (Replies (creations_in version (created_all limits w (made_of r)).1)) answer → IsOutcome id (of_create_topics limits version w r) v [] answer
+made_outcome limits id version w v r answer is world told =
+    let made : Outcome = record { world = (created_all limits w (made_of r)).0; touched = []; reaction = Replies (creations_in version (created_all limits w (made_of r)).1) } in
+    subst (λ b. IsOutcome id (if b then stays w (Replies (creations_in version (checked_all limits w r.topics))) else made) v [] answer) (sym is) (world, refl, told)
 
 -- a fetch that waits is a wait
 pub waits : (id version : ℤ) (starts : Bool) (w : World) (clock : ℕ) (r : FetchRequest) (o : Option FetchReplyV5) (old new : List ℕ) (deadline : ℕ) (keys : Vec TopicPartition Global)

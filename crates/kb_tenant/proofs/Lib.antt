@@ -45,6 +45,7 @@ pub mod Serving
 pub mod Settings
 pub mod Small
 pub mod Spelled
+pub mod Storing
 pub mod Telling
 pub mod Tied
 pub mod Trimming

@@ -23,9 +23,10 @@ use Rattle.kb_tenant_state.specs.declared.fault.PartitionFault.TheVariants as pa
 use Rattle.kb_tenant_state.specs.Calls.{appended_to, created_unless, deleted_at, with_log_at}
 use Rattle.kb_tenant_state.specs.World.{World, log_in, place_in}
 use Rattle.kb_tenant_state.specs.declared.topic_partition.TopicPartition.{TopicPartition}
-use Rattle.kb_tenant.specs.CreateTopics.{created_all, created_topic, made_unless, made_with, refusal, stands_twice}
+use Rattle.kb_tenant.specs.CreateTopics.{created_all, created_topic, is_too_much, made_unless, made_unless_full, made_with, refusal, room_in, stands_twice}
+use Rattle.kb_tenant.specs.declared.limits.DataLimits.{DataLimits}
 use Rattle.kb_tenant.specs.DeleteTopics.{deleted_all, deleted_topic}
-use Rattle.kb_tenant.specs.Produce.{Progress, appended_at, batch_in, decided, known_place, offered_unless, produced, progress, refusal_of, entry_served, served_topic, tried, verdict_on}
+use Rattle.kb_tenant.specs.Produce.{Progress, appended_at, appended_unless_full, is_full, batch_in, decided, known_place, offered_unless, produced, progress, refusal_of, entry_served, served_topic, tried, verdict_on}
 use Rattle.kb_tenant.specs.Settings.{settings_in}
 use Rattle.kb_tenant.specs.Turns.{in_turn}
 use Rattle.kb_topics.specs.WellFormed.{AreNamedApart}
@@ -68,36 +69,40 @@ append_keeps p place batch (Some l) = by (nat_le (2 ^ 63) (l.end + count_of batc
     by true = refl
     by false = refl
 
-decided_keeps : (p : Progress) (place : TopicPartition) (batch : List ℕ) (v : Option Verdict) → Knows p.world (decided p place batch v).0.world
-decided_keeps p place batch None = refl
-decided_keeps p place batch (Some Append) = append_keeps p place batch (log_in p.world place)
-decided_keeps p place batch (Some (Repeat base)) = refl
-decided_keeps p place batch (Some (Refuse code)) = refl
+full_keeps : (p : Progress) (place : TopicPartition) (batch : List ℕ) → (full : Bool) → Knows p.world (appended_unless_full full p place batch).0.world
+full_keeps p place batch true = refl
+full_keeps p place batch false = append_keeps p place batch (log_in p.world place)
 
-offered_keeps : (p : Progress) (place : TopicPartition) (r : Result (List ℕ) ℤ) → Knows p.world (offered_unless p place r).0.world
-offered_keeps p place (Ok batch) = decided_keeps p place batch (verdict_on p.world place batch)
-offered_keeps p place (Err code) = refl
+decided_keeps : (limit : Option ℕ) (p : Progress) (place : TopicPartition) (batch : List ℕ) (v : Option Verdict) → Knows p.world (decided limit p place batch v).0.world
+decided_keeps limit p place batch None = refl
+decided_keeps limit p place batch (Some Append) = full_keeps p place batch (is_full limit p.world batch)
+decided_keeps limit p place batch (Some (Repeat base)) = refl
+decided_keeps limit p place batch (Some (Refuse code)) = refl
 
-tried_keeps : (p : Progress) (o : Option TopicPartition) (records : Option (List ℕ)) → Knows p.world (tried p o records).0.world
-tried_keeps p None records = refl
-tried_keeps p (Some place) records = offered_keeps p place (batch_in records)
+offered_keeps : (limit : Option ℕ) (p : Progress) (place : TopicPartition) (r : Result (List ℕ) ℤ) → Knows p.world (offered_unless limit p place r).0.world
+offered_keeps limit p place (Ok batch) = decided_keeps limit p place batch (verdict_on p.world place batch)
+offered_keeps limit p place (Err code) = refl
 
-entry_keeps : (refusal : Option ℤ) (topic : Option ℕ) (p : Progress) (e : ProducePartition) → Knows p.world (entry_served refusal topic p e).0.world
-entry_keeps (Some code) topic p e = refl
-entry_keeps None topic p e = tried_keeps p (known_place p.world (place_in topic e.index)) e.records
+tried_keeps : (limit : Option ℕ) (p : Progress) (o : Option TopicPartition) (records : Option (List ℕ)) → Knows p.world (tried limit p o records).0.world
+tried_keeps limit p None records = refl
+tried_keeps limit p (Some place) records = offered_keeps limit p place (batch_in records)
+
+entry_keeps : (limit : Option ℕ) (refusal : Option ℤ) (topic : Option ℕ) (p : Progress) (e : ProducePartition) → Knows p.world (entry_served limit refusal topic p e).0.world
+entry_keeps limit (Some code) topic p e = refl
+entry_keeps limit None topic p e = tried_keeps limit p (known_place p.world (place_in topic e.index)) e.records
 
 all_keep : {E A : Type 0} (f : Progress → E → Progress × A) → ((p : Progress) (e : E) → Knows p.world (f p e).0.world) → (p : Progress) (es : List E) → Knows p.world (in_turn f p es).0.world
 all_keep f each p es = turns_keep Knows (λ w. refl) (λ w v u x y. y ∙ x) (λ (s : Progress). s.world) f each p es
 
-topic_keeps : (refusal : Option ℤ) (p : Progress) (t : ProduceTopic) → Knows p.world (served_topic refusal p t).0.world
-topic_keeps refusal p t = let topic = named t.name p.world.known.topics in all_keep (entry_served refusal topic) (entry_keeps refusal topic) p t.partitions
+topic_keeps : (limit : Option ℕ) (refusal : Option ℤ) (p : Progress) (t : ProduceTopic) → Knows p.world (served_topic limit refusal p t).0.world
+topic_keeps limit refusal p t = let topic = named t.name p.world.known.topics in all_keep (entry_served limit refusal topic) (entry_keeps limit refusal topic) p t.partitions
 
-produce_keeps : (w : World) (r : ProduceRequest) → Knows w (produced w [] r).0.world
-produce_keeps w r = let refusal = refusal_of r.transactional_id r.acks in all_keep (served_topic refusal) (topic_keeps refusal) (progress w []) r.topics
+produce_keeps : (limit : Option ℕ) (w : World) (r : ProduceRequest) → Knows w (produced limit w [] r).0.world
+produce_keeps limit w r = let refusal = refusal_of r.transactional_id r.acks in all_keep (served_topic limit refusal) (topic_keeps limit refusal) (progress w []) r.topics
 
-pub produce_loses : (w : World) (r : ProduceRequest) → Loses w (produced w [] r).0.world
-produce_loses w r =
-    let same = produce_keeps w r in
+pub produce_loses : (limit : Option ℕ) (w : World) (r : ProduceRequest) → Loses w (produced limit w [] r).0.world
+produce_loses limit w r =
+    let same = produce_keeps limit w r in
     record {
       apart = λ own. subst (λ (k : Known). AreNamedApart k.topics) (sym same) own;
       before = λ own name i there. ap (λ (k : Known). named name k.topics) (sym same) ∙ there;
@@ -127,15 +132,19 @@ create_apart_by w name partitions config (Some f) e own = own
 create_apart_by w name partitions config None e own =
     apart_inserted w.known.topics w.known.creates (new_topic name (natural partitions) config) (unnamed w.known name partitions config e) own
 
-settled_apart : (w : World) (t : CreateTopic) (o : Option TopicConfig) → Keeps w (made_with w t o).0
-settled_apart w t None own = own
-settled_apart w t (Some config) own = create_apart_by w t.name t.num_partitions config (create_refusal w.known t.name t.num_partitions config) refl own
+full_apart : (w : World) (t : CreateTopic) (config : TopicConfig) (full : Bool) → Keeps w (made_unless_full full w t config).0
+full_apart w t config true own = own
+full_apart w t config false own = create_apart_by w t.name t.num_partitions config (create_refusal w.known t.name t.num_partitions config) refl own
 
-made_apart : (w : World) (t : CreateTopic) (o : Option ErrorCode) → Keeps w (made_unless w t o).0
-made_apart w t (Some e) own = own
-made_apart w t None own = settled_apart w t (settings_in t.configs) own
+settled_apart : (limits : DataLimits) (w : World) (t : CreateTopic) (o : Option TopicConfig) → Keeps w (made_with limits w t o).0
+settled_apart limits w t None own = own
+settled_apart limits w t (Some config) own = full_apart w t config (is_too_much limits (room_in limits w.known) t.num_partitions) own
 
-pub create_apart : (w : World) (r : CreateTopicsRequest) → HasOwnNames w → HasOwnNames (created_all w r).0
-create_apart w r =
-    turns_keep Keeps (λ v own. own) (λ v u x p q own. q (p own)) (λ (s : World). s) (created_topic r.topics)
-    (λ s t. made_apart s t (refusal (stands_twice t.name r.topics) (is_some (named t.name s.known.topics)) t)) w r.topics
+made_apart : (limits : DataLimits) (w : World) (t : CreateTopic) (o : Option ErrorCode) → Keeps w (made_unless limits w t o).0
+made_apart limits w t (Some e) own = own
+made_apart limits w t None own = settled_apart limits w t (settings_in t.configs) own
+
+pub create_apart : (limits : DataLimits) (w : World) (r : CreateTopicsRequest) → HasOwnNames w → HasOwnNames (created_all limits w r).0
+create_apart limits w r =
+    turns_keep Keeps (λ v own. own) (λ v u x p q own. q (p own)) (λ (s : World). s) (created_topic limits r.topics)
+    (λ s t. made_apart limits s t (refusal (stands_twice t.name r.topics) (is_some (named t.name s.known.topics)) t)) w r.topics

@@ -44,8 +44,8 @@ pub verdict_known : (w : World) (place : TopicPartition) (batch : List ℕ) (t :
 verdict_known w place batch t v is f j = rw (sym is ∙ f) j
 
 -- the batch was offered to the partition that is there
-pub tried_offer : (p : Progress) (at : Option TopicPartition) (place : TopicPartition) (records : Option (List ℕ)) (batch : List ℕ) (x : Progress × Result ℤ ℤ) → at ≡ Some place → batch_in records ≡ Ok batch → x ≡ offered p place batch → x ≡ tried p at records
-tried_offer p at place records batch x there read is = rw (there, read) is
+pub tried_offer : (limit : Option ℕ) (p : Progress) (at : Option TopicPartition) (place : TopicPartition) (records : Option (List ℕ)) (batch : List ℕ) (x : Progress × Result ℤ ℤ) → at ≡ Some place → batch_in records ≡ Ok batch → x ≡ offered limit p place batch → x ≡ tried limit p at records
+tried_offer limit p at place records batch x there read is = rw (there, read) is
 
 -- ---- one after another
 
@@ -121,20 +121,20 @@ topic_bytes due name n rs out is =
     ∙ ap (λ k. out ++ where_due due ((string.written name ++ (count w32).written k) ++ flat_map produce_partition_reply.written rs)) is
     ∙ ap (λ l. out ++ where_due due l) (topic_spelled name rs)
 
-pub topic_told : (due : Bool) (refusal : Option ℤ) (topic : Option ℕ) (p : Progress) (t : ProduceTopic) (name : List ℕ) (entries : List ProducePartition) (n : ℕ) (out out1 out2 : List ℕ) (result : Progress × List ℕ)
+pub topic_told : (due : Bool) (limit : Option ℕ) (refusal : Option ℤ) (topic : Option ℕ) (p : Progress) (t : ProduceTopic) (name : List ℕ) (entries : List ProducePartition) (n : ℕ) (out out1 out2 : List ℕ) (result : Progress × List ℕ)
     → name ≡ t.name → entries ≡ t.partitions → n ≡ length t.partitions → topic ≡ named t.name p.world.known.topics
     → out1 ≡ out ++ where_due due (string.written name) → out2 ≡ out1 ++ where_due due ((count w32).written n)
-    → result ≡ written_behind (λ x. where_due due (produce_partition_reply.written x)) out2 (in_turn (entry_served refusal topic) p entries)
-    → result ≡ written_next (λ x. where_due due (produce_topic_reply.written x)) out (served_topic refusal p t)
-topic_told due refusal topic p t name entries n out out1 out2 result nis eis lis tis first second is =
-    let r = in_turn (entry_served refusal (named t.name p.world.known.topics)) p t.partitions in
+    → result ≡ written_behind (λ x. where_due due (produce_partition_reply.written x)) out2 (in_turn (entry_served limit refusal topic) p entries)
+    → result ≡ written_next (λ x. where_due due (produce_topic_reply.written x)) out (served_topic limit refusal p t)
+topic_told due limit refusal topic p t name entries n out out1 out2 result nis eis lis tis first second is =
+    let r = in_turn (entry_served limit refusal (named t.name p.world.known.topics)) p t.partitions in
     let write : ProducePartitionReply → List ℕ = λ x. where_due due (produce_partition_reply.written x) in
-    let many : n ≡ length r.1 = lis ∙ sym (turn_length (entry_served refusal (named t.name p.world.known.topics)) p t.partitions) in
+    let many : n ≡ length r.1 = lis ∙ sym (turn_length (entry_served limit refusal (named t.name p.world.known.topics)) p t.partitions) in
     let before : out2 ≡ (out ++ where_due due (string.written t.name)) ++ where_due due ((count w32).written n) =
     second ∙ ap (λ l. l ++ where_due due ((count w32).written n)) (first ∙ ap (λ m. out ++ where_due due (string.written m)) nis) in
     is
-    ∙ ap (λ es. written_behind write out2 (in_turn (entry_served refusal topic) p es)) eis
-    ∙ ap (λ i. written_behind write out2 (in_turn (entry_served refusal i) p t.partitions)) tis
+    ∙ ap (λ es. written_behind write out2 (in_turn (entry_served limit refusal topic) p es)) eis
+    ∙ ap (λ i. written_behind write out2 (in_turn (entry_served limit refusal i) p t.partitions)) tis
     ∙ ap (λ l. (r.0, l)) (ap (λ l. l ++ flat_map write r.1) before ∙ topic_bytes due t.name n r.1 out many)
 
 -- the count, the topics and the throttle time are the reply
@@ -146,23 +146,23 @@ reply_bytes_are due n rs out is =
     ∙ ap (λ k. out ++ where_due due (((count w32).written k ++ flat_map produce_topic_reply.written rs) ++ int32.written (pos 0))) is
     ∙ ap (λ l. out ++ where_due due l) (reply_spelled rs)
 
-pub produce_told : (terms : Terms) (request : ProduceRequest) (w w' : World) (touched touched' : List TopicPartition) (n : ℕ) (out out1 out2 out3 : List ℕ)
+pub produce_told : (limit : Option ℕ) (terms : Terms) (request : ProduceRequest) (w w' : World) (touched touched' : List TopicPartition) (n : ℕ) (out out1 out2 out3 : List ℕ)
     → terms.refusal ≡ refusal_of request.transactional_id request.acks → terms.due ≡ is_due request.acks → n ≡ length request.topics
     → out1 ≡ out ++ where_due terms.due ((count w32).written n)
-    → (progress w' touched', out2) ≡ written_behind (λ x. where_due terms.due (produce_topic_reply.written x)) out1 (in_turn (served_topic terms.refusal) (progress w touched) request.topics)
+    → (progress w' touched', out2) ≡ written_behind (λ x. where_due terms.due (produce_topic_reply.written x)) out1 (in_turn (served_topic limit terms.refusal) (progress w touched) request.topics)
     → out3 ≡ out2 ++ where_due terms.due (int32.written (pos 0))
-    → (w' ≡ (produced w touched request).0.world) × (touched' ≡ (produced w touched request).0.touched) × (out3 ≡ out ++ reply_bytes request.acks (produced w touched request).1)
-produce_told terms request w w' touched touched' n out out1 out2 out3 ris dis lis first told last =
+    → (w' ≡ (produced limit w touched request).0.world) × (touched' ≡ (produced limit w touched request).0.touched) × (out3 ≡ out ++ reply_bytes request.acks (produced limit w touched request).1)
+produce_told limit terms request w w' touched touched' n out out1 out2 out3 ris dis lis first told last =
     let refusal : Option ℤ = refusal_of request.transactional_id request.acks in
     let due : Bool = is_due request.acks in
-    let f = served_topic refusal in
+    let f = served_topic limit refusal in
     let write : ProduceTopicReply → List ℕ = λ x. where_due due (produce_topic_reply.written x) in
     let r = in_turn f (progress w touched) request.topics in
     let many : n ≡ length r.1 = lis ∙ sym (turn_length f (progress w touched) request.topics) in
     let all : (progress w' touched', out2) ≡ (r.0, out1 ++ flat_map write r.1) =
     told
-    ∙ ap (λ d. written_behind (λ x. where_due d (produce_topic_reply.written x)) out1 (in_turn (served_topic terms.refusal) (progress w touched) request.topics)) dis
-    ∙ ap (λ q. written_behind write out1 (in_turn (served_topic q) (progress w touched) request.topics)) ris in
+    ∙ ap (λ d. written_behind (λ x. where_due d (produce_topic_reply.written x)) out1 (in_turn (served_topic limit terms.refusal) (progress w touched) request.topics)) dis
+    ∙ ap (λ q. written_behind write out1 (in_turn (served_topic limit q) (progress w touched) request.topics)) ris in
     let before : out1 ≡ out ++ where_due due ((count w32).written n) = first ∙ ap (λ d. out ++ where_due d ((count w32).written n)) dis in
     let between : out2 ≡ (out ++ where_due due ((count w32).written n)) ++ flat_map write r.1 = ap (λ x. x.1) all ∙ ap (λ l. l ++ flat_map write r.1) before in (
       ap (λ x. x.0.world) all,

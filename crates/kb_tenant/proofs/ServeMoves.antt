@@ -19,6 +19,7 @@ use Rattle.kb_tenant.specs.InitProducerId.{id_given, id_refused, init_producer_i
 use Rattle.kb_tenant.specs.OffsetCommit.{committed_all, refusal_of}
 use Rattle.kb_tenant.specs.Serve.{Outcome, plainly_served}
 use Rattle.kb_tenant.specs.Waiting.{AreApart, StillWaits}
+use Rattle.kb_tenant.specs.declared.limits.DataLimits.{DataLimits}
 use Rattle.kb_tenant.specs.declared.node.Node.{Node}
 use Rattle.kb_tenant.proofs.ByRequest.{by_request, of_creations}
 use Rattle.kb_tenant.proofs.CommitMoves.{commit_moves}
@@ -71,14 +72,14 @@ Leaves w o = Moves [] o.touched w o.world
 
 pub serve_leaves : (node : Node) (w : World) (clock n : ℕ) (key version : ℤ) (body : List ℕ) → Leaves w (plainly_served node w clock n key version body)
 serve_leaves node w clock n key version body = by_request (Leaves w) node w clock n key version body (record {
-  produce = λ r read. produce_moves w r;
+  produce = λ r read. produce_moves node.limits.bytes w r;
   fetch = λ r read. stays_same w [];
   list_offsets = λ r read. stays_same w [];
   metadata = λ r read. stays_same w [];
-  offset_commit = λ r read. commit_moves w (refusal_of r.group_id r.generation_id) r;
+  offset_commit = λ r read. commit_moves node.limits w (refusal_of r.group_id r.generation_id) r;
   offset_fetch = λ r read. stays_same w [];
   find_coordinator = λ r read. stays_same w [];
-  create_topics = λ r read. of_creations (Leaves w) version w r (λ reaction. stays_same w []) (create_moves w (made_of r));
+  create_topics = λ r read. of_creations (Leaves w) node.limits version w r (λ reaction. stays_same w []) (create_moves node.limits w (made_of r));
   delete_topics = λ r read. delete_moves w r;
   delete_records = λ r read. records_moves w r;
   init_producer_id = λ r read. init_moves w r;
@@ -103,9 +104,9 @@ served_waits node w clock n key version body r deadline tied waits none =
     waits_through o.touched w o.world (serve_leaves node w clock n key version body) tied clock r deadline waits none
 
 -- it waits on through each commit
-pub committed_waits : (w : World) (clock : ℕ) (refusal : Option ℤ) (q : OffsetCommitRequest) (r : FetchRequest) (deadline : ℕ) → IsTied w → fetch_answer w clock r deadline ≡ None → StillWaits w (committed_all w refusal q).0 clock r deadline
-committed_waits w clock refusal q r deadline tied waits =
-    waits_through [] w (committed_all w refusal q).0 (commit_moves w refusal q) tied clock r deadline waits (λ place asked none. nowhere place none)
+pub committed_waits : (limits : DataLimits) (w : World) (clock : ℕ) (refusal : Option ℤ) (q : OffsetCommitRequest) (r : FetchRequest) (deadline : ℕ) → IsTied w → fetch_answer w clock r deadline ≡ None → StillWaits w (committed_all limits w refusal q).0 clock r deadline
+committed_waits limits w clock refusal q r deadline tied waits =
+    waits_through [] w (committed_all limits w refusal q).0 (commit_moves limits w refusal q) tied clock r deadline waits (λ place asked none. nowhere place none)
 
 -- the same for retention
 pub retained_tied : (clock : ℕ) (w : World) (place : TopicPartition) → IsTied w → IsTied (retain clock w place).0

@@ -42,11 +42,12 @@ use Rattle.kb_tenant_state.specs.Calls.{appended_to, created_unless, delete_reco
 use Rattle.kb_tenant_state.specs.World.{World, log_in, new_world, place_in}
 use Rattle.kb_tenant_state.specs.declared.topic_partition.TopicPartition.{TopicPartition}
 use Rattle.kb_tenant.specs.Batches.{HasSmallLogs, IsSmall}
-use Rattle.kb_tenant.specs.CreateTopics.{created_all, created_topic, made_of, made_unless, made_with, refusal, stands_twice}
+use Rattle.kb_tenant.specs.CreateTopics.{created_all, created_topic, is_too_much, made_of, made_unless, made_unless_full, made_with, refusal, room_in, stands_twice}
+use Rattle.kb_tenant.specs.declared.limits.DataLimits.{DataLimits}
 use Rattle.kb_tenant.specs.DeleteRecords.{deleted as records_deleted, deleted_all as all_records_deleted, deleted_in, deleted_topic as topic_records_deleted}
 use Rattle.kb_tenant.specs.DeleteTopics.{deleted_all, deleted_topic}
 use Rattle.kb_tenant.specs.InitProducerId.{id_given, id_refused, init_producer_id}
-use Rattle.kb_tenant.specs.Produce.{Progress, appended_at, decided, known_place, offered_unless, produced, progress, read_unless, refusal_of, entry_served, served_topic, tried, verdict_on}
+use Rattle.kb_tenant.specs.Produce.{Progress, appended_at, appended_unless_full, is_full, decided, known_place, offered_unless, produced, progress, read_unless, refusal_of, entry_served, served_topic, tried, verdict_on}
 use Rattle.kb_tenant.specs.OffsetCommit.{committed_all, refusal_of as commit_refusal}
 use Rattle.kb_tenant.specs.Serve.{Outcome, plainly_served as served_by_key}
 use Rattle.kb_tenant.specs.Settings.{settings_in}
@@ -226,34 +227,38 @@ append_keeps p place batch is (Some l) at all = by (nat_le (2 ^ 63) (l.end + cou
         put_small p.world.logs place.instance place.number (appended batch l)
         (appended_small batch l is (grind (arith, nat_tests, e)) (small_at p.world.logs place.instance place.number l all at)) all
 
-decided_keeps : (p : Progress) (place : TopicPartition) (batch : List ℕ) → IsBatch batch → (v : Option Verdict) → Keeps p.world (decided p place batch v).0.world
-decided_keeps p place batch is None all = all
-decided_keeps p place batch is (Some Append) all = append_keeps p place batch is (log_in p.world place) refl all
-decided_keeps p place batch is (Some (Repeat base)) all = all
-decided_keeps p place batch is (Some (Refuse code)) all = all
+full_keeps : (p : Progress) (place : TopicPartition) (batch : List ℕ) → IsBatch batch → (full : Bool) → Keeps p.world (appended_unless_full full p place batch).0.world
+full_keeps p place batch is true all = all
+full_keeps p place batch is false all = append_keeps p place batch is (log_in p.world place) refl all
 
-tried_keeps : (p : Progress) (o : Option TopicPartition) (records : Option (List ℕ)) → Keeps p.world (tried p o records).0.world
-tried_keeps p None records all = all
-tried_keeps p (Some place) None all = all
-tried_keeps p (Some place) (Some bytes) all = by (first_fault bytes) refl
+decided_keeps : (limit : Option ℕ) (p : Progress) (place : TopicPartition) (batch : List ℕ) → IsBatch batch → (v : Option Verdict) → Keeps p.world (decided limit p place batch v).0.world
+decided_keeps limit p place batch is None all = all
+decided_keeps limit p place batch is (Some Append) all = full_keeps p place batch is (is_full limit p.world batch) all
+decided_keeps limit p place batch is (Some (Repeat base)) all = all
+decided_keeps limit p place batch is (Some (Refuse code)) all = all
+
+tried_keeps : (limit : Option ℕ) (p : Progress) (o : Option TopicPartition) (records : Option (List ℕ)) → Keeps p.world (tried limit p o records).0.world
+tried_keeps limit p None records all = all
+tried_keeps limit p (Some place) None all = all
+tried_keeps limit p (Some place) (Some bytes) all = by (first_fault bytes) refl
   where
-    by : (o : Option BatchFault) → first_fault bytes ≡ o → Has (offered_unless p place (read_unless bytes o)).0.world
-    by None e = decided_keeps p place bytes (accepted_is bytes e) (verdict_on p.world place bytes) all
+    by : (o : Option BatchFault) → first_fault bytes ≡ o → Has (offered_unless limit p place (read_unless bytes o)).0.world
+    by None e = decided_keeps limit p place bytes (accepted_is bytes e) (verdict_on p.world place bytes) all
     by (Some f) e = all
 
-entry_keeps : (refusal : Option ℤ) (topic : Option ℕ) (p : Progress) (e : ProducePartition) → Keeps p.world (entry_served refusal topic p e).0.world
-entry_keeps (Some code) topic p e all = all
-entry_keeps None topic p e all = tried_keeps p (known_place p.world (place_in topic e.index)) e.records all
+entry_keeps : (limit : Option ℕ) (refusal : Option ℤ) (topic : Option ℕ) (p : Progress) (e : ProducePartition) → Keeps p.world (entry_served limit refusal topic p e).0.world
+entry_keeps limit (Some code) topic p e all = all
+entry_keeps limit None topic p e all = tried_keeps limit p (known_place p.world (place_in topic e.index)) e.records all
 
-topic_keeps : (refusal : Option ℤ) (p : Progress) (t : ProduceTopic) → Keeps p.world (served_topic refusal p t).0.world
-topic_keeps refusal p t =
+topic_keeps : (limit : Option ℕ) (refusal : Option ℤ) (p : Progress) (t : ProduceTopic) → Keeps p.world (served_topic limit refusal p t).0.world
+topic_keeps limit refusal p t =
     let topic = named t.name p.world.known.topics in
-    turns_keep (λ (s : Progress). s.world) (entry_served refusal topic) (entry_keeps refusal topic) p t.partitions
+    turns_keep (λ (s : Progress). s.world) (entry_served limit refusal topic) (entry_keeps limit refusal topic) p t.partitions
 
-produce_keeps : (w : World) (r : ProduceRequest) → Keeps w (produced w [] r).0.world
-produce_keeps w r =
+produce_keeps : (limit : Option ℕ) (w : World) (r : ProduceRequest) → Keeps w (produced limit w [] r).0.world
+produce_keeps limit w r =
     let refusal = refusal_of r.transactional_id r.acks in
-    turns_keep (λ (s : Progress). s.world) (served_topic refusal) (topic_keeps refusal) (progress w []) r.topics
+    turns_keep (λ (s : Progress). s.world) (served_topic limit refusal) (topic_keeps limit refusal) (progress w []) r.topics
 
 -- ---- CreateTopics, DeleteTopics and InitProducerId
 
@@ -262,18 +267,22 @@ made_keeps w name partitions config (Some f) all = all
 made_keeps w name partitions config None all =
     each_inserted AreSmall w.logs w.known.creates (replicate (natural partitions) no_log) (All-replicate IsSmall (natural partitions) no_log no_log_small) all
 
-settled_keeps : (w : World) (t : CreateTopic) (o : Option TopicConfig) → Keeps w (made_with w t o).0
-settled_keeps w t None all = all
-settled_keeps w t (Some config) all = made_keeps w t.name t.num_partitions config (create_refusal w.known t.name t.num_partitions config) all
+made_full_keeps : (w : World) (t : CreateTopic) (config : TopicConfig) (full : Bool) → Keeps w (made_unless_full full w t config).0
+made_full_keeps w t config true all = all
+made_full_keeps w t config false all = made_keeps w t.name t.num_partitions config (create_refusal w.known t.name t.num_partitions config) all
 
-unless_keeps : (w : World) (t : CreateTopic) (o : Option ErrorCode) → Keeps w (made_unless w t o).0
-unless_keeps w t (Some e) all = all
-unless_keeps w t None all = settled_keeps w t (settings_in t.configs) all
+settled_keeps : (limits : DataLimits) (w : World) (t : CreateTopic) (o : Option TopicConfig) → Keeps w (made_with limits w t o).0
+settled_keeps limits w t None all = all
+settled_keeps limits w t (Some config) all = made_full_keeps w t config (is_too_much limits (room_in limits w.known) t.num_partitions) all
 
-create_keeps : (w : World) (r : CreateTopicsRequest) → Keeps w (created_all w r).0
-create_keeps w r =
-    turns_keep (λ (s : World). s) (created_topic r.topics)
-    (λ s t. unless_keeps s t (refusal (stands_twice t.name r.topics) (is_some (named t.name s.known.topics)) t)) w r.topics
+unless_keeps : (limits : DataLimits) (w : World) (t : CreateTopic) (o : Option ErrorCode) → Keeps w (made_unless limits w t o).0
+unless_keeps limits w t (Some e) all = all
+unless_keeps limits w t None all = settled_keeps limits w t (settings_in t.configs) all
+
+create_keeps : (limits : DataLimits) (w : World) (r : CreateTopicsRequest) → Keeps w (created_all limits w r).0
+create_keeps limits w r =
+    turns_keep (λ (s : World). s) (created_topic limits r.topics)
+    (λ s t. unless_keeps limits s t (refusal (stands_twice t.name r.topics) (is_some (named t.name s.known.topics)) t)) w r.topics
 
 gone_keeps : (w : World) (o : Option ℕ) → Keeps w (deleted_at w o).0
 gone_keeps w None all = all
@@ -301,8 +310,8 @@ init_keeps w r = given_keeps w r.transactional_id
 
 -- ---- OffsetCommit
 
-commit_keeps : (w : World) (refusal : Option ℤ) (r : OffsetCommitRequest) → Keeps w (committed_all w refusal r).0
-commit_keeps w refusal r all = subst AreAllSmall (sym (commit_logs w refusal r)) all
+commit_keeps : (limits : DataLimits) (w : World) (refusal : Option ℤ) (r : OffsetCommitRequest) → Keeps w (committed_all limits w refusal r).0
+commit_keeps limits w refusal r all = subst AreAllSmall (sym (commit_logs limits w refusal r)) all
 
 -- ---- retention
 
@@ -378,19 +387,19 @@ new_small = out_of new_world tt
 pub retained_small : (clock : ℕ) (w : World) (place : TopicPartition) → HasSmallLogs w → HasSmallLogs (retain clock w place).0
 retained_small clock w place small = out_of (retain clock w place).0 (due_keeps clock w place (due clock w place) refl (into w small))
 
-pub committed_small : (w : World) (refusal : Option ℤ) (r : OffsetCommitRequest) → HasSmallLogs w → HasSmallLogs (committed_all w refusal r).0
-committed_small w refusal r small = out_of (committed_all w refusal r).0 (commit_keeps w refusal r (into w small))
+pub committed_small : (limits : DataLimits) (w : World) (refusal : Option ℤ) (r : OffsetCommitRequest) → HasSmallLogs w → HasSmallLogs (committed_all limits w refusal r).0
+committed_small limits w refusal r small = out_of (committed_all limits w refusal r).0 (commit_keeps limits w refusal r (into w small))
 
 pub served_small : (node : Node) (w : World) (clock n : ℕ) (key version : ℤ) (body : List ℕ) → HasSmallLogs w → HasSmallLogs (served_by_key node w clock n key version body).world
 served_small node w clock n key version body small = out_of (served_by_key node w clock n key version body).world (by_request (λ (o : Outcome). Keeps w o.world) node w clock n key version body (record {
-  produce = λ r read. produce_keeps w r;
+  produce = λ r read. produce_keeps node.limits.bytes w r;
   fetch = λ r read all. all;
   list_offsets = λ r read all. all;
   metadata = λ r read all. all;
-  offset_commit = λ r read. commit_keeps w (commit_refusal r.group_id r.generation_id) r;
+  offset_commit = λ r read. commit_keeps node.limits w (commit_refusal r.group_id r.generation_id) r;
   offset_fetch = λ r read all. all;
   find_coordinator = λ r read all. all;
-  create_topics = λ r read. of_creations (λ (o : Outcome). Keeps w o.world) version w r (λ reaction all. all) (create_keeps w (made_of r));
+  create_topics = λ r read. of_creations (λ (o : Outcome). Keeps w o.world) node.limits version w r (λ reaction all. all) (create_keeps node.limits w (made_of r));
   delete_topics = λ r read. delete_keeps w r;
   delete_records = λ r read. records_keeps w r;
   init_producer_id = λ r read. init_keeps w r;

@@ -19,8 +19,8 @@ tells_so a b P Q want (Ok x) f is = done_so a b P Q f is
 tells_so a b P Q want (Err e) f is = ⊎_elim (λ own. inl (done_so a b P Q f own)) (λ wanted. inr wanted) is
 
 -- records that are no batch
-pub tried_nothing : (p : Progress) (at : Option TopicPartition) (place : TopicPartition) (records : Option (List ℕ)) (code : ℤ) → at ≡ Some place → batch_in records ≡ Err code → (p, Err code) ≡ tried p at records
-tried_nothing p at place records code there read = rw (there, read) refl
+pub tried_nothing : (limit : Option ℕ) (p : Progress) (at : Option TopicPartition) (place : TopicPartition) (records : Option (List ℕ)) (code : ℤ) → at ≡ Some place → batch_in records ≡ Err code → (p, Err code) ≡ tried limit p at records
+tried_nothing limit p at place records code there read = rw (there, read) refl
 
 -- the reply for what was tried
 pub answer_told : (a b : Scene Seen) (old new : List TopicPartition) (q : Progress) (index : ℤ) (r : Result ℤ ℤ) (x : Progress × Result ℤ ℤ)
@@ -34,11 +34,11 @@ answer_told a b old new q index (Err code) x is =
     is
 
 -- the reply for an entry of a request that is not refused as a whole
-pub entry_told : (a b : Scene Seen) (old new : List TopicPartition) (p q : Progress) (refusal : Option ℤ) (topic : Option ℕ) (e : ProducePartition) (reply : ProducePartitionReply) (r : Result ℤ ℤ)
-    → refusal ≡ None → reply ≡ answer e.index r → Tells a b ((q, r) ≡ tried p (known_place p.world (place_in topic e.index)) e.records) (IsAppendWant a b old new) r
-    → IsTold a b ((q, reply) ≡ entry_served refusal topic p e) (IsAppendWant a b old new reply.error_code × (reply ≡ answer e.index (Err reply.error_code)))
-entry_told a b old new p q refusal topic e reply r none is told =
-    let x : Progress × Result ℤ ℤ = tried p (known_place p.world (place_in topic e.index)) e.records in
-    subst (λ (o : Option ℤ). IsTold a b ((q, reply) ≡ entry_served o topic p e) (IsAppendWant a b old new reply.error_code × (reply ≡ answer e.index (Err reply.error_code)))) (sym none)
+pub entry_told : (a b : Scene Seen) (old new : List TopicPartition) (p q : Progress) (limit : Option ℕ) (refusal : Option ℤ) (topic : Option ℕ) (e : ProducePartition) (reply : ProducePartitionReply) (r : Result ℤ ℤ)
+    → refusal ≡ None → reply ≡ answer e.index r → Tells a b ((q, r) ≡ tried limit p (known_place p.world (place_in topic e.index)) e.records) (IsAppendWant a b old new) r
+    → IsTold a b ((q, reply) ≡ entry_served limit refusal topic p e) (IsAppendWant a b old new reply.error_code × (reply ≡ answer e.index (Err reply.error_code)))
+entry_told a b old new p q limit refusal topic e reply r none is told =
+    let x : Progress × Result ℤ ℤ = tried limit p (known_place p.world (place_in topic e.index)) e.records in
+    subst (λ (o : Option ℤ). IsTold a b ((q, reply) ≡ entry_served limit o topic p e) (IsAppendWant a b old new reply.error_code × (reply ≡ answer e.index (Err reply.error_code)))) (sym none)
     (subst (λ (z : ProducePartitionReply). IsTold a b ((q, z) ≡ produce_answered e.index x) (IsAppendWant a b old new z.error_code × (z ≡ answer e.index (Err z.error_code)))) (sym is)
     (answer_told a b old new q e.index r x told))

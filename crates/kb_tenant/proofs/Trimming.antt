@@ -1,5 +1,5 @@
 -- What an entry of DeleteRecords is answered, by what the call for it answered, whatever memory and the store refuse.
-use Rattle.std.proofs.Common.{◌≡◌, ◌⊎◌, ◌∙◌, ◌++◌, arith, inl, inr, ⊎_elim, ℕ, ℤ, List, Option, Some, None, ap, refl, subst, sym, w32}
+use Rattle.std.proofs.Common.{◌≡◌, ◌⊎◌, ◌∙◌, ◌++◌, ◌∷◌, [], arith, inl, inr, ⊎_elim, ℕ, ℤ, List, Option, Some, None, ap, refl, subst, sym, w32}
 use Rattle.std.specs.Prelude.{length, pos, Result, Ok, Err}
 use Rattle.std.specs.List.{flat_map}
 use Rattle.kb_wire.specs.Codec.{count, int32, string}
@@ -21,6 +21,8 @@ use Rattle.kb_tenant_state.specs.Told.{Deletes, IsDeletionWant}
 use Rattle.kb_tenant_state.specs.World.{World, place_in}
 use Rattle.kb_tenant_state.specs.declared.topic_partition.TopicPartition.{TopicPartition}
 use Rattle.kb_tenant.specs.DeleteRecords.{deleted, deleted_at, deleted_in, deletion_answered, told}
+use Rattle.kb_tenant.specs.DeleteRecords.{told as place_told}
+use Rattle.kb_tenant_state.specs.Calls.{delete_records}
 use Rattle.kb_tenant.specs.Told.{AreTrimsTold, CatalogFailed, IsDeleted, IsDeletionTold}
 use Rattle.kb_tenant.specs.Told.{IsRefusalFor, IsTrimTold, IsTrimTopicTold, IsUntrimmed}
 use Rattle.kb_tenant.specs.Turns.{AreServed}
@@ -39,6 +41,24 @@ entry_deleted s topic e at q r x there is step =
     ap (λ z. (q, z)) is
     ∙ ap (λ (z : (World × List TopicPartition) × Result ℤ PartitionFault). (z.0, deletion_answered e.partition z.1))
     (step ∙ ap (λ o. deleted_in s o e.offset) there)
+
+-- records that were deleted, and their place told
+pub deletion_told : (a b : Scene Seen) (old new : List TopicPartition) (place : TopicPartition) (asked offset found start : ℤ) (r : Result ℤ PartitionFault) → asked ≡ offset → found ≡ start → r ≡ Ok start → new ≡ old ++ place ∷ []
+    → Deletes a b ((b.state.world, r) ≡ delete_records a.state.world place asked) (IsDeletionWant a b) r
+    → let x : Result ℤ PartitionFault = Ok found in Deletes a b (((b.state.world, new), x) ≡ deleted_at (a.state.world, old) place offset) (IsDeletionWant a b) x
+deletion_told a b old new place asked offset found start r same one is more told =
+    ⊎_elim
+    (λ done. inl (done_so a b ((b.state.world, given start) ≡ delete_records a.state.world place asked) (((b.state.world, new), given found) ≡ deleted_at (a.state.world, old) place offset) so done))
+    (λ left. inr (record { counted = left.counted; met = λ honest agree. so (left.met honest agree) }))
+    (subst (λ z. Deletes a b ((b.state.world, z) ≡ delete_records a.state.world place asked) (IsDeletionWant a b) z) is told)
+  where
+    given : ℤ → Result ℤ PartitionFault
+    given n = Ok n
+
+    so : (b.state.world, given start) ≡ delete_records a.state.world place asked → ((b.state.world, new), given found) ≡ deleted_at (a.state.world, old) place offset
+    so e =
+        ap (λ n. ((b.state.world, new), given n)) one ∙ ap (λ (places : List TopicPartition). ((b.state.world, places), given start)) more
+        ∙ ap (λ (x : World × Result ℤ PartitionFault). ((x.0, place_told old place x.1), x.1)) e ∙ ap (deleted_at (a.state.world, old) place) same
 
 -- in a partition that there may be
 pub entry_trimmed : (a b : Scene Seen) (old new : List TopicPartition) (topic : Option ℕ) (e : DeleteRecordsPartition) (place : TopicPartition)

@@ -1,6 +1,6 @@
 -- What a creation, a deletion, an id and a commit are answered, by what the call for it answered, whatever memory and the store
 -- refuse.
-use Rattle.std.proofs.Common.{◌≡◌, ◌⊎◌, ◌∙◌, ◌++◌, arith, inl, inr, ⊎_elim, ℕ, ℤ, Bool, List, Option, Some, None, Result, Ok, Err, ap, refl, subst, sym}
+use Rattle.std.proofs.Common.{◌≡◌, ◌⊎◌, ◌∙◌, ◌++◌, arith, inl, inr, ⊎_elim, ℕ, ℤ, Bool, false, List, Option, Some, None, Result, Ok, Err, ap, refl, subst, sym}
 use Rattle.std.specs.Prelude.{length, pos, is_some}
 use Rattle.std.specs.Int.{w32}
 use Rattle.std.specs.List.{flat_map}
@@ -32,7 +32,8 @@ use Rattle.kb_tenant_state.specs.Told.{Failed, IsCatalogWant, IsCreationWant, Is
 use Rattle.kb_tenant_state.specs.Counts.{counted_once}
 use Rattle.kb_tenant_state.specs.World.{World}
 use Rattle.kb_tenant_state.specs.declared.topic_partition.TopicPartition.{TopicPartition}
-use Rattle.kb_tenant.specs.CreateTopics.{code_in, made, refusal, stands_twice}
+use Rattle.kb_tenant.specs.CreateTopics.{code_in, is_too_much, made, refusal, room_in, stands_twice}
+use Rattle.kb_tenant.specs.declared.limits.DataLimits.{DataLimits}
 use Rattle.kb_tenant.specs.DeleteTopics.{deleted, deleted_topic, places_at}
 use Rattle.kb_tenant.specs.InitProducerId.{id_refused, init_producer_id}
 use Rattle.kb_tenant.specs.Told.{CatalogFailed, CreationFailed, IsCommitTold, IsCommitTopicTold, IsCreationTold, IsDeleted, IsDeletionTold, IsFaultOf, IsIssueTold, IsRemovalTold, IsTold, IsWantCode}
@@ -48,14 +49,14 @@ use Rattle.kb_tenant.proofs.Telling.{done_so}
 
 -- ---- a topic is made
 
-pub made_told : (a b : Scene Seen) (t : CreateTopic) (twice there : Bool) (name : List ℕ) (partitions : ℤ) (config : TopicConfig) (r : Result (Unit {0}) CatalogFault) (code : ℤ)
+pub made_told : (limits : DataLimits) (a b : Scene Seen) (t : CreateTopic) (twice there : Bool) (name : List ℕ) (partitions : ℤ) (config : TopicConfig) (full : Bool) (r : Result (Unit {0}) CatalogFault) (code : ℤ)
     → there ≡ is_some (named t.name a.state.world.known.topics) → None ≡ refusal twice there t → Some config ≡ settings_in t.configs
-    → name ≡ t.name → partitions ≡ t.num_partitions → code ≡ code_in r
+    → name ≡ t.name → partitions ≡ t.num_partitions → full ≡ is_too_much limits (room_in limits a.state.world.known) partitions → full ≡ false → code ≡ code_in r
     → Tells a b ((b.state.world, r) ≡ create a.state.world name partitions config) (IsCreationWant a b) r
-    → IsTold a b ((b.state.world, code) ≡ made twice a.state.world t) (IsFaultOf (IsCreationWant a b) code)
-made_told a b t twice there name partitions config r code at is some one many here told =
-    fault_told a b (IsCreationWant a b) ((b.state.world, r) ≡ create a.state.world name partitions config) ((b.state.world, code) ≡ made twice a.state.world t) r code
-    (λ made. made_set a.state.world b.state.world t twice there name partitions config r code at is some one many made here) here told
+    → IsTold a b ((b.state.world, code) ≡ made limits twice a.state.world t) (IsFaultOf (IsCreationWant a b) code)
+made_told limits a b t twice there name partitions config full r code at is some one many past under here told =
+    fault_told a b (IsCreationWant a b) ((b.state.world, r) ≡ create a.state.world name partitions config) ((b.state.world, code) ≡ made limits twice a.state.world t) r code
+    (λ made. made_set limits a.state.world b.state.world t twice there name partitions config full r code at is some one many past under made here) here told
 
 -- ---- a topic is deleted
 
@@ -139,30 +140,30 @@ catalog_wants a b code step honest agree is = fault_wants (IsCatalogWant a b) (C
 code_so : (P Q : Type 0) → (P → Q) → (code : ℤ) → IsWantCode P code → IsWantCode Q code
 code_so P Q f code = ⊎_elim (λ store. inl (store.0, f store.1)) (λ memory. inr memory)
 
-creation_so : (P Q : Type 0) → (P → Q) → (ts : List CreateTopic) (w : World) (t : CreateTopic) (v : World) (x : CreateTopicReply) → IsCreationTold P ts w t v x → IsCreationTold Q ts w t v x
-creation_so P Q f ts w t v x = ⊎_elim (λ done. inl done) (λ refused. inr (refused.0, (refused.1.0, code_so P Q f x.error_code refused.1.1)))
+creation_so : (P Q : Type 0) → (P → Q) → (limits : DataLimits) (ts : List CreateTopic) (w : World) (t : CreateTopic) (v : World) (x : CreateTopicReply) → IsCreationTold P limits ts w t v x → IsCreationTold Q limits ts w t v x
+creation_so P Q f limits ts w t v x = ⊎_elim (λ done. inl done) (λ refused. inr (refused.0, (refused.1.0, code_so P Q f x.error_code refused.1.1)))
 
 removal_so : (P Q : Type 0) → (P → Q) → (s : World × List TopicPartition) (name : List ℕ) (t : World × List TopicPartition) (x : DeleteTopicReply) → IsRemovalTold P s name t x → IsRemovalTold Q s name t x
 removal_so P Q f s name t x = ⊎_elim (λ done. inl done) (λ refused. inr (refused.0, (refused.1.0, code_so P Q f x.error_code refused.1.1)))
 
-commit_so : (P Q : Type 0) → (P → Q) → (refusal : Option ℤ) (group : List ℕ) (topic : Option ℕ) (w : World) (e : CommitPartition) (v : World) (x : CommitPartitionReply)
-    → IsCommitTold P refusal group topic w e v x → IsCommitTold Q refusal group topic w e v x
-commit_so P Q f refusal group topic w e v x = ⊎_elim (λ done. inl done) (λ refused. inr (refused.0, (refused.1.0, code_so P Q f x.error_code refused.1.1)))
+commit_so : (P Q : Type 0) → (P → Q) → (limits : DataLimits) (refusal : Option ℤ) (group : List ℕ) (topic : Option ℕ) (w : World) (e : CommitPartition) (v : World) (x : CommitPartitionReply)
+    → IsCommitTold P limits refusal group topic w e v x → IsCommitTold Q limits refusal group topic w e v x
+commit_so P Q f limits refusal group topic w e v x = ⊎_elim (λ done. inl done) (λ refused. inr (refused.0, (refused.1.0, code_so P Q f x.error_code refused.1.1)))
 
-commit_topic_so : (P Q : Type 0) → (P → Q) → (refusal : Option ℤ) (group : List ℕ) (w : World) (t : CommitTopic) (v : World) (x : CommitTopicReply)
-    → IsCommitTopicTold P refusal group w t v x → IsCommitTopicTold Q refusal group w t v x
-commit_topic_so P Q f refusal group w t v x told =
+commit_topic_so : (P Q : Type 0) → (P → Q) → (limits : DataLimits) (refusal : Option ℤ) (group : List ℕ) (w : World) (t : CommitTopic) (v : World) (x : CommitTopicReply)
+    → IsCommitTopicTold P limits refusal group w t v x → IsCommitTopicTold Q limits refusal group w t v x
+commit_topic_so P Q f limits refusal group w t v x told =
     let topic = named t.name w.known.topics in (
       told.0,
-      served_so (IsCommitTold P refusal group topic) (IsCommitTold Q refusal group topic) (λ s e u y. commit_so P Q f refusal group topic s e u y) w v t.partitions x.partitions told.1,
+      served_so (IsCommitTold P limits refusal group topic) (IsCommitTold Q limits refusal group topic) (λ s e u y. commit_so P Q f limits refusal group topic s e u y) w v t.partitions x.partitions told.1,
     )
 
-pub creation_told_so : (a b : Scene Seen) (ts : List CreateTopic) (t : CreateTopic) (name : List ℕ) (twice : Bool) (code sent : ℤ) → IsStep a b → name ≡ t.name → twice ≡ stands_twice t.name ts → sent ≡ code
-    → IsTold a b ((b.state.world, code) ≡ made twice a.state.world t) (IsFaultOf (IsCreationWant a b) code)
-    → WhereHonest a b (IsCreationTold (CreationFailed a b) ts a.state.world t b.state.world (record { name = name; error_code = sent }))
-creation_told_so a b ts t name twice code sent step one again same told honest agree =
+pub creation_told_so : (limits : DataLimits) (a b : Scene Seen) (ts : List CreateTopic) (t : CreateTopic) (name : List ℕ) (twice : Bool) (code sent : ℤ) → IsStep a b → name ≡ t.name → twice ≡ stands_twice t.name ts → sent ≡ code
+    → IsTold a b ((b.state.world, code) ≡ made limits twice a.state.world t) (IsFaultOf (IsCreationWant a b) code)
+    → WhereHonest a b (IsCreationTold (CreationFailed a b) limits ts a.state.world t b.state.world (record { name = name; error_code = sent }))
+creation_told_so limits a b ts t name twice code sent step one again same told honest agree =
     ⊎_elim
-    (λ done. inl (created_is a.state.world b.state.world ts t name twice code sent one again (done.met honest agree) same))
+    (λ done. inl (created_is limits a.state.world b.state.world ts t name twice code sent one again (done.met honest agree) same))
     (λ refused. inr (refused.stays honest agree, (one, subst (IsWantCode (CreationFailed a b)) (sym same) (fault_wants (IsCreationWant a b) (CreationFailed a b) code (creation_code a b step honest agree) refused.want))))
     told
 
@@ -188,12 +189,12 @@ issue_told_so a b q x step told honest agree =
     (λ refused. inr (refused.stays honest agree, (refused.want.1, catalog_wants a b x.error_code step honest agree refused.want.0)))
     told
 
-pub commit_told_so : (a b : Scene Seen) (refusal : Option ℤ) (group : List ℕ) (topic : Option ℕ) (e : CommitPartition) (partition code sent : ℤ) → IsStep a b → partition ≡ e.partition → sent ≡ code
-    → IsTold a b ((b.state.world, code) ≡ committed refusal group topic a.state.world e) (IsFaultOf (IsCatalogWant a b) code)
-    → WhereHonest a b (IsCommitTold (CatalogFailed a b) refusal group topic a.state.world e b.state.world (record { partition = partition; error_code = sent }))
-commit_told_so a b refusal group topic e partition code sent step one same told honest agree =
+pub commit_told_so : (a b : Scene Seen) (limits : DataLimits) (refusal : Option ℤ) (group : List ℕ) (topic : Option ℕ) (e : CommitPartition) (partition code sent : ℤ) → IsStep a b → partition ≡ e.partition → sent ≡ code
+    → IsTold a b ((b.state.world, code) ≡ committed limits refusal group topic a.state.world e) (IsFaultOf (IsCatalogWant a b) code)
+    → WhereHonest a b (IsCommitTold (CatalogFailed a b) limits refusal group topic a.state.world e b.state.world (record { partition = partition; error_code = sent }))
+commit_told_so a b limits refusal group topic e partition code sent step one same told honest agree =
     ⊎_elim
-    (λ done. inl (entry_is a.state.world b.state.world refusal group topic e partition sent code one same (done.met honest agree)))
+    (λ done. inl (entry_is a.state.world b.state.world limits refusal group topic e partition sent code one same (done.met honest agree)))
     (λ refused. inr (refused.stays honest agree, (one, subst (IsWantCode (CatalogFailed a b)) (sym same) (catalog_wants a b code step honest agree refused.want))))
     told
 
@@ -218,14 +219,14 @@ module _ (a b d : Scene Seen) where
   creation_since step = ⊎_elim (λ failed. inl (catalog_since step failed)) (λ used. inr used)
 
   -- so what was answered before it, and behind it, is told in both
-  pub creations_before : IsStep b d → (ts es : List CreateTopic) (w v : World) (xs : List CreateTopicReply)
-      → AreServed (IsCreationTold (CreationFailed a b) ts) w es v xs → AreServed (IsCreationTold (CreationFailed a d) ts) w es v xs
-  creations_before step ts es w v xs told =
-      served_so (IsCreationTold (CreationFailed a b) ts) (IsCreationTold (CreationFailed a d) ts)
-      (λ s t u x. creation_so (CreationFailed a b) (CreationFailed a d) (creation_later step) ts s t u x) w v es xs told
+  pub creations_before : IsStep b d → (limits : DataLimits) (ts es : List CreateTopic) (w v : World) (xs : List CreateTopicReply)
+      → AreServed (IsCreationTold (CreationFailed a b) limits ts) w es v xs → AreServed (IsCreationTold (CreationFailed a d) limits ts) w es v xs
+  creations_before step limits ts es w v xs told =
+      served_so (IsCreationTold (CreationFailed a b) limits ts) (IsCreationTold (CreationFailed a d) limits ts)
+      (λ s t u x. creation_so (CreationFailed a b) (CreationFailed a d) (creation_later step) limits ts s t u x) w v es xs told
 
-  pub creation_behind : IsStep a b → (ts : List CreateTopic) (w : World) (t : CreateTopic) (v : World) (x : CreateTopicReply)
-      → IsCreationTold (CreationFailed b d) ts w t v x → IsCreationTold (CreationFailed a d) ts w t v x
+  pub creation_behind : IsStep a b → (limits : DataLimits) (ts : List CreateTopic) (w : World) (t : CreateTopic) (v : World) (x : CreateTopicReply)
+      → IsCreationTold (CreationFailed b d) limits ts w t v x → IsCreationTold (CreationFailed a d) limits ts w t v x
   creation_behind step = creation_so (CreationFailed b d) (CreationFailed a d) (creation_since step)
 
   pub removals_before : IsStep b d → (names : List (List ℕ)) (s t : World × List TopicPartition) (xs : List DeleteTopicReply)
@@ -238,57 +239,57 @@ module _ (a b d : Scene Seen) where
       → IsRemovalTold (CatalogFailed b d) s name t x → IsRemovalTold (CatalogFailed a d) s name t x
   removal_behind step = removal_so (CatalogFailed b d) (CatalogFailed a d) (catalog_since step)
 
-  module _ (refusal : Option ℤ) (group : List ℕ) where
+  module _ (limits : DataLimits) (refusal : Option ℤ) (group : List ℕ) where
     pub commits_before : IsStep b d → (topic : Option ℕ) (es : List CommitPartition) (w v : World) (xs : List CommitPartitionReply)
-        → AreServed (IsCommitTold (CatalogFailed a b) refusal group topic) w es v xs → AreServed (IsCommitTold (CatalogFailed a d) refusal group topic) w es v xs
+        → AreServed (IsCommitTold (CatalogFailed a b) limits refusal group topic) w es v xs → AreServed (IsCommitTold (CatalogFailed a d) limits refusal group topic) w es v xs
     commits_before step topic es w v xs told =
-        served_so (IsCommitTold (CatalogFailed a b) refusal group topic) (IsCommitTold (CatalogFailed a d) refusal group topic)
-        (λ s e t x. commit_so (CatalogFailed a b) (CatalogFailed a d) (catalog_later step) refusal group topic s e t x) w v es xs told
+        served_so (IsCommitTold (CatalogFailed a b) limits refusal group topic) (IsCommitTold (CatalogFailed a d) limits refusal group topic)
+        (λ s e t x. commit_so (CatalogFailed a b) (CatalogFailed a d) (catalog_later step) limits refusal group topic s e t x) w v es xs told
 
     pub commit_behind : IsStep a b → (topic : Option ℕ) (w : World) (e : CommitPartition) (v : World) (x : CommitPartitionReply)
-        → IsCommitTold (CatalogFailed b d) refusal group topic w e v x → IsCommitTold (CatalogFailed a d) refusal group topic w e v x
-    commit_behind step topic = commit_so (CatalogFailed b d) (CatalogFailed a d) (catalog_since step) refusal group topic
+        → IsCommitTold (CatalogFailed b d) limits refusal group topic w e v x → IsCommitTold (CatalogFailed a d) limits refusal group topic w e v x
+    commit_behind step topic = commit_so (CatalogFailed b d) (CatalogFailed a d) (catalog_since step) limits refusal group topic
 
     pub commit_topics_before : IsStep b d → (ts : List CommitTopic) (w v : World) (xs : List CommitTopicReply)
-        → AreServed (IsCommitTopicTold (CatalogFailed a b) refusal group) w ts v xs → AreServed (IsCommitTopicTold (CatalogFailed a d) refusal group) w ts v xs
+        → AreServed (IsCommitTopicTold (CatalogFailed a b) limits refusal group) w ts v xs → AreServed (IsCommitTopicTold (CatalogFailed a d) limits refusal group) w ts v xs
     commit_topics_before step ts w v xs told =
-        served_so (IsCommitTopicTold (CatalogFailed a b) refusal group) (IsCommitTopicTold (CatalogFailed a d) refusal group)
-        (λ s t u x. commit_topic_so (CatalogFailed a b) (CatalogFailed a d) (catalog_later step) refusal group s t u x) w v ts xs told
+        served_so (IsCommitTopicTold (CatalogFailed a b) limits refusal group) (IsCommitTopicTold (CatalogFailed a d) limits refusal group)
+        (λ s t u x. commit_topic_so (CatalogFailed a b) (CatalogFailed a d) (catalog_later step) limits refusal group s t u x) w v ts xs told
 
     pub commit_topic_behind : IsStep a b → (w : World) (t : CommitTopic) (v : World) (x : CommitTopicReply)
-        → IsCommitTopicTold (CatalogFailed b d) refusal group w t v x → IsCommitTopicTold (CatalogFailed a d) refusal group w t v x
-    commit_topic_behind step = commit_topic_so (CatalogFailed b d) (CatalogFailed a d) (catalog_since step) refusal group
+        → IsCommitTopicTold (CatalogFailed b d) limits refusal group w t v x → IsCommitTopicTold (CatalogFailed a d) limits refusal group w t v x
+    commit_topic_behind step = commit_topic_so (CatalogFailed b d) (CatalogFailed a d) (catalog_since step) limits refusal group
 
 -- ---- the replies for a group's commit
 
 -- a topic's name, the count of its entries and what they were answered
-pub commit_topic_told_so : (failed : Type 0) (refusal : Option ℤ) (group : List ℕ) (topic : Option ℕ) (w v : World) (t : CommitTopic) (name : List ℕ) (entries : List CommitPartition) (n : ℕ) (out out1 out2 out3 : List ℕ)
+pub commit_topic_told_so : (failed : Type 0) (limits : DataLimits) (refusal : Option ℤ) (group : List ℕ) (topic : Option ℕ) (w v : World) (t : CommitTopic) (name : List ℕ) (entries : List CommitPartition) (n : ℕ) (out out1 out2 out3 : List ℕ)
     → name ≡ t.name → entries ≡ t.partitions → n ≡ length t.partitions → topic ≡ named t.name w.known.topics
     → out1 ≡ out ++ string.written name → out2 ≡ out1 ++ (count w32).written n
-    → (replies : List CommitPartitionReply) × ((out3 ≡ out2 ++ flat_map commit_partition_reply.written replies) × AreServed (IsCommitTold failed refusal group topic) w entries v replies)
-    → (reply : CommitTopicReply) × ((out3 ≡ out ++ commit_topic_reply.written reply) × IsCommitTopicTold failed refusal group w t v reply)
+    → (replies : List CommitPartitionReply) × ((out3 ≡ out2 ++ flat_map commit_partition_reply.written replies) × AreServed (IsCommitTold failed limits refusal group topic) w entries v replies)
+    → (reply : CommitTopicReply) × ((out3 ≡ out ++ commit_topic_reply.written reply) × IsCommitTopicTold failed limits refusal group w t v reply)
 unfolding commit_topic_reply
-commit_topic_told_so failed refusal group topic w v t name entries n out out1 out2 out3 nis eis lis tis first second told =
+commit_topic_told_so failed limits refusal group topic w v t name entries n out out1 out2 out3 nis eis lis tis first second told =
     let instance = named t.name w.known.topics in
     let replies : List CommitPartitionReply = told.0 in
     let all = flat_map commit_partition_reply.written replies in
-    let told_of : AreServed (IsCommitTold failed refusal group instance) w t.partitions v replies =
-    subst (λ es. AreServed (IsCommitTold failed refusal group instance) w es v replies) eis (subst (λ i. AreServed (IsCommitTold failed refusal group i) w entries v replies) tis told.1.1) in
-    let many : n ≡ length replies = lis ∙ sym (served_length (IsCommitTold failed refusal group instance) w v t.partitions replies told_of) in
+    let told_of : AreServed (IsCommitTold failed limits refusal group instance) w t.partitions v replies =
+    subst (λ es. AreServed (IsCommitTold failed limits refusal group instance) w es v replies) eis (subst (λ i. AreServed (IsCommitTold failed limits refusal group i) w entries v replies) tis told.1.1) in
+    let many : n ≡ length replies = lis ∙ sym (served_length (IsCommitTold failed limits refusal group instance) w v t.partitions replies told_of) in
     let tail = written_both out1 out2 out3 ((count w32).written n) all second told.1.0 ∙ ap (λ x. out1 ++ x) (array_written commit_partition_reply replies n many) in
     let bytes : out3 ≡ out ++ (string.written t.name ++ (array commit_partition_reply).written replies) =
     written_both out out1 out3 (string.written t.name) ((array commit_partition_reply).written replies) (first ∙ ap (λ m. out ++ string.written m) nis) tail in
     (record { name = t.name; partitions = replies }, (bytes, (refl, told_of)))
 
 -- the count of the topics, and what they were answered
-pub commits_told_so : (failed : Type 0) (q : OffsetCommitRequest) (refusal : Option ℤ) (group : List ℕ) (w v : World) (n : ℕ) (out out1 out2 : List ℕ)
+pub commits_told_so : (failed : Type 0) (q : OffsetCommitRequest) (limits : DataLimits) (refusal : Option ℤ) (group : List ℕ) (w v : World) (n : ℕ) (out out1 out2 : List ℕ)
     → group ≡ q.group_id → n ≡ length q.topics → out1 ≡ out ++ (count w32).written n
-    → (replies : List CommitTopicReply) × ((out2 ≡ out1 ++ flat_map commit_topic_reply.written replies) × AreServed (IsCommitTopicTold failed refusal group) w q.topics v replies)
-    → (reply : OffsetCommitReply) × ((out2 ≡ out ++ offset_commit_reply.written reply) × AreServed (IsCommitTopicTold failed refusal q.group_id) w q.topics v reply.topics)
+    → (replies : List CommitTopicReply) × ((out2 ≡ out1 ++ flat_map commit_topic_reply.written replies) × AreServed (IsCommitTopicTold failed limits refusal group) w q.topics v replies)
+    → (reply : OffsetCommitReply) × ((out2 ≡ out ++ offset_commit_reply.written reply) × AreServed (IsCommitTopicTold failed limits refusal q.group_id) w q.topics v reply.topics)
 unfolding offset_commit_reply
-commits_told_so failed q refusal group w v n out out1 out2 gis lis first told =
+commits_told_so failed q limits refusal group w v n out out1 out2 gis lis first told =
     let replies : List CommitTopicReply = told.0 in
-    let told_of : AreServed (IsCommitTopicTold failed refusal q.group_id) w q.topics v replies = subst (λ g. AreServed (IsCommitTopicTold failed refusal g) w q.topics v replies) gis told.1.1 in
-    let many : n ≡ length replies = lis ∙ sym (served_length (IsCommitTopicTold failed refusal q.group_id) w v q.topics replies told_of) in
+    let told_of : AreServed (IsCommitTopicTold failed limits refusal q.group_id) w q.topics v replies = subst (λ g. AreServed (IsCommitTopicTold failed limits refusal g) w q.topics v replies) gis told.1.1 in
+    let many : n ≡ length replies = lis ∙ sym (served_length (IsCommitTopicTold failed limits refusal q.group_id) w v q.topics replies told_of) in
     let bytes = written_both out out1 out2 ((count w32).written n) (flat_map commit_topic_reply.written replies) first told.1.0 ∙ ap (λ x. out ++ x) (array_written commit_topic_reply replies n many) in
     (record { topics = replies }, (bytes, told_of))

@@ -34,14 +34,14 @@ IsAnswerOrShut id reaction answer = IsAnswer id reaction answer ⊎ (answer ≡ 
 -- the store failed meanwhile, `full` that the catalog's log has no room.
 pub record IsTruthful (failed full : Type 0) (node : Node) (clock n : ℕ) (key version id : ℤ) (body : List ℕ) (w v : World)
     (touched : List TopicPartition) (answer : Answer) : Type 0 where
-  pub produced : key ≡ PRODUCE → Acknowledges failed id w body v touched answer
+  pub produced : key ≡ PRODUCE → Acknowledges failed node.limits.bytes id w body v touched answer
   pub spared : key ≡ PRODUCE → IsSpared w body v answer
   pub fetched : key ≡ FETCH → AnswersFetch failed id version w clock body answer
   pub listed : key ≡ LIST_OFFSETS → AnswersListing failed id w body answer
-  pub created : key ≡ CREATE_TOPICS → AcknowledgesCreations ((failed ⊎ full) ⊎ AreInstancesGivenOut v) id version w body v answer
+  pub created : key ≡ CREATE_TOPICS → AcknowledgesCreations ((failed ⊎ full) ⊎ AreInstancesGivenOut v) node.limits id version w body v answer
   pub removed : key ≡ DELETE_TOPICS → AcknowledgesRemovals (failed ⊎ full) id version w body v touched answer
   pub trimmed : key ≡ DELETE_RECORDS → AcknowledgesDeletions (failed ⊎ full) id w body v touched answer
   pub issued : key ≡ INIT_PRODUCER_ID → AcknowledgesIssue (failed ⊎ full) id w body v answer
-  pub committed : key ≡ OFFSET_COMMIT → AcknowledgesCommits (failed ⊎ full) id w body v answer
+  pub committed : key ≡ OFFSET_COMMIT → AcknowledgesCommits (failed ⊎ full) node.limits id w body v answer
   pub looked_up : LooksUp key → IsAnswerOrShut id (plainly_served node w clock n key version body).reaction answer
   pub stays : OnlyReads key → v ≡ w

@@ -4,9 +4,11 @@ pub mod Counted
 pub mod CreateTopics
 pub mod DeleteRecords
 pub mod DeleteTopics
+pub mod Entries
 pub mod Fetch
 pub mod FindCoordinator
 pub mod InitProducerId
+pub mod Limits
 pub mod ListOffsets
 pub mod Metadata
 pub mod OffsetCommit

@@ -1,7 +1,8 @@
 -- OffsetCommit (Kafka protocol guide, "The Messages: OffsetCommit", version 2): a group records how far it has processed partitions.
 -- Whether all entries of a request are refused is a parameter of `committed_all`. This crate's own `served` is that of a tenant whose
 -- groups have no members: there only a consumer that chooses its partitions itself commits, and it names a generation below 0.
-use Rattle.std.specs.Prelude.{ℕ, ℤ, pos, List, [], length, Option, Some, None, int_lt, ◌==◌, if◌then◌else◌}
+use Rattle.std.specs.Prelude.{ℕ, ℤ, pos, Bool, true, false, List, [], ◌+◌, length, Option, Some, None, is_some, not, int_lt, ◌==◌, ◌&&◌}
+use Rattle.std.specs.Prelude.{if◌then◌else◌}
 use Rattle.kb_wire.specs.ErrorCode.{code_of}
 use Rattle.kb_wire.specs.declared.error_code.ErrorCode.TheVariants as codes
 use Rattle.kb_api_group.specs.declared.offset_commit.CommitPartition.{CommitPartition}
@@ -11,11 +12,15 @@ use Rattle.kb_api_group.specs.declared.offset_commit.CommitTopicReply.{CommitTop
 use Rattle.kb_api_group.specs.declared.offset_commit.OffsetCommitRequest.{OffsetCommitRequest}
 use Rattle.kb_api_group.specs.declared.offset_commit.OffsetCommitReply.{OffsetCommitReply}
 use Rattle.kb_topics.specs.Known.{named}
-use Rattle.kb_tenant_state.specs.Calls.{commit}
+use Rattle.kb_topics.specs.Refusals.{commit_refusal}
+use Rattle.kb_tenant_state.specs.Calls.{commit, committed as committed_to, known_at}
+use Rattle.kb_tenant_state.specs.Stored.{offsets_in}
 use Rattle.kb_tenant_state.specs.World.{World, place_in}
 use Rattle.kb_tenant_state.specs.declared.topic_partition.TopicPartition.{TopicPartition}
 use Rattle.kb_tenant.specs.CreateTopics.{code_in}
+use Rattle.kb_tenant.specs.Limits.{is_past}
 use Rattle.kb_tenant.specs.Turns.{in_turn}
+use Rattle.kb_tenant.specs.declared.limits.DataLimits.{DataLimits}
 
 -- what each entry is refused for, where groups have no members: the group has no name, or a member of it commits, and it has none
 abbrev pub refusal_of : List ℕ → ℤ → Option ℤ
@@ -30,30 +35,46 @@ metadata_in (Some text) = text
 
 -- ---- one entry, its answer an error code
 
-abbrev pub committed_at : World → Option TopicPartition → List ℕ → CommitPartition → World × ℤ
-committed_at w None group e = (w, code_of codes.UnknownTopicOrPartition)
-committed_at w (Some place) group e = let r = commit w place group e.offset (metadata_in e.metadata) in (r.0, code_in r.1)
+-- whether the partition is there, and takes what is to be kept beside the offset
+abbrev pub is_takeable : World → TopicPartition → List ℕ → Bool
+is_takeable w place metadata = not (is_some (commit_refusal metadata (known_at w.known place)))
+
+-- Whether an offset is one more than the tenant may have: nothing else refuses it, and its group has committed none to the partition.
+abbrev pub is_one_too_many : DataLimits → World → TopicPartition → List ℕ → List ℕ → Bool
+is_one_too_many limits w place group metadata =
+    is_takeable w place metadata && (not (is_some (committed_to w place group)) && is_past limits.offsets (offsets_in w.known + 1))
+
+abbrev pub committed_unless_full : Bool → World → TopicPartition → List ℕ → ℤ → List ℕ → World × ℤ
+committed_unless_full true w place group offset metadata = (w, code_of codes.PolicyViolation)
+committed_unless_full false w place group offset metadata = let r = commit w place group offset metadata in (r.0, code_in r.1)
+
+abbrev pub committed_at : DataLimits → World → Option TopicPartition → List ℕ → CommitPartition → World × ℤ
+committed_at limits w None group e = (w, code_of codes.UnknownTopicOrPartition)
+committed_at limits w (Some place) group e =
+    let metadata = metadata_in e.metadata in
+    committed_unless_full (is_one_too_many limits w place group metadata) w place group e.offset metadata
 
 -- An entry of the topic of an instance: its partition gets the group's offset, unless the whole request is refused.
-abbrev pub committed : Option ℤ → List ℕ → Option ℕ → World → CommitPartition → World × ℤ
-committed (Some code) group topic w e = (w, code)
-committed None group topic w e = committed_at w (place_in topic e.partition) group e
+abbrev pub committed : DataLimits → Option ℤ → List ℕ → Option ℕ → World → CommitPartition → World × ℤ
+committed limits (Some code) group topic w e = (w, code)
+committed limits None group topic w e = committed_at limits w (place_in topic e.partition) group e
 
 abbrev pub commit_answered : ℤ → World × ℤ → World × CommitPartitionReply
 commit_answered partition r = (r.0, record { partition = partition; error_code = r.1 })
 
-abbrev pub committed_entry : Option ℤ → List ℕ → Option ℕ → World → CommitPartition → World × CommitPartitionReply
-committed_entry refusal group topic w e = commit_answered e.partition (committed refusal group topic w e)
+abbrev pub committed_entry : DataLimits → Option ℤ → List ℕ → Option ℕ → World → CommitPartition → World × CommitPartitionReply
+committed_entry limits refusal group topic w e = commit_answered e.partition (committed limits refusal group topic w e)
 
 -- ---- all of them, in turn
 
 abbrev pub answered_topic : List ℕ → World × List CommitPartitionReply → World × CommitTopicReply
 answered_topic name r = (r.0, record { name = name; partitions = r.1 })
 
-abbrev pub committed_topic : Option ℤ → List ℕ → World → CommitTopic → World × CommitTopicReply
-committed_topic refusal group w t =
-    answered_topic t.name (in_turn (committed_entry refusal group (named t.name w.known.topics)) w t.partitions)
+abbrev pub committed_topic : DataLimits → Option ℤ → List ℕ → World → CommitTopic → World × CommitTopicReply
+committed_topic limits refusal group w t =
+    answered_topic t.name (in_turn (committed_entry limits refusal group (named t.name w.known.topics)) w t.partitions)
 
 -- The entries are served in order, each on what the one before it left, or all are refused.
-abbrev pub committed_all : World → Option ℤ → OffsetCommitRequest → World × OffsetCommitReply
-committed_all w refusal q = let r = in_turn (committed_topic refusal q.group_id) w q.topics in (r.0, record { topics = r.1 })
+abbrev pub committed_all : DataLimits → World → Option ℤ → OffsetCommitRequest → World × OffsetCommitReply
+committed_all limits w refusal q =
+    let r = in_turn (committed_topic limits refusal q.group_id) w q.topics in (r.0, record { topics = r.1 })

@@ -1,7 +1,7 @@
 -- Produce (Kafka protocol guide, "The Messages: Produce"): each entry offers a batch to a partition, and is answered with the batch's
 -- base offset or an error code.
 use Rattle.std.specs.Prelude.{ℕ, zero, suc, ℤ, pos, negsuc, Bool, true, false, List, [], ◌∷◌, ◌++◌, Option, Some, None, Result, Ok, Err}
-use Rattle.std.specs.Prelude.{nat_lt, option_map, not, ◌||◌, if◌then◌else◌}
+use Rattle.std.specs.Prelude.{length, nat_lt, option_map, not, ◌||◌, if◌then◌else◌}
 use Rattle.std.specs.Ordering.{int_eq}
 use Rattle.kb_batch.specs.Batch.{first_fault}
 use Rattle.kb_batch.specs.Header.{producer_id_of}
@@ -25,6 +25,8 @@ use Rattle.kb_tenant_state.specs.Logs.{LogState}
 use Rattle.kb_tenant_state.specs.declared.fault.PartitionFault.{PartitionFault}
 use Rattle.kb_tenant_state.specs.World.{World, log_in, place_in}
 use Rattle.kb_tenant_state.specs.Calls.{append, judged}
+use Rattle.kb_tenant.specs.Limits.{is_past, left_of}
+use Rattle.kb_tenant_state.specs.Stored.{stored_in}
 use Rattle.kb_tenant.specs.Turns.{in_turn}
 use Rattle.kb_tenant_state.specs.declared.topic_partition.TopicPartition.{TopicPartition}
 
@@ -84,19 +86,27 @@ abbrev pub appended_at : Progress → TopicPartition → World × Result ℤ Par
 appended_at p place (w, Ok base) = (progress w (p.touched ++ place ∷ []), Ok base)
 appended_at p place (w, Err f) = (progress w p.touched, Err (partition_code f))
 
-abbrev pub decided : Progress → TopicPartition → List ℕ → Option Verdict → Progress × Result ℤ ℤ
-decided p place batch None = (p, Err (code_of error.UnknownTopicOrPartition))
-decided p place batch (Some Append) = appended_at p place (append p.world place batch)
-decided p place batch (Some (Repeat base)) = (p, Ok base)
-decided p place batch (Some (Refuse code)) = (p, Err code)
+-- whether a tenant that may have so many bytes of batches may not have this one, too
+abbrev pub is_full : Option ℕ → World → List ℕ → Bool
+is_full limit w batch = is_past (left_of limit (stored_in w)) (length batch)
 
--- A batch for a partition is appended, unless it is there already or is refused.
-abbrev pub offered : Progress → TopicPartition → List ℕ → Progress × Result ℤ ℤ
-offered p place batch = decided p place batch (verdict_on p.world place batch)
+abbrev pub appended_unless_full : Bool → Progress → TopicPartition → List ℕ → Progress × Result ℤ ℤ
+appended_unless_full true p place batch = (p, Err (code_of error.PolicyViolation))
+appended_unless_full false p place batch = appended_at p place (append p.world place batch)
 
-abbrev pub offered_unless : Progress → TopicPartition → Result (List ℕ) ℤ → Progress × Result ℤ ℤ
-offered_unless p place (Ok batch) = offered p place batch
-offered_unless p place (Err code) = (p, Err code)
+abbrev pub decided : Option ℕ → Progress → TopicPartition → List ℕ → Option Verdict → Progress × Result ℤ ℤ
+decided limit p place batch None = (p, Err (code_of error.UnknownTopicOrPartition))
+decided limit p place batch (Some Append) = appended_unless_full (is_full limit p.world batch) p place batch
+decided limit p place batch (Some (Repeat base)) = (p, Ok base)
+decided limit p place batch (Some (Refuse code)) = (p, Err code)
+
+-- A batch for a partition is appended, unless it is there already, is refused, or is past the tenant's limit of bytes.
+abbrev pub offered : Option ℕ → Progress → TopicPartition → List ℕ → Progress × Result ℤ ℤ
+offered limit p place batch = decided limit p place batch (verdict_on p.world place batch)
+
+abbrev pub offered_unless : Option ℕ → Progress → TopicPartition → Result (List ℕ) ℤ → Progress × Result ℤ ℤ
+offered_unless limit p place (Ok batch) = offered limit p place batch
+offered_unless limit p place (Err code) = (p, Err code)
 
 -- the place, if a partition is there
 abbrev pub known_place : World → Option TopicPartition → Option TopicPartition
@@ -104,9 +114,9 @@ known_place w None = None
 known_place w (Some place) = option_map (λ (l : LogState). place) (log_in w place)
 
 -- An unknown partition is answered before the batch is looked at.
-abbrev pub tried : Progress → Option TopicPartition → Option (List ℕ) → Progress × Result ℤ ℤ
-tried p None records = (p, Err (code_of error.UnknownTopicOrPartition))
-tried p (Some place) records = offered_unless p place (batch_in records)
+abbrev pub tried : Option ℕ → Progress → Option TopicPartition → Option (List ℕ) → Progress × Result ℤ ℤ
+tried limit p None records = (p, Err (code_of error.UnknownTopicOrPartition))
+tried limit p (Some place) records = offered_unless limit p place (batch_in records)
 
 -- the reply for an entry
 abbrev pub answer : ℤ → Result ℤ ℤ → ProducePartitionReply
@@ -117,25 +127,26 @@ abbrev pub produce_answered : ℤ → Progress × Result ℤ ℤ → Progress ×
 produce_answered index r = (r.0, answer index r.1)
 
 -- An entry of a topic: its partition gets the batch, unless the whole request is refused.
-abbrev pub entry_served : Option ℤ → Option ℕ → Progress → ProducePartition → Progress × ProducePartitionReply
-entry_served (Some code) topic p e = (p, answer e.index (Err code))
-entry_served None topic p e = produce_answered e.index (tried p (known_place p.world (place_in topic e.index)) e.records)
+abbrev pub entry_served : Option ℕ → Option ℤ → Option ℕ → Progress → ProducePartition → Progress × ProducePartitionReply
+entry_served limit (Some code) topic p e = (p, answer e.index (Err code))
+entry_served limit None topic p e = produce_answered e.index (tried limit p (known_place p.world (place_in topic e.index)) e.records)
 
 -- ---- all of them, in turn
 
 abbrev pub answered_topic : List ℕ → Progress × List ProducePartitionReply → Progress × ProduceTopicReply
 answered_topic name r = (r.0, record { name = name; partitions = r.1 })
 
-abbrev pub served_topic : Option ℤ → Progress → ProduceTopic → Progress × ProduceTopicReply
-served_topic refusal p t = answered_topic t.name (in_turn (entry_served refusal (named t.name p.world.known.topics)) p t.partitions)
+abbrev pub served_topic : Option ℕ → Option ℤ → Progress → ProduceTopic → Progress × ProduceTopicReply
+served_topic limit refusal p t =
+    answered_topic t.name (in_turn (entry_served limit refusal (named t.name p.world.known.topics)) p t.partitions)
 
 abbrev pub replied : Progress × List ProduceTopicReply → Progress × ProduceReply
 replied r = (r.0, record { topics = r.1; throttle_time_ms = pos 0 })
 
 -- what a produce makes of a world and of the places where batches were appended before it, and its reply
-abbrev pub produced : World → List TopicPartition → ProduceRequest → Progress × ProduceReply
-produced w touched request =
-    replied (in_turn (served_topic (refusal_of request.transactional_id request.acks)) (progress w touched) request.topics)
+abbrev pub produced : Option ℕ → World → List TopicPartition → ProduceRequest → Progress × ProduceReply
+produced limit w touched request =
+    replied (in_turn (served_topic limit (refusal_of request.transactional_id request.acks)) (progress w touched) request.topics)
 
 -- one reply, written behind what was written before
 abbrev pub written_next : {S A : Type 0} → (A → List ℕ) → List ℕ → S × A → S × List ℕ

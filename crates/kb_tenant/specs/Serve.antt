@@ -28,6 +28,8 @@ use Rattle.kb_tenant_state.specs.declared.topic_partition.TopicPartition.{TopicP
 use Rattle.kb_tenant.specs.CreateTopics.{asked_creations, checked_all, created_all, creations_in, made_of}
 use Rattle.kb_tenant.specs.DeleteRecords.{deleted_all as records_deleted}
 use Rattle.kb_tenant.specs.DeleteTopics.{deleted_all, deletions_in}
+use Rattle.kb_tenant.specs.Entries.{commit_entries, create_topics_entries, delete_records_entries, delete_topics_entries, fetch_entries}
+use Rattle.kb_tenant.specs.Entries.{list_offsets_entries, metadata_entries, offset_fetch_entries, produce_entries, within}
 use Rattle.kb_tenant.specs.Fetch.{asked_fetch, deadline_of, fetch_answer, places_of, fetched_in}
 use Rattle.kb_tenant.specs.FindCoordinator.{coordinator}
 use Rattle.kb_tenant.specs.InitProducerId.{init_producer_id}
@@ -39,6 +41,7 @@ use Rattle.kb_tenant.specs.Produce.{produced, is_due}
 use Rattle.kb_tenant.specs.Replies.{Reaction, Replies, Waits, Silent, Shuts, IsAnswer}
 use Rattle.kb_tenant.specs.declared.answer.Answer.{Answer}
 use Rattle.kb_tenant.specs.declared.answer.Answer.TheVariants as answers
+use Rattle.kb_tenant.specs.declared.limits.DataLimits.{DataLimits}
 use Rattle.kb_tenant.specs.declared.node.Node.{Node}
 
 -- the world after a request, the partitions that it changed, in order, and what it comes to
@@ -54,9 +57,9 @@ stays w r = record { world = w; touched = []; reaction = r }
 -- ---- by API
 
 -- acks 0 has no reply
-abbrev pub of_produce : World → ProduceRequest → Outcome
-of_produce w r =
-    let p = produced w [] r in
+abbrev pub of_produce : Option ℕ → World → ProduceRequest → Outcome
+of_produce limit w r =
+    let p = produced limit w [] r in
     record { world = p.0.world; touched = p.0.touched; reaction = if is_due r.acks then Replies (produce_reply.written p.1) else Silent }
 
 abbrev pub fetch_reaction : ℤ → World → ℕ → FetchRequest → Option FetchReplyV5 → Reaction
@@ -72,8 +75,8 @@ of_list_offsets w r = stays w (Replies (list_offsets_reply.written (list_offsets
 abbrev pub of_metadata : Node → ℤ → World → MetadataRequest → Outcome
 of_metadata node version w r = stays w (Replies (metadata_in version (metadata_of w node r)))
 
-abbrev pub of_offset_commit : World → OffsetCommitRequest → Outcome
-of_offset_commit w r = let c = committed_all w (refusal_of r.group_id r.generation_id) r in
+abbrev pub of_offset_commit : DataLimits → World → OffsetCommitRequest → Outcome
+of_offset_commit limits w r = let c = committed_all limits w (refusal_of r.group_id r.generation_id) r in
     record { world = c.0; touched = []; reaction = Replies (offset_commit_reply.written c.1) }
 
 abbrev pub of_offset_fetch : ℤ → World → OffsetFetchRequestV2 → Outcome
@@ -83,10 +86,10 @@ abbrev pub of_find_coordinator : Node → World → FindCoordinatorRequest → O
 of_find_coordinator node w r = stays w (Replies (find_coordinator_reply.written (coordinator node)))
 
 -- Where the request is only checked the world stays.
-abbrev pub of_create_topics : ℤ → World → CreateTopicsRequestV1 → Outcome
-of_create_topics version w r =
-    if r.validate_only then stays w (Replies (creations_in version (checked_all w r.topics)))
-    else let c = created_all w (made_of r) in record { world = c.0; touched = []; reaction = Replies (creations_in version c.1) }
+abbrev pub of_create_topics : DataLimits → ℤ → World → CreateTopicsRequestV1 → Outcome
+of_create_topics limits version w r =
+    if r.validate_only then stays w (Replies (creations_in version (checked_all limits w r.topics)))
+    else let c = created_all limits w (made_of r) in record { world = c.0; touched = []; reaction = Replies (creations_in version c.1) }
 
 abbrev pub of_delete_topics : ℤ → World → DeleteTopicsRequest → Outcome
 of_delete_topics version w r =
@@ -107,19 +110,27 @@ abbrev pub if_read : {A : Type 0} → World → Result A WireFault → (A → Ou
 if_read w (Ok v) f = f v
 if_read w (Err fault) f = stays w Shuts
 
--- a request on the connection of number n, at a time of the clock in milliseconds, by the key of its API
+-- a request on the connection of number n, at a time of the clock in milliseconds, by the key of its API; one that names more entries than
+-- its tenant's limit allows shuts the connection
 unfoldable pub plainly_served : Node → World → ℕ → ℕ → ℤ → ℤ → List ℕ → Outcome
 plainly_served node w clock n key version body =
-    if int_eq key PRODUCE then if_read w (whole produce_request body) (of_produce w)
-    else if int_eq key FETCH then if_read w (asked_fetch version body) (of_fetch version w clock)
-    else if int_eq key LIST_OFFSETS then if_read w (whole list_offsets_request body) (of_list_offsets w)
-    else if int_eq key METADATA then if_read w (asked_metadata version body) (of_metadata node version w)
-    else if int_eq key OFFSET_COMMIT then if_read w (whole offset_commit_request body) (of_offset_commit w)
-    else if int_eq key OFFSET_FETCH then if_read w (asked_offsets version body) (of_offset_fetch version w)
+    let limit = node.limits.request_entries in
+    if int_eq key PRODUCE then if_read w (within limit produce_entries (whole produce_request body)) (of_produce node.limits.bytes w)
+    else if int_eq key FETCH then if_read w (within limit fetch_entries (asked_fetch version body)) (of_fetch version w clock)
+    else if int_eq key LIST_OFFSETS then if_read w (within limit list_offsets_entries (whole list_offsets_request body))
+    (of_list_offsets w)
+    else if int_eq key METADATA then if_read w (within limit metadata_entries (asked_metadata version body)) (of_metadata node version w)
+    else if int_eq key OFFSET_COMMIT then if_read w (within limit commit_entries (whole offset_commit_request body))
+    (of_offset_commit node.limits w)
+    else if int_eq key OFFSET_FETCH then if_read w (within limit offset_fetch_entries (asked_offsets version body))
+    (of_offset_fetch version w)
     else if int_eq key FIND_COORDINATOR then if_read w (whole find_coordinator_request body) (of_find_coordinator node w)
-    else if int_eq key CREATE_TOPICS then if_read w (asked_creations version body) (of_create_topics version w)
-    else if int_eq key DELETE_TOPICS then if_read w (whole delete_topics_request body) (of_delete_topics version w)
-    else if int_eq key DELETE_RECORDS then if_read w (whole delete_records_request body) (of_delete_records w)
+    else if int_eq key CREATE_TOPICS then if_read w (within limit create_topics_entries (asked_creations version body))
+    (of_create_topics node.limits version w)
+    else if int_eq key DELETE_TOPICS then if_read w (within limit delete_topics_entries (whole delete_topics_request body))
+    (of_delete_topics version w)
+    else if int_eq key DELETE_RECORDS then if_read w (within limit delete_records_entries (whole delete_records_request body))
+    (of_delete_records w)
     else if int_eq key INIT_PRODUCER_ID then if_read w (whole init_producer_id_request body) (of_init_producer_id w)
     else stays w Shuts
 

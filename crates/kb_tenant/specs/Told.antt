@@ -47,13 +47,13 @@ use Rattle.kb_api_group.specs.declared.offset_commit.CommitPartitionReply.{Commi
 use Rattle.kb_api_group.specs.declared.offset_commit.CommitTopic.{CommitTopic}
 use Rattle.kb_api_group.specs.declared.offset_commit.CommitTopicReply.{CommitTopicReply}
 use Rattle.kb_store.specs.Disk.{Grew}
-use Rattle.kb_tenant_state.specs.Scene.{Scene}
+use Rattle.kb_tenant_state.specs.Scene.{Scene, WhereHonest}
 use Rattle.kb_tenant_state.specs.declared.fault.PartitionFault.{PartitionFault}
 use Rattle.kb_tenant_state.specs.declared.fault.PartitionFault.TheVariants as partition
 use Rattle.kb_tenant_state.specs.Parts.{Seen}
 use Rattle.kb_topics.specs.CatalogFault.{code_of as fault_code}
 use Rattle.kb_topics.specs.declared.fault.CatalogFault.{CatalogFault}
-use Rattle.kb_tenant_state.specs.Told.{AreInstancesUsedUp, Failed, IsDone, IsLeft, IsLogFull, IsRefused}
+use Rattle.kb_tenant_state.specs.Told.{AreInstancesUsedUp, IsDone, IsLeft, IsLogFull, IsRefused}
 use Rattle.kb_topics.specs.Known.{named}
 use Rattle.kb_tenant_state.specs.World.{World}
 use Rattle.kb_tenant_state.specs.declared.topic_partition.TopicPartition.{TopicPartition}
@@ -73,18 +73,11 @@ use Rattle.kb_tenant.specs.declared.answer.Answer.{Answer}
 use Rattle.kb_tenant.specs.declared.answer.Answer.TheVariants as answers
 use Rattle.kb_tenant.specs.declared.fetch.waiting.Fetching.{Fetching}
 use Rattle.kb_tenant.specs.declared.fetch.waiting.Fetching.TheVariants as fetching
-
--- KAFKA_STORAGE_ERROR is answered where the store failed, and UNKNOWN_SERVER_ERROR where memory ran out.
-abbrev pub IsCodeWant : Scene Seen → Scene Seen → ℤ → Type 0
-IsCodeWant a b code = ((code ≡ code_of codes.KafkaStorageError) × Failed a b) ⊎ (code ≡ code_of codes.UnknownServerError)
+use Rattle.kb_tenant.specs.declared.limits.DataLimits.{DataLimits}
 
 -- An entry did what is defined, or was refused for a want.
 abbrev pub IsTold : Scene Seen → Scene Seen → Type 0 → Type 0 → Type 0
 IsTold a b P Want = IsDone a b P ⊎ IsRefused a b Want
-
--- a batch that was refused is told nowhere
-abbrev pub IsAppendWant : Scene Seen → Scene Seen → List TopicPartition → List TopicPartition → ℤ → Type 0
-IsAppendWant a b old new code = IsCodeWant a b code × (new ≡ old)
 
 -- The code is that of a fault of the catalog, which there was a want for.
 pub record IsFaultOf (Want : CatalogFault → Type 0) (code : ℤ) : Type 0 where
@@ -108,8 +101,9 @@ IsWantCode failed code = ((code ≡ code_of codes.KafkaStorageError) × failed) 
 -- ---- topics, producer ids and committed offsets
 
 -- A topic is made, or is refused as is defined; or it is refused for a want, and nothing changes.
-abbrev pub IsCreationTold : Type 0 → List CreateTopic → World → CreateTopic → World → CreateTopicReply → Type 0
-IsCreationTold failed ts w t v x = ((v, x) ≡ created_topic ts w t) ⊎ ((v ≡ w) × ((x.name ≡ t.name) × IsWantCode failed x.error_code))
+abbrev pub IsCreationTold : Type 0 → DataLimits → List CreateTopic → World → CreateTopic → World → CreateTopicReply → Type 0
+IsCreationTold failed limits ts w t v x =
+    ((v, x) ≡ created_topic limits ts w t) ⊎ ((v ≡ w) × ((x.name ≡ t.name) × IsWantCode failed x.error_code))
 
 -- The same of a topic's deletion.
 abbrev pub IsRemovalTold : Type 0 → World × List TopicPartition → List ℕ → World × List TopicPartition → DeleteTopicReply → Type 0
@@ -120,14 +114,14 @@ abbrev pub IsIssueTold : Type 0 → World → InitProducerIdRequest → World �
 IsIssueTold failed w q v x = ((v, x) ≡ init_producer_id w q) ⊎ ((v ≡ w) × ((x ≡ id_refused x.error_code) × IsWantCode failed x.error_code))
 
 -- The same of an offset that a group commits.
-abbrev pub IsCommitTold : Type 0 → Option ℤ → List ℕ → Option ℕ → World → CommitPartition → World → CommitPartitionReply → Type 0
-IsCommitTold failed refusal group topic w e v x =
-    ((v, x) ≡ committed_entry refusal group topic w e) ⊎ ((v ≡ w) × ((x.partition ≡ e.partition) × IsWantCode failed x.error_code))
+abbrev pub IsCommitTold : Type 0 → DataLimits → Option ℤ → List ℕ → Option ℕ → World → CommitPartition → World → CommitPartitionReply → Type 0
+IsCommitTold failed limits refusal group topic w e v x =
+    ((v, x) ≡ committed_entry limits refusal group topic w e) ⊎ ((v ≡ w) × ((x.partition ≡ e.partition) × IsWantCode failed x.error_code))
 
 -- The same of a topic's offsets, one after another.
-abbrev pub IsCommitTopicTold : Type 0 → Option ℤ → List ℕ → World → CommitTopic → World → CommitTopicReply → Type 0
-IsCommitTopicTold failed refusal group w t v x =
-    (x.name ≡ t.name) × AreServed (IsCommitTold failed refusal group (named t.name w.known.topics)) w t.partitions v x.partitions
+abbrev pub IsCommitTopicTold : Type 0 → DataLimits → Option ℤ → List ℕ → World → CommitTopic → World → CommitTopicReply → Type 0
+IsCommitTopicTold failed limits refusal group w t v x =
+    (x.name ≡ t.name) × AreServed (IsCommitTold failed limits refusal group (named t.name w.known.topics)) w t.partitions v x.partitions
 
 -- ---- Produce
 
@@ -138,6 +132,15 @@ FailedBy before now next = Grew before now ⊎ (2 ^ 64 ≤ next)
 -- they grew from one moment to another, or no file number is left then
 abbrev pub HasFailed : Scene Seen → Scene Seen → Type 0
 HasFailed a b = FailedBy a.disk.failures b.disk.failures b.next
+
+-- KAFKA_STORAGE_ERROR is answered where the store failed, and UNKNOWN_SERVER_ERROR where memory ran out.
+abbrev pub IsCodeWant : Scene Seen → Scene Seen → ℤ → Type 0
+IsCodeWant a b code =
+    ((code ≡ code_of codes.KafkaStorageError) × WhereHonest a b (HasFailed a b)) ⊎ (code ≡ code_of codes.UnknownServerError)
+
+-- a batch that was refused is told nowhere
+abbrev pub IsAppendWant : Scene Seen → Scene Seen → List TopicPartition → List TopicPartition → ℤ → Type 0
+IsAppendWant a b old new code = IsCodeWant a b code × (new ≡ old)
 
 -- The store failed, or the catalog's log has no room for a command in the end.
 abbrev pub CatalogFailed : Scene Seen → Scene Seen → Type 0
@@ -153,32 +156,34 @@ IsWanting failed e x =
     ((x ≡ answer e.index (Err (code_of codes.KafkaStorageError))) × failed) ⊎ (x ≡ answer e.index (Err (code_of codes.UnknownServerError)))
 
 -- An entry does what is defined, on what those before it left; or it is refused for such a want, and changes nothing.
-abbrev pub IsEntryTold : Type 0 → Option ℤ → Option ℕ → Progress → ProducePartition → Progress → ProducePartitionReply → Type 0
-IsEntryTold failed refusal topic p e q x = ((q, x) ≡ entry_served refusal topic p e) ⊎ ((q ≡ p) × IsWanting failed e x)
+abbrev pub IsEntryTold : Type 0 → Option ℕ → Option ℤ → Option ℕ → Progress → ProducePartition → Progress → ProducePartitionReply
+    → Type 0
+IsEntryTold failed limit refusal topic p e q x = ((q, x) ≡ entry_served limit refusal topic p e) ⊎ ((q ≡ p) × IsWanting failed e x)
 
-abbrev pub IsTopicTold : Type 0 → Option ℤ → Progress → ProduceTopic → Progress → ProduceTopicReply → Type 0
-IsTopicTold failed refusal p t q x =
-    (x.name ≡ t.name) × AreServed (IsEntryTold failed refusal (named t.name p.world.known.topics)) p t.partitions q x.partitions
+abbrev pub IsTopicTold : Type 0 → Option ℕ → Option ℤ → Progress → ProduceTopic → Progress → ProduceTopicReply → Type 0
+IsTopicTold failed limit refusal p t q x =
+    (x.name ≡ t.name) × AreServed (IsEntryTold failed limit refusal (named t.name p.world.known.topics)) p t.partitions q x.partitions
 
 -- A produce, whose entries are so told one after another, comes to that reply.
-abbrev pub IsProduceTold : Type 0 → Progress → ProduceRequest → Progress → ProduceReply → Type 0
-IsProduceTold failed p r q reply =
-    AreServed (IsTopicTold failed (refusal_of r.transactional_id r.acks)) p r.topics q reply.topics × (reply.throttle_time_ms ≡ pos 0)
+abbrev pub IsProduceTold : Type 0 → Option ℕ → Progress → ProduceRequest → Progress → ProduceReply → Type 0
+IsProduceTold failed limit p r q reply =
+    AreServed (IsTopicTold failed limit (refusal_of r.transactional_id r.acks)) p r.topics q reply.topics
+    × (reply.throttle_time_ms ≡ pos 0)
 
 -- Its answer is that reply's bytes, or none where none is due.
-abbrev pub IsAcknowledged : Type 0 → ℤ → World → ProduceRequest → World → List TopicPartition → Answer → Type 0
-IsAcknowledged failed id w r v touched (answers.Reply bytes) =
+abbrev pub IsAcknowledged : Type 0 → Option ℕ → ℤ → World → ProduceRequest → World → List TopicPartition → Answer → Type 0
+IsAcknowledged failed limit id w r v touched (answers.Reply bytes) =
     (reply : ProduceReply) × ((bytes.items ≡ framed id (produce_reply.written reply))
-    × IsProduceTold failed (progress w []) r (progress v touched) reply)
-IsAcknowledged failed id w r v touched (answers.Wait deadline keys) = ⊥
-IsAcknowledged failed id w r v touched answers.NoReply =
-    (reply : ProduceReply) × IsProduceTold failed (progress w []) r (progress v touched) reply
-IsAcknowledged failed id w r v touched answers.Shut = ⊤
+    × IsProduceTold failed limit (progress w []) r (progress v touched) reply)
+IsAcknowledged failed limit id w r v touched (answers.Wait deadline keys) = ⊥
+IsAcknowledged failed limit id w r v touched answers.NoReply =
+    (reply : ProduceReply) × IsProduceTold failed limit (progress w []) r (progress v touched) reply
+IsAcknowledged failed limit id w r v touched answers.Shut = ⊤
 
 -- The same of a body, where it is a request of Produce.
-abbrev pub Acknowledges : Type 0 → ℤ → World → List ℕ → World → List TopicPartition → Answer → Type 0
-Acknowledges failed id w body v touched a =
-    (r : ProduceRequest) → whole produce_request body ≡ Ok r → IsAcknowledged failed id w r v touched a
+abbrev pub Acknowledges : Type 0 → Option ℕ → ℤ → World → List ℕ → World → List TopicPartition → Answer → Type 0
+Acknowledges failed limit id w body v touched a =
+    (r : ProduceRequest) → whole produce_request body ≡ Ok r → IsAcknowledged failed limit id w r v touched a
 
 -- A produce after which the connection is shut has changed nothing, unless its reply is too long for the INT32 of its size.
 abbrev pub IsSpared : World → List ℕ → World → Answer → Type 0
@@ -197,15 +202,15 @@ IsReplied id Told answers.NoReply = ⊥
 IsReplied id Told answers.Shut = ⊤
 
 -- It is the reply of a CreateTopics, whose topics are so told one after another.
-abbrev pub TellsCreations : Type 0 → ℤ → World → CreateTopicsRequestV1 → World → List ℕ → Type 0
-TellsCreations failed version w q v body = (replies : List CreateTopicReply)
-    × ((body ≡ creations_in version (record { topics = replies })) × AreServed (IsCreationTold failed q.topics) w q.topics v replies)
+abbrev pub TellsCreations : Type 0 → DataLimits → ℤ → World → CreateTopicsRequestV1 → World → List ℕ → Type 0
+TellsCreations failed limits version w q v body = (replies : List CreateTopicReply)
+    × ((body ≡ creations_in version (record { topics = replies })) × AreServed (IsCreationTold failed limits q.topics) w q.topics v replies)
 
 -- The same of a body, where it is a request of CreateTopics that is not only to be checked.
-abbrev pub AcknowledgesCreations : Type 0 → ℤ → ℤ → World → List ℕ → World → Answer → Type 0
-AcknowledgesCreations failed id version w body v a =
+abbrev pub AcknowledgesCreations : Type 0 → DataLimits → ℤ → ℤ → World → List ℕ → World → Answer → Type 0
+AcknowledgesCreations failed limits id version w body v a =
     (q : CreateTopicsRequestV1) → asked_creations version body ≡ Ok q → q.validate_only ≡ false
-    → IsReplied id (TellsCreations failed version w q v) a
+    → IsReplied id (TellsCreations failed limits version w q v) a
 
 -- It is the reply of a DeleteTopics.
 abbrev pub TellsRemovals : Type 0 → ℤ → World → DeleteTopicsRequest → World → List TopicPartition → List ℕ → Type 0
@@ -228,15 +233,15 @@ AcknowledgesIssue failed id w body v a =
     (q : InitProducerIdRequest) → whole init_producer_id_request body ≡ Ok q → IsReplied id (TellsIssue failed w q v) a
 
 -- It is the reply of an OffsetCommit, where groups have no members.
-abbrev pub TellsCommits : Type 0 → World → OffsetCommitRequest → World → List ℕ → Type 0
-TellsCommits failed w q v body =
+abbrev pub TellsCommits : Type 0 → DataLimits → World → OffsetCommitRequest → World → List ℕ → Type 0
+TellsCommits failed limits w q v body =
     (reply : OffsetCommitReply) × ((body ≡ offset_commit_reply.written reply)
-    × AreServed (IsCommitTopicTold failed (commit_refusal q.group_id q.generation_id) q.group_id) w q.topics v reply.topics)
+    × AreServed (IsCommitTopicTold failed limits (commit_refusal q.group_id q.generation_id) q.group_id) w q.topics v reply.topics)
 
 -- The same of a body, where it is a request of OffsetCommit.
-abbrev pub AcknowledgesCommits : Type 0 → ℤ → World → List ℕ → World → Answer → Type 0
-AcknowledgesCommits failed id w body v a =
-    (q : OffsetCommitRequest) → whole offset_commit_request body ≡ Ok q → IsReplied id (TellsCommits failed w q v) a
+abbrev pub AcknowledgesCommits : Type 0 → DataLimits → ℤ → World → List ℕ → World → Answer → Type 0
+AcknowledgesCommits failed limits id w body v a =
+    (q : OffsetCommitRequest) → whole offset_commit_request body ≡ Ok q → IsReplied id (TellsCommits failed limits w q v) a
 
 -- ---- DeleteRecords
 

@@ -11,6 +11,8 @@ ghost use Rattle.kb_tenant_state.specs.Steps.{IsStep, Meets};
 ghost use Rattle.kb_tenant_state.specs.Told.{IsLogFull};
 ghost use Rattle.kb_tenant.specs.Answered.{IsTruthful, OnlyReads};
 ghost use Rattle.kb_tenant.specs.CreateTopics.{asked_creations};
+ghost use Rattle.kb_tenant.specs.Entries.{create_topics_entries, delete_records_entries, delete_topics_entries, fetch_entries};
+ghost use Rattle.kb_tenant.specs.Entries.{list_offsets_entries, metadata_entries, produce_entries, within};
 ghost use Rattle.kb_tenant.specs.Fetch.{asked_fetch};
 ghost use Rattle.kb_tenant.specs.Metadata.{asked_metadata};
 ghost use Rattle.kb_tenant.specs.Replies.{IsAnswer};
@@ -21,18 +23,20 @@ ghost use Rattle.kb_tenant.specs.Serve.{if_read, of_produce, of_fetch, of_list_o
 ghost use Rattle.kb_tenant.specs.Serve.{of_delete_topics, of_init_producer_id, plainly_served, looked, stays, IsOutcome, IsServed};
 
 use crate::answer::{Answer, begin, finish};
-use crate::create_topics::{check_topics, create_topics, read_create_topics};
+use crate::create_topics::{check_topics, create_topics, read_creations_within};
 use crate::delete_records::delete_records;
 use crate::delete_topics::delete_topics;
 use crate::fetch;
-use crate::fetch::{Fetching, read_request, serve_fetch};
+use crate::fetch::{Fetching, read_request, read_request_within, serve_fetch};
 use crate::group_offsets::{serve_find_coordinator, serve_offset_commit, serve_offset_fetch};
 use crate::init_producer_id::init_producer_id;
+use crate::limits::DataLimits;
 use crate::list_offsets::list_offsets;
-use crate::metadata::{metadata, read_metadata};
+use crate::metadata::{metadata, read_metadata_within};
 use crate::node::Node;
 use crate::produce::produce;
 use crate::request::{Request, Wait};
+use crate::within::read_within;
 use kb_api_data::{
     DeleteRecordsRequest, DeleteTopicsRequest, InitProducerIdRequest, ListOffsetsRequest,
     ProduceRequest,
@@ -57,6 +61,7 @@ fn serve_produce<L: PartitionLog + Drop, S: Store>(
     alloc: Global,
     parts: &mut Parts<L>,
     shelf: &mut Shelf<S>,
+    limits: DataLimits,
     request: &Request<'_>,
     touched: &mut Vec<TopicPartition>,
 ) -> Result<Answer, ReadFault>
@@ -65,19 +70,20 @@ fn serve_produce<L: PartitionLog + Drop, S: Store>(
     ensures step { IsStep (scene L.log S.disk parts.old shelf.old) (scene L.log S.disk parts.new shelf.new) }
     ensures meets { let a = scene L.log S.disk parts.old shelf.old in let b = scene L.log S.disk parts.new shelf.new in
         Meets a b (IsServed request.now.correlation_id
-        (if_read a.state.world (whole produce_request request.now.body.now) (of_produce a.state.world)) b.state.world touched.new.items
-        result) }
+        (if_read a.state.world (within limits.request_entries produce_entries (whole produce_request request.now.body.now))
+        (of_produce limits.bytes a.state.world)) b.state.world touched.new.items result) }
     ensures acknowledged { let a = scene L.log S.disk parts.old shelf.old in let b = scene L.log S.disk parts.new shelf.new in
         IfOk result (λ answer. WhereHonest a b (Acknowledges
-        (HasFailed a b) request.now.correlation_id a.state.world request.now.body.now b.state.world touched.new.items answer)) }
+        (HasFailed a b) limits.bytes request.now.correlation_id a.state.world request.now.body.now b.state.world touched.new.items
+        answer)) }
     ensures spared { let a = scene L.log S.disk parts.old shelf.old in let b = scene L.log S.disk parts.new shelf.new in
         OnErr result (b.state.world ≡ a.state.world) }
     ensures shut { let a = scene L.log S.disk parts.old shelf.old in let b = scene L.log S.disk parts.new shelf.new in
         IfOk result (λ answer. IsSpared a.state.world request.now.body.now b.state.world answer) }
 {
-    let asked = ProduceRequest::read(alloc, request.body)?;
+    let asked = read_within::<ProduceRequest<'_>>(alloc, limits.request_entries, request.body)?;
     let mut sink = begin(alloc, request.correlation_id)?;
-    produce(parts, shelf, &asked, touched, &mut sink)?;
+    produce(parts, shelf, limits.bytes, &asked, touched, &mut sink)?;
     if asked.acks == 0 {
         return Ok(Answer::NoReply);
     }
@@ -90,6 +96,7 @@ fn serve_a_fetch<L: PartitionLog + Drop, S: Store>(
     parts: &mut Parts<L>,
     shelf: &mut Shelf<S>,
     clock: u64,
+    limit: Option<u64>,
     request: &Request<'_>,
 ) -> Result<Answer, ReadFault>
     requires clock { clock ≤ 2 ^ 62 }
@@ -99,14 +106,14 @@ fn serve_a_fetch<L: PartitionLog + Drop, S: Store>(
         b.disk.honest → a.agrees → b.state.world ≡ a.state.world }
     ensures meets { let a = scene L.log S.disk parts.old shelf.old in let b = scene L.log S.disk parts.new shelf.new in
         Meets a b (IsServed request.now.correlation_id
-        (if_read a.state.world (asked_fetch request.now.api_version request.now.body.now)
+        (if_read a.state.world (within limit fetch_entries (asked_fetch request.now.api_version request.now.body.now))
         (of_fetch request.now.api_version a.state.world clock)) b.state.world [] result) }
     ensures fetched { let a = scene L.log S.disk parts.old shelf.old in let b = scene L.log S.disk parts.new shelf.new in
         IfOk result (λ answer. WhereHonest a b (AnswersFetch (HasFailed a b)
         request.now.correlation_id request.now.api_version a.state.world clock request.now.body.now answer)) }
 {
     let has_starts = fetch::has_starts(request.api_version);
-    let asked = read_request(alloc, has_starts, request.body)?;
+    let asked = read_request_within(alloc, limit, has_starts, request.body)?;
     let mut sink = begin(alloc, request.correlation_id)?;
     match serve_fetch(alloc, parts, shelf, clock, has_starts, &asked, &mut sink)? {
         Fetching::Reply => Ok(finish(sink)),
@@ -119,6 +126,7 @@ fn serve_list_offsets<L: PartitionLog + Drop, S: Store>(
     alloc: Global,
     parts: &mut Parts<L>,
     shelf: &mut Shelf<S>,
+    limit: Option<u64>,
     request: &Request<'_>,
 ) -> Result<Answer, ReadFault>
     requires { (scene L.log S.disk parts.old shelf.old).sound }
@@ -127,12 +135,13 @@ fn serve_list_offsets<L: PartitionLog + Drop, S: Store>(
         b.disk.honest → a.agrees → b.state.world ≡ a.state.world }
     ensures meets { let a = scene L.log S.disk parts.old shelf.old in let b = scene L.log S.disk parts.new shelf.new in
         Meets a b (IsServed request.now.correlation_id
-        (if_read a.state.world (whole list_offsets_request request.now.body.now) (of_list_offsets a.state.world)) b.state.world [] result) }
+        (if_read a.state.world (within limit list_offsets_entries (whole list_offsets_request request.now.body.now))
+        (of_list_offsets a.state.world)) b.state.world [] result) }
     ensures listed { let a = scene L.log S.disk parts.old shelf.old in let b = scene L.log S.disk parts.new shelf.new in
         IfOk result (λ answer. WhereHonest a b (AnswersListing (HasFailed a b)
         request.now.correlation_id a.state.world request.now.body.now answer)) }
 {
-    let asked = ListOffsetsRequest::read(alloc, request.body)?;
+    let asked = read_within::<ListOffsetsRequest<'_>>(alloc, limit, request.body)?;
     let mut sink = begin(alloc, request.correlation_id)?;
     list_offsets(parts, shelf, &asked, &mut sink)?;
     Ok(finish(sink))
@@ -147,10 +156,12 @@ fn serve_metadata<L: PartitionLog + Drop>(
 ) -> Result<Answer, ReadFault>
     requires { string.Fits node.now.host }
     ensures { (files : Files) → let w = world_of L.log parts.now files in
-        IsServed request.now.correlation_id (if_read w (asked_metadata request.now.api_version request.now.body.now)
+        IsServed request.now.correlation_id
+        (if_read w (within node.now.limits.request_entries metadata_entries (asked_metadata request.now.api_version request.now.body.now))
         (of_metadata node.now request.now.api_version w)) w [] result }
 {
-    let asked = read_metadata(alloc, request.api_version, request.body)?;
+    let limit = node.limits.request_entries;
+    let asked = read_metadata_within(alloc, limit, request.api_version, request.body)?;
     let mut sink = begin(alloc, request.correlation_id)?;
     metadata(parts, node, request.api_version, &asked, &mut sink)?;
     Ok(finish(sink))
@@ -161,26 +172,29 @@ fn serve_create_topics<L: PartitionLog + Drop, S: Store>(
     alloc: Global,
     parts: &mut Parts<L>,
     shelf: &mut Shelf<S>,
+    limits: DataLimits,
     request: &Request<'_>,
 ) -> Result<Answer, ReadFault>
     requires { (scene L.log S.disk parts.old shelf.old).sound }
     ensures step { IsStep (scene L.log S.disk parts.old shelf.old) (scene L.log S.disk parts.new shelf.new) }
     ensures meets { let a = scene L.log S.disk parts.old shelf.old in let b = scene L.log S.disk parts.new shelf.new in
         Meets a b (IsServed request.now.correlation_id
-        (if_read a.state.world (asked_creations request.now.api_version request.now.body.now)
-        (of_create_topics request.now.api_version a.state.world)) b.state.world [] result) }
+        (if_read a.state.world (within limits.request_entries create_topics_entries
+        (asked_creations request.now.api_version request.now.body.now))
+        (of_create_topics limits request.now.api_version a.state.world)) b.state.world [] result) }
     ensures acknowledged { let a = scene L.log S.disk parts.old shelf.old in let b = scene L.log S.disk parts.new shelf.new in
         IfOk result (λ answer. WhereHonest a b (AcknowledgesCreations
-        (CreationFailed a b) request.now.correlation_id request.now.api_version a.state.world request.now.body.now b.state.world answer)) }
+        (CreationFailed a b) limits request.now.correlation_id request.now.api_version a.state.world request.now.body.now b.state.world
+        answer)) }
 {
     let version = request.api_version;
-    let asked = read_create_topics(alloc, version, request.body)?;
+    let asked = read_creations_within(alloc, limits.request_entries, version, request.body)?;
     let mut sink = begin(alloc, request.correlation_id)?;
     if asked.validate_only {
-        check_topics(alloc, parts, version, &asked, &mut sink)?;
+        check_topics(alloc, parts, limits, version, &asked, &mut sink)?;
         return Ok(finish(sink));
     }
-    create_topics(alloc, parts, shelf, version, &asked, &mut sink)?;
+    create_topics(alloc, parts, shelf, limits, version, &asked, &mut sink)?;
     Ok(finish(sink))
 }
 
@@ -189,6 +203,7 @@ fn serve_delete_topics<L: PartitionLog + Drop, S: Store>(
     alloc: Global,
     parts: &mut Parts<L>,
     shelf: &mut Shelf<S>,
+    limit: Option<u64>,
     request: &Request<'_>,
     touched: &mut Vec<TopicPartition>,
 ) -> Result<Answer, ReadFault>
@@ -197,14 +212,15 @@ fn serve_delete_topics<L: PartitionLog + Drop, S: Store>(
     ensures step { IsStep (scene L.log S.disk parts.old shelf.old) (scene L.log S.disk parts.new shelf.new) }
     ensures meets { let a = scene L.log S.disk parts.old shelf.old in let b = scene L.log S.disk parts.new shelf.new in
         Meets a b (IsServed request.now.correlation_id
-        (if_read a.state.world (whole delete_topics_request request.now.body.now) (of_delete_topics request.now.api_version a.state.world))
+        (if_read a.state.world (within limit delete_topics_entries (whole delete_topics_request request.now.body.now))
+        (of_delete_topics request.now.api_version a.state.world))
         b.state.world touched.new.items result) }
     ensures acknowledged { let a = scene L.log S.disk parts.old shelf.old in let b = scene L.log S.disk parts.new shelf.new in
         IfOk result (λ answer. WhereHonest a b (AcknowledgesRemovals
         (CatalogFailed a b) request.now.correlation_id request.now.api_version a.state.world request.now.body.now b.state.world
         touched.new.items answer)) }
 {
-    let asked = DeleteTopicsRequest::read(alloc, request.body)?;
+    let asked = read_within::<DeleteTopicsRequest<'_>>(alloc, limit, request.body)?;
     let mut sink = begin(alloc, request.correlation_id)?;
     delete_topics(
         parts,
@@ -222,6 +238,7 @@ fn serve_delete_records<L: PartitionLog + Drop, S: Store>(
     alloc: Global,
     parts: &mut Parts<L>,
     shelf: &mut Shelf<S>,
+    limit: Option<u64>,
     request: &Request<'_>,
     touched: &mut Vec<TopicPartition>,
 ) -> Result<Answer, ReadFault>
@@ -230,13 +247,13 @@ fn serve_delete_records<L: PartitionLog + Drop, S: Store>(
     ensures step { IsStep (scene L.log S.disk parts.old shelf.old) (scene L.log S.disk parts.new shelf.new) }
     ensures meets { let a = scene L.log S.disk parts.old shelf.old in let b = scene L.log S.disk parts.new shelf.new in
         Meets a b (IsServed request.now.correlation_id
-        (if_read a.state.world (whole delete_records_request request.now.body.now) (of_delete_records a.state.world)) b.state.world
-        touched.new.items result) }
+        (if_read a.state.world (within limit delete_records_entries (whole delete_records_request request.now.body.now))
+        (of_delete_records a.state.world)) b.state.world touched.new.items result) }
     ensures acknowledged { let a = scene L.log S.disk parts.old shelf.old in let b = scene L.log S.disk parts.new shelf.new in
         IfOk result (λ answer. WhereHonest a b (AcknowledgesDeletions (CatalogFailed a b)
         request.now.correlation_id a.state.world request.now.body.now b.state.world touched.new.items answer)) }
 {
-    let asked = DeleteRecordsRequest::read(alloc, request.body)?;
+    let asked = read_within::<DeleteRecordsRequest<'_>>(alloc, limit, request.body)?;
     let mut sink = begin(alloc, request.correlation_id)?;
     delete_records(parts, shelf, &asked, touched, &mut sink)?;
     Ok(finish(sink))
@@ -298,17 +315,20 @@ fn serve_by_key<L: PartitionLog + Drop, S: Store>(
     ensures shut { let a = scene L.log S.disk parts.old shelf.old in let b = scene L.log S.disk parts.new shelf.new in
         request.now.api_key ≡ PRODUCE → IfOk result (λ answer. IsSpared a.state.world request.now.body.now b.state.world answer) }
 {
+    let limit = node.limits.request_entries;
     match request.api_key {
-        api_key::PRODUCE => serve_produce(alloc, parts, shelf, request, touched),
-        api_key::FETCH => serve_a_fetch(alloc, parts, shelf, clock, request),
-        api_key::LIST_OFFSETS => serve_list_offsets(alloc, parts, shelf, request),
+        api_key::PRODUCE => serve_produce(alloc, parts, shelf, node.limits, request, touched),
+        api_key::FETCH => serve_a_fetch(alloc, parts, shelf, clock, limit, request),
+        api_key::LIST_OFFSETS => serve_list_offsets(alloc, parts, shelf, limit, request),
         api_key::METADATA => serve_metadata(alloc, parts, node, request),
-        api_key::OFFSET_COMMIT => serve_offset_commit(alloc, parts, shelf, request),
-        api_key::OFFSET_FETCH => serve_offset_fetch(alloc, parts, request),
+        api_key::OFFSET_COMMIT => serve_offset_commit(alloc, parts, shelf, node.limits, request),
+        api_key::OFFSET_FETCH => serve_offset_fetch(alloc, parts, limit, request),
         api_key::FIND_COORDINATOR => serve_find_coordinator(alloc, node, request),
-        api_key::CREATE_TOPICS => serve_create_topics(alloc, parts, shelf, request),
-        api_key::DELETE_TOPICS => serve_delete_topics(alloc, parts, shelf, request, touched),
-        api_key::DELETE_RECORDS => serve_delete_records(alloc, parts, shelf, request, touched),
+        api_key::CREATE_TOPICS => serve_create_topics(alloc, parts, shelf, node.limits, request),
+        api_key::DELETE_TOPICS => serve_delete_topics(alloc, parts, shelf, limit, request, touched),
+        api_key::DELETE_RECORDS => serve_delete_records(
+            alloc, parts, shelf, limit, request, touched,
+        ),
         api_key::INIT_PRODUCER_ID => serve_init_producer_id(alloc, parts, shelf, request),
         _ => Ok(Answer::Shut),
     }
@@ -316,10 +336,10 @@ fn serve_by_key<L: PartitionLog + Drop, S: Store>(
 
 /// Serves a request of a tenant, at a time of the clock.
 ///
-/// A body that is not the API's, a key that is not a tenant's and a reply whose size does not fit an INT32 shut the
-/// connection. So does want of memory for the read request, the reply or the wait, which is counted; changes that were made
-/// stay. A Produce makes none before it has the memory for its whole reply. The host is to fit a STRING, and the clock is at most
-/// 2^62, in milliseconds.
+/// A body that is not the API's, one that names more entries than the tenant's limit allows, a key that is not a tenant's and a
+/// reply whose size does not fit an INT32 shut the connection. So does want of memory for the read request, the reply or the wait,
+/// which is counted; changes that were made stay. A Produce makes none before it has the memory for its whole reply. The host is to
+/// fit a STRING, and the clock is at most 2^62, in milliseconds.
 pub fn serve<L: PartitionLog + Drop, S: Store>(
     alloc: Global,
     parts: &mut Parts<L>,

@@ -7,5 +7,6 @@ mod version;
 mod waiting;
 mod waits;
 
-pub(crate) use version::{has_starts, read_request};
+pub(crate) use given::not_negative;
+pub(crate) use version::{has_starts, read_request, read_request_within};
 pub(crate) use waiting::{Fetching, look, serve_fetch};

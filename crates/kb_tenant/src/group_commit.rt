@@ -1,5 +1,5 @@
 //! OffsetCommit, version 2 (Kafka protocol guide): a group records how far it has processed partitions.
-ghost use Rattle.std.specs.Prelude.{◌≡◌, ◌++◌, ◌<◌, ◌^◌, length, pos, List, OnOk};
+ghost use Rattle.std.specs.Prelude.{◌≡◌, ◌++◌, ◌+◌, ◌-◌, ◌<◌, ◌^◌, ℕ, length, min, nat_lt, pos, List, OnOk};
 ghost use Rattle.std.specs.List.{flat_map};
 ghost use Rattle.kb_api_group.specs.Layouts.{commit_partition_reply, commit_topic, commit_topic_reply, offset_commit_request};
 ghost use Rattle.kb_api_group.specs.Layouts.{offset_commit_reply};
@@ -8,17 +8,20 @@ ghost use Rattle.kb_api_group.specs.declared.offset_commit.CommitTopicReply.{Com
 ghost use Rattle.kb_api_group.specs.declared.offset_commit.OffsetCommitReply.{OffsetCommitReply};
 ghost use Rattle.kb_tenant_state.specs.Scene.{WhereHonest};
 ghost use Rattle.kb_tenant.specs.OffsetCommit.{refusal_of as refusal_for, metadata_in as metadata_for, committed_at, committed};
+ghost use Rattle.kb_tenant.specs.OffsetCommit.{is_one_too_many, is_takeable};
 ghost use Rattle.kb_tenant.specs.OffsetCommit.{committed_entry, committed_topic, committed_all};
 ghost use Rattle.kb_tenant.specs.Produce.{written_next};
 ghost use Rattle.kb_tenant.specs.Told.{CatalogFailed, IsCommitTold, IsCommitTopicTold, IsFaultOf, IsTold};
 ghost use Rattle.kb_tenant.specs.Turns.{in_turn, written_behind, AreServed};
 ghost use Rattle.kb_wire.specs.Codec.{string};
-ghost use Rattle.kb_tenant_state.specs.Parts.{scene};
+ghost use Rattle.kb_store.specs.Disk.{Files, Table};
+ghost use Rattle.kb_tenant_state.specs.Parts.{scene, world_of, IsSound};
 ghost use Rattle.kb_tenant_state.specs.Steps.{IsStep, Meets};
 ghost use Rattle.kb_tenant_state.specs.Told.{IsCatalogWant, IsDone};
 ghost use Rattle.std.specs.Prelude.{Some};
 
 use crate::create_topics::code_in;
+use crate::limits::DataLimits;
 use kb_api_group::{CommitPartition, CommitPartitionReply, CommitTopic, OffsetCommitRequest};
 use kb_log::{PartitionLog, Shelf};
 use kb_store::Store;
@@ -50,10 +53,57 @@ fn metadata_in<'a>(entry: &'a CommitPartition<'_>) -> &'a str
     }
 }
 
+/// Whether a partition is there, and takes what is to be kept beside an offset: at most 4,096 bytes.
+fn is_takeable<L: PartitionLog + Drop>(
+    parts: &Parts<L>,
+    place: TopicPartition,
+    metadata: &str,
+) -> bool
+    ensures { (files : Files) → result ≡ is_takeable (world_of L.log parts.now files) place metadata.now }
+{
+    let Some(_) = parts.catalog().partition(place.instance, place.number) else {
+        return false;
+    };
+    metadata.len() <= 4096
+}
+
+/// Whether one more than there are is past a limit.
+fn is_reached(limit: u64, count: u64) -> bool
+    // A count that is the greatest number stands for any above it.
+    ensures { (n : ℕ) → count ≡ min n (2 ^ 64 - 1) → result ≡ nat_lt limit (n + 1) }
+{
+    limit <= count
+}
+
+/// Whether an offset is one more than a tenant may have. One of a group that has committed to the partition takes the other's place.
+/// How many there are is only asked where there is a limit.
+fn is_one_too_many<L: PartitionLog + Drop>(
+    parts: &Parts<L>,
+    limits: DataLimits,
+    group: &str,
+    place: TopicPartition,
+    metadata: &str,
+) -> bool
+    ensures { (table : Table) (next : ℕ) (files : Files) → IsSound L.log parts.now table next
+        → result ≡ is_one_too_many limits (world_of L.log parts.now files) place group.now metadata.now }
+{
+    let Some(limit) = limits.offsets else {
+        return false;
+    };
+    if parts.committed(place, group).is_some() {
+        return false;
+    }
+    if is_takeable(parts, place, metadata) {
+        return is_reached(limit, parts.offsets());
+    }
+    false
+}
+
 /// Commits an entry's offset to the partition at a place, and answers its error code.
 fn commit_at<L: PartitionLog + Drop, S: Store>(
     parts: &mut Parts<L>,
     shelf: &mut Shelf<S>,
+    limits: DataLimits,
     group: &str,
     place: TopicPartition,
     entry: &CommitPartition<'_>,
@@ -62,12 +112,15 @@ fn commit_at<L: PartitionLog + Drop, S: Store>(
     requires text { length group.now < 2 ^ 15 }
     ensures step { IsStep (scene L.log S.disk parts.old shelf.old) (scene L.log S.disk parts.new shelf.new) }
     ensures meets { let a = scene L.log S.disk parts.old shelf.old in let b = scene L.log S.disk parts.new shelf.new in
-        Meets a b ((b.state.world, result) ≡ committed_at a.state.world (Some place) group.now entry.now) }
+        Meets a b ((b.state.world, result) ≡ committed_at limits a.state.world (Some place) group.now entry.now) }
     ensures told { let a = scene L.log S.disk parts.old shelf.old in let b = scene L.log S.disk parts.new shelf.new in
-        IsTold a b ((b.state.world, result) ≡ committed_at a.state.world (Some place) group.now entry.now)
+        IsTold a b ((b.state.world, result) ≡ committed_at limits a.state.world (Some place) group.now entry.now)
         (IsFaultOf (IsCatalogWant a b) result) }
 {
     let metadata = metadata_in(entry);
+    if is_one_too_many(parts, limits, group, place, metadata) {
+        return ErrorCode::PolicyViolation.code();
+    }
     code_in(parts.commit(shelf, place, group, entry.offset, metadata))
 }
 
@@ -75,6 +128,7 @@ fn commit_at<L: PartitionLog + Drop, S: Store>(
 fn commit_entry<L: PartitionLog + Drop, S: Store>(
     parts: &mut Parts<L>,
     shelf: &mut Shelf<S>,
+    limits: DataLimits,
     refusal: Option<i16>,
     group: &str,
     topic: Option<u64>,
@@ -84,13 +138,13 @@ fn commit_entry<L: PartitionLog + Drop, S: Store>(
     requires text { length group.now < 2 ^ 15 }
     ensures step { IsStep (scene L.log S.disk parts.old shelf.old) (scene L.log S.disk parts.new shelf.new) }
     ensures meets { let a = scene L.log S.disk parts.old shelf.old in let b = scene L.log S.disk parts.new shelf.new in
-        Meets a b ((b.state.world, result) ≡ committed refusal group.now topic a.state.world entry.now) }
+        Meets a b ((b.state.world, result) ≡ committed limits refusal group.now topic a.state.world entry.now) }
     ensures told { let a = scene L.log S.disk parts.old shelf.old in let b = scene L.log S.disk parts.new shelf.new in
-        IsTold a b ((b.state.world, result) ≡ committed refusal group.now topic a.state.world entry.now)
+        IsTold a b ((b.state.world, result) ≡ committed limits refusal group.now topic a.state.world entry.now)
         (IsFaultOf (IsCatalogWant a b) result) }
     // An offset that is answered with no error is a command of the catalog, whatever else was refused.
     ensures acknowledged { let a = scene L.log S.disk parts.old shelf.old in let b = scene L.log S.disk parts.new shelf.new in
-        result ≡ pos 0 → IsDone a b ((b.state.world, result) ≡ committed refusal group.now topic a.state.world entry.now) }
+        result ≡ pos 0 → IsDone a b ((b.state.world, result) ≡ committed limits refusal group.now topic a.state.world entry.now) }
 {
     if let Some(code) = refusal {
         return code;
@@ -98,13 +152,14 @@ fn commit_entry<L: PartitionLog + Drop, S: Store>(
     let Some(place) = TopicPartition::new(topic, entry.partition) else {
         return ErrorCode::UnknownTopicOrPartition.code();
     };
-    commit_at(parts, shelf, group, place, entry)
+    commit_at(parts, shelf, limits, group, place, entry)
 }
 
 /// Serves a topic's entries in order. An `Err` leaves what was committed, and some of the answers written.
 fn commit_entries<L: PartitionLog + Drop, S: Store>(
     parts: &mut Parts<L>,
     shelf: &mut Shelf<S>,
+    limits: DataLimits,
     refusal: Option<i16>,
     group: &str,
     topic: Option<u64>,
@@ -117,16 +172,16 @@ fn commit_entries<L: PartitionLog + Drop, S: Store>(
     ensures meets { OnOk result (let a = scene L.log S.disk parts.old shelf.old in let b = scene L.log S.disk parts.new shelf.new in
         Meets a b ((b.state.world, sink.new.bytes)
         ≡ written_behind commit_partition_reply.written sink.old.bytes
-        (in_turn (committed_entry refusal group.now topic) a.state.world entries.now))) }
+        (in_turn (committed_entry limits refusal group.now topic) a.state.world entries.now))) }
     ensures told { OnOk result (let a = scene L.log S.disk parts.old shelf.old in let b = scene L.log S.disk parts.new shelf.new in
         WhereHonest a b ((replies : List CommitPartitionReply)
         × ((sink.new.bytes ≡ sink.old.bytes ++ flat_map commit_partition_reply.written replies)
-        × AreServed (IsCommitTold (CatalogFailed a b) refusal group.now topic) a.state.world entries.now b.state.world replies))) }
+        × AreServed (IsCommitTold (CatalogFailed a b) limits refusal group.now topic) a.state.world entries.now b.state.world replies))) }
 {
     for entry in entries {
         let reply = CommitPartitionReply {
             partition: entry.partition,
-            error_code: commit_entry(parts, shelf, refusal, group, topic, entry),
+            error_code: commit_entry(parts, shelf, limits, refusal, group, topic, entry),
         };
         reply.write(sink)?;
     }
@@ -137,6 +192,7 @@ fn commit_entries<L: PartitionLog + Drop, S: Store>(
 fn commit_topic<L: PartitionLog + Drop, S: Store>(
     parts: &mut Parts<L>,
     shelf: &mut Shelf<S>,
+    limits: DataLimits,
     refusal: Option<i16>,
     group: &str,
     topic: &CommitTopic<'_>,
@@ -148,21 +204,24 @@ fn commit_topic<L: PartitionLog + Drop, S: Store>(
     ensures step { IsStep (scene L.log S.disk parts.old shelf.old) (scene L.log S.disk parts.new shelf.new) }
     ensures meets { OnOk result (let a = scene L.log S.disk parts.old shelf.old in let b = scene L.log S.disk parts.new shelf.new in
         Meets a b ((b.state.world, sink.new.bytes)
-        ≡ written_next commit_topic_reply.written sink.old.bytes (committed_topic refusal group.now a.state.world topic.now))) }
+        ≡ written_next commit_topic_reply.written sink.old.bytes (committed_topic limits refusal group.now a.state.world topic.now))) }
     ensures told { OnOk result (let a = scene L.log S.disk parts.old shelf.old in let b = scene L.log S.disk parts.new shelf.new in
         WhereHonest a b ((reply : CommitTopicReply) × ((sink.new.bytes ≡ sink.old.bytes ++ commit_topic_reply.written reply)
-        × IsCommitTopicTold (CatalogFailed a b) refusal group.now a.state.world topic.now b.state.world reply))) }
+        × IsCommitTopicTold (CatalogFailed a b) limits refusal group.now a.state.world topic.now b.state.world reply))) }
 {
     sink.put_string(topic.name.as_str())?;
     sink.put_count(topic.partitions.len())?;
     let instance = parts.topic_named(topic.name.as_str());
     let entries = topic.partitions.as_slice();
-    commit_entries(parts, shelf, refusal, group, instance, entries, sink)
+    commit_entries(
+        parts, shelf, limits, refusal, group, instance, entries, sink,
+    )
 }
 
 /// Serves OffsetCommit, version 2 (Kafka protocol guide): commits the group's offsets in the order of the request, and writes the
 /// reply behind what is in the sink.
 ///
+/// One offset more than the tenant's limit is answered POLICY_VIOLATION, and is not kept; one that is there is moved at any time.
 /// A refusal is an error code that all entries are answered; then nothing is committed. It says whether the group, its generation
 /// and its member may commit: `group_id` only names whose offsets they are, and `generation_id`, `member_id` and `retention_time_ms`
 /// have no effect. An `Err` is want of memory for the reply, which is not counted: it leaves what was committed, and some front of
@@ -170,6 +229,7 @@ fn commit_topic<L: PartitionLog + Drop, S: Store>(
 pub fn offset_commit<L: PartitionLog + Drop, S: Store>(
     parts: &mut Parts<L>,
     shelf: &mut Shelf<S>,
+    limits: DataLimits,
     request: &OffsetCommitRequest<'_>,
     refusal: Option<i16>,
     sink: &mut Sink,
@@ -178,18 +238,18 @@ pub fn offset_commit<L: PartitionLog + Drop, S: Store>(
     requires fits { offset_commit_request.Fits request.now }
     ensures step { IsStep (scene L.log S.disk parts.old shelf.old) (scene L.log S.disk parts.new shelf.new) }
     ensures meets { OnOk result (let a = scene L.log S.disk parts.old shelf.old in let b = scene L.log S.disk parts.new shelf.new in
-        Meets a b (let r = committed_all a.state.world refusal request.now in
+        Meets a b (let r = committed_all limits a.state.world refusal request.now in
         (b.state.world ≡ r.0) × (sink.new.bytes ≡ sink.old.bytes ++ offset_commit_reply.written r.1))) }
     // An offset that is answered with no error is what the catalog has, whatever else was refused.
     ensures told { OnOk result (let a = scene L.log S.disk parts.old shelf.old in let b = scene L.log S.disk parts.new shelf.new in
         WhereHonest a b ((reply : OffsetCommitReply) × ((sink.new.bytes ≡ sink.old.bytes ++ offset_commit_reply.written reply)
-        × AreServed (IsCommitTopicTold (CatalogFailed a b) refusal request.now.group_id) a.state.world request.now.topics b.state.world
-        reply.topics))) }
+        × AreServed (IsCommitTopicTold (CatalogFailed a b) limits refusal request.now.group_id) a.state.world request.now.topics
+        b.state.world reply.topics))) }
 {
     let group = request.group_id.as_str();
     sink.put_count(request.topics.len())?;
     for topic in request.topics.as_slice() {
-        commit_topic(parts, shelf, refusal, group, topic, sink)?;
+        commit_topic(parts, shelf, limits, refusal, group, topic, sink)?;
     }
     Ok(())
 }

@@ -3,6 +3,7 @@ ghost use Rattle.std.specs.Prelude.{◌≡◌, [], IfOk};
 ghost use Rattle.kb_api_group.specs.Layouts.{find_coordinator_request, offset_commit_request};
 ghost use Rattle.kb_store.specs.Disk.{Files};
 ghost use Rattle.kb_tenant_state.specs.Scene.{WhereHonest};
+ghost use Rattle.kb_tenant.specs.Entries.{commit_entries, offset_fetch_entries, within};
 ghost use Rattle.kb_tenant.specs.OffsetFetch.{asked_offsets};
 ghost use Rattle.kb_tenant.specs.Told.{AcknowledgesCommits, CatalogFailed};
 ghost use Rattle.kb_tenant.specs.Serve.{if_read, of_find_coordinator, of_offset_commit, of_offset_fetch, IsServed};
@@ -14,9 +15,11 @@ ghost use Rattle.kb_tenant_state.specs.World.{World};
 use crate::answer::{Answer, begin, finish};
 use crate::find_coordinator::find_coordinator;
 use crate::group_commit::{offset_commit, refusal_of};
+use crate::limits::DataLimits;
 use crate::node::Node;
-use crate::offset_fetch::{has_code, offset_fetch, read_offset_fetch};
+use crate::offset_fetch::{has_code, offset_fetch, read_offset_fetch_within};
 use crate::request::Request;
+use crate::within::read_within;
 use kb_api_group::{FindCoordinatorRequest, OffsetCommitRequest};
 use kb_log::{PartitionLog, Shelf};
 use kb_store::Store;
@@ -29,22 +32,24 @@ pub(crate) fn serve_offset_commit<L: PartitionLog + Drop, S: Store>(
     alloc: Global,
     parts: &mut Parts<L>,
     shelf: &mut Shelf<S>,
+    limits: DataLimits,
     request: &Request<'_>,
 ) -> Result<Answer, ReadFault>
     requires { (scene L.log S.disk parts.old shelf.old).sound }
     ensures step { IsStep (scene L.log S.disk parts.old shelf.old) (scene L.log S.disk parts.new shelf.new) }
     ensures meets { let a = scene L.log S.disk parts.old shelf.old in let b = scene L.log S.disk parts.new shelf.new in
         Meets a b (IsServed request.now.correlation_id
-        (if_read a.state.world (whole offset_commit_request request.now.body.now) (of_offset_commit a.state.world)) b.state.world []
-        result) }
+        (if_read a.state.world (within limits.request_entries commit_entries (whole offset_commit_request request.now.body.now))
+        (of_offset_commit limits a.state.world)) b.state.world [] result) }
     ensures acknowledged { let a = scene L.log S.disk parts.old shelf.old in let b = scene L.log S.disk parts.new shelf.new in
         IfOk result (λ answer. WhereHonest a b (AcknowledgesCommits
-        (CatalogFailed a b) request.now.correlation_id a.state.world request.now.body.now b.state.world answer)) }
+        (CatalogFailed a b) limits request.now.correlation_id a.state.world request.now.body.now b.state.world answer)) }
 {
-    let asked = OffsetCommitRequest::read(alloc, request.body)?;
+    let limit = limits.request_entries;
+    let asked = read_within::<OffsetCommitRequest<'_>>(alloc, limit, request.body)?;
     let mut sink = begin(alloc, request.correlation_id)?;
     let refusal = refusal_of(asked.group_id.as_str(), asked.generation_id);
-    offset_commit(parts, shelf, &asked, refusal, &mut sink)?;
+    offset_commit(parts, shelf, limits, &asked, refusal, &mut sink)?;
     Ok(finish(sink))
 }
 
@@ -52,14 +57,16 @@ pub(crate) fn serve_offset_commit<L: PartitionLog + Drop, S: Store>(
 pub(crate) fn serve_offset_fetch<L: PartitionLog + Drop>(
     alloc: Global,
     parts: &Parts<L>,
+    limit: Option<u64>,
     request: &Request<'_>,
 ) -> Result<Answer, ReadFault>
     ensures { (files : Files) → let w = world_of L.log parts.now files in
-        IsServed request.now.correlation_id (if_read w (asked_offsets request.now.api_version request.now.body.now)
+        IsServed request.now.correlation_id
+        (if_read w (within limit offset_fetch_entries (asked_offsets request.now.api_version request.now.body.now))
         (of_offset_fetch request.now.api_version w)) w [] result }
 {
     let has_code = has_code(request.api_version);
-    let asked = read_offset_fetch(alloc, has_code, request.body)?;
+    let asked = read_offset_fetch_within(alloc, limit, has_code, request.body)?;
     let mut sink = begin(alloc, request.correlation_id)?;
     offset_fetch(parts, has_code, &asked, &mut sink)?;
     Ok(finish(sink))

@@ -13,6 +13,7 @@ mod find_coordinator;
 mod group_commit;
 mod group_offsets;
 mod init_producer_id;
+mod limits;
 mod list_offsets;
 mod metadata;
 mod node;
@@ -21,13 +22,16 @@ mod produce;
 mod promises;
 mod repeated;
 mod request;
+mod within;
 
 pub use answer::{Answer, begin, finish};
 pub use dispatch::{Served, look, serve};
 pub use group_commit::offset_commit;
+pub use limits::DataLimits;
 pub use node::Node;
 pub use promises::{
     before_deadline, fetches_give_whole_batches, logs_stay_small, names_stay_apart, requests_again,
     requests_elsewhere, retention_again, retention_elsewhere, worlds_stay_tied,
 };
 pub use request::{Request, Wait};
+pub use within::{Named, read_within};

@@ -7,11 +7,13 @@ ghost use Rattle.kb_api_data.specs.declared.metadata.MetadataTopic.{MetadataTopi
 ghost use Rattle.kb_store.specs.Disk.{Files};
 ghost use Rattle.kb_wire.specs.Codec.{array, int32, nullable_string, string};
 ghost use Rattle.kb_wire.specs.Reads.{ReadsWhole};
+ghost use Rattle.kb_tenant.specs.Entries.{metadata_entries, within};
 ghost use Rattle.kb_tenant.specs.Metadata.{asked_metadata, broker, broker_v0, internal_in, metadata_in, metadata_of, partition_described};
 ghost use Rattle.kb_tenant.specs.Metadata.{topic_asked, topic_described, topic_in, topic_known, topics_asked, topics_in};
 ghost use Rattle.kb_tenant_state.specs.Parts.{world_of};
 
 use crate::node::Node;
+use crate::within::within;
 use kb_api_data::{
     MetadataBroker, MetadataBrokerV0, MetadataRequest, MetadataRequestV0, MetadataRequestV4,
 };
@@ -60,6 +62,20 @@ pub fn read_metadata<'a>(
         4 => read_v4(alloc, body),
         _ => MetadataRequest::read(alloc, body),
     }
+}
+
+/// The same, unless it names more topics than a limit allows.
+pub(crate) fn read_metadata_within<'a>(
+    alloc: Global,
+    limit: Option<u64>,
+    version: i16,
+    body: &'a [u8],
+) -> Result<MetadataRequest<'a>, ReadFault>
+    ensures exact { ReadsWhole (within limit metadata_entries (asked_metadata version body.now)) result }
+    ensures fits { IfOk result (λ r. metadata_request.Fits r) }
+{
+    let asked = read_metadata(alloc, version, body)?;
+    within(limit, asked)
 }
 
 /// Writes the one broker by the layout of version 0.

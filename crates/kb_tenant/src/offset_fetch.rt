@@ -8,11 +8,13 @@ ghost use Rattle.kb_wire.specs.Codec.{array, nullable_array};
 ghost use Rattle.kb_wire.specs.Reads.{ReadsWhole};
 ghost use Rattle.kb_api_group.specs.Layouts.{offset_fetch_topic, offset_fetch_request_v2, offset_fetch_partition_reply};
 ghost use Rattle.kb_api_group.specs.Layouts.{offset_fetch_topic_reply};
+ghost use Rattle.kb_tenant.specs.Entries.{offset_fetch_entries, within};
 ghost use Rattle.kb_tenant.specs.OffsetFetch.{committed_answered, told, kept, fetched, fetched_topic, fetched_all};
 ghost use Rattle.kb_tenant.specs.OffsetFetch.{asked_as, code_in, has_code, offsets_as, topics_fetched};
 ghost use Rattle.kb_tenant_state.specs.Parts.{world_of};
 
 use crate::all_offsets::put_all;
+use crate::within::within;
 use kb_api_group::{
     OffsetFetchPartitionReply, OffsetFetchRequest, OffsetFetchRequestV2, OffsetFetchTopic,
 };
@@ -47,6 +49,20 @@ pub(crate) fn read_offset_fetch<'a>(
         group_id,
         topics: Some(topics),
     })
+}
+
+/// The same, unless it names more topics and partitions than a limit allows.
+pub(crate) fn read_offset_fetch_within<'a>(
+    alloc: Global,
+    limit: Option<u64>,
+    has_code: bool,
+    body: &'a [u8],
+) -> Result<OffsetFetchRequestV2<'a>, ReadFault>
+    ensures exact { ReadsWhole (within limit offset_fetch_entries (asked_as has_code body.now)) result }
+    ensures fits { IfOk result (λ q. offset_fetch_request_v2.Fits q) }
+{
+    let asked = read_offset_fetch(alloc, has_code, body)?;
+    within(limit, asked)
 }
 
 /// What a group committed to a partition of the topic of an instance.

@@ -16,6 +16,7 @@ ghost use Rattle.kb_tenant.specs.Turns.{in_turn, written_behind, AreServed};
 
 mod batch;
 mod entry;
+mod full;
 mod reply;
 mod room;
 
@@ -29,11 +30,13 @@ use kb_tenant_state::{Parts, TopicPartition};
 use kb_wire::{ErrorCode, Sink};
 use std::alloc::AllocError;
 
-/// What a request says of all its entries: why they are refused, if they are, and whether a reply is due.
+/// What holds of all entries of a request: why they are refused, if they are, whether a reply is due, and the tenant's limit.
 #[derive(Clone, Copy)]
 struct Terms {
     refusal: Option<i16>,
     due: bool,
+    /// How many bytes of batches the tenant may have.
+    bytes: Option<u64>,
 }
 
 /// What every entry is refused for: a transaction, or acks that are neither 0, 1 nor -1.
@@ -49,14 +52,16 @@ fn refusal_of(request: &ProduceRequest<'_>) -> Option<i16>
     None
 }
 
-/// What a request says of all its entries. With acks 0 no reply is due.
-fn terms_of(request: &ProduceRequest<'_>) -> Terms
+/// What holds of all entries of a request. With acks 0 no reply is due.
+fn terms_of(request: &ProduceRequest<'_>, bytes: Option<u64>) -> Terms
     ensures refusal { result.refusal ≡ refusal_for request.now.transactional_id request.now.acks }
     ensures due { result.due ≡ is_due request.now.acks }
+    ensures bytes { result.bytes ≡ bytes }
 {
     Terms {
         refusal: refusal_of(request),
         due: request.acks != 0,
+        bytes,
     }
 }
 
@@ -75,17 +80,26 @@ fn serve_entries<L: PartitionLog + Drop, S: Store>(
     ensures meets { OnOk result (let a = scene L.log S.disk parts.old shelf.old in let b = scene L.log S.disk parts.new shelf.new in
         Meets a b ((progress b.state.world touched.new.items, sink.new.bytes)
         ≡ written_behind (λ x. where_due terms.due (produce_partition_reply.written x)) sink.old.bytes
-        (in_turn (entry_served terms.refusal topic) (progress a.state.world touched.old.items) entries.now))) }
+        (in_turn (entry_served terms.bytes terms.refusal topic) (progress a.state.world touched.old.items) entries.now))) }
     ensures told { OnOk result (let a = scene L.log S.disk parts.old shelf.old in let b = scene L.log S.disk parts.new shelf.new in
         (before now next : ℕ) → before ≤ a.disk.failures → b.disk.failures ≤ now → b.next ≤ next
         → WhereHonest a b ((replies : List ProducePartitionReply)
         × ((sink.new.bytes ≡ sink.old.bytes ++ flat_map (λ x. where_due terms.due (produce_partition_reply.written x)) replies)
-        × AreServed (IsEntryTold (FailedBy before now next) terms.refusal topic) (progress a.state.world touched.old.items) entries.now
+        × AreServed (IsEntryTold (FailedBy before now next) terms.bytes terms.refusal topic)
+        (progress a.state.world touched.old.items) entries.now
         (progress b.state.world touched.new.items) replies))) }
     ensures put { IsPut (length_due terms.due (entries_length entries.now)) sink.old result sink.new }
 {
     for entry in entries {
-        let reply = serve_entry(parts, shelf, terms.refusal, topic, entry, touched);
+        let reply = serve_entry(
+            parts,
+            shelf,
+            terms.bytes,
+            terms.refusal,
+            topic,
+            entry,
+            touched,
+        );
         put(terms.due, &reply, sink)?;
     }
     Ok(())
@@ -106,12 +120,12 @@ fn serve_topic<L: PartitionLog + Drop, S: Store>(
     ensures meets { OnOk result (let a = scene L.log S.disk parts.old shelf.old in let b = scene L.log S.disk parts.new shelf.new in
         Meets a b ((progress b.state.world touched.new.items, sink.new.bytes)
         ≡ written_next (λ x. where_due terms.due (produce_topic_reply.written x)) sink.old.bytes
-        (served_topic terms.refusal (progress a.state.world touched.old.items) topic.now))) }
+        (served_topic terms.bytes terms.refusal (progress a.state.world touched.old.items) topic.now))) }
     ensures told { OnOk result (let a = scene L.log S.disk parts.old shelf.old in let b = scene L.log S.disk parts.new shelf.new in
         (before now next : ℕ) → before ≤ a.disk.failures → b.disk.failures ≤ now → b.next ≤ next
         → WhereHonest a b ((reply : ProduceTopicReply)
         × ((sink.new.bytes ≡ sink.old.bytes ++ where_due terms.due (produce_topic_reply.written reply))
-        × IsTopicTold (FailedBy before now next) terms.refusal (progress a.state.world touched.old.items) topic.now
+        × IsTopicTold (FailedBy before now next) terms.bytes terms.refusal (progress a.state.world touched.old.items) topic.now
         (progress b.state.world touched.new.items) reply))) }
     ensures put { IsPut (length_due terms.due (topic_length topic.now)) sink.old result sink.new }
 {
@@ -132,11 +146,12 @@ fn serve_topic<L: PartitionLog + Drop, S: Store>(
 /// Serves a produce: each entry's batch is appended to its partition, or is refused, in the order of the request.
 ///
 /// The reply is written behind what is in the sink; with acks 0 there is none. The places where batches were appended are
-/// added to `touched`. Room for the whole reply is made before the first append, so that no batch is kept whose answer is
-/// lost for want of memory: after an `Err` nothing was appended.
+/// added to `touched`. A batch that is past the limit of bytes is refused; a repeat is not. Room for the whole reply is made
+/// before the first append, so that no batch is kept whose answer is lost for want of memory: after an `Err` nothing was appended.
 pub(crate) fn produce<L: PartitionLog + Drop, S: Store>(
     parts: &mut Parts<L>,
     shelf: &mut Shelf<S>,
+    limit: Option<u64>,
     request: &ProduceRequest<'_>,
     touched: &mut Vec<TopicPartition>,
     sink: &mut Sink,
@@ -145,12 +160,12 @@ pub(crate) fn produce<L: PartitionLog + Drop, S: Store>(
     requires fits { produce_request.Fits request.now }
     ensures step { IsStep (scene L.log S.disk parts.old shelf.old) (scene L.log S.disk parts.new shelf.new) }
     ensures meets { OnOk result (let a = scene L.log S.disk parts.old shelf.old in let b = scene L.log S.disk parts.new shelf.new in
-        let r = produced a.state.world touched.old.items request.now in
+        let r = produced limit a.state.world touched.old.items request.now in
         Meets a b ((b.state.world ≡ r.0.world) × (touched.new.items ≡ r.0.touched)
         × (sink.new.bytes ≡ sink.old.bytes ++ reply_bytes request.now.acks r.1))) }
     ensures told { OnOk result (let a = scene L.log S.disk parts.old shelf.old in let b = scene L.log S.disk parts.new shelf.new in
         WhereHonest a b ((reply : ProduceReply) × ((sink.new.bytes ≡ sink.old.bytes ++ reply_bytes request.now.acks reply)
-        × IsProduceTold (HasFailed a b) (progress a.state.world touched.old.items) request.now
+        × IsProduceTold (HasFailed a b) limit (progress a.state.world touched.old.items) request.now
         (progress b.state.world touched.new.items) reply))) }
     ensures longer { OnOk result (IsLonger (length_due (is_due request.now.acks) (reply_length request.now)) sink.old.bytes
         sink.new.bytes) }
@@ -158,7 +173,7 @@ pub(crate) fn produce<L: PartitionLog + Drop, S: Store>(
     ensures spared { let a = scene L.log S.disk parts.old shelf.old in let b = scene L.log S.disk parts.new shelf.new in
         OnErr result (b.state.world ≡ a.state.world) }
 {
-    let terms = terms_of(request);
+    let terms = terms_of(request, limit);
     make_room(terms.due, request, sink)?;
     put_count(terms.due, request.topics.len(), sink)?;
     for topic in request.topics.as_slice() {

@@ -14,6 +14,7 @@ ghost use Rattle.kb_tenant.specs.OffsetCommit.{committed_all};
 ghost use Rattle.kb_tenant.specs.Replies.{Replies};
 ghost use Rattle.kb_tenant.specs.Serve.{plainly_served, looked};
 ghost use Rattle.kb_tenant.specs.Waiting.{AreApart, HasOwnNames, StillWaits};
+ghost use Rattle.kb_tenant.specs.declared.limits.DataLimits.{DataLimits};
 ghost use Rattle.kb_tenant.specs.declared.node.Node.{Node};
 
 /// The topics of a world are tied to its logs from the start on, whatever is asked, committed or dropped by retention, at whatever
@@ -22,7 +23,8 @@ pub fn worlds_stay_tied()
     ensures begun { IsTied new_world }
     ensures served { (node : Node) (w : World) (clock n : ℕ) (key version : ℤ) (body : List ℕ) → IsTied w
         → IsTied (plainly_served node w clock n key version body).world }
-    ensures committed { (w : World) (refusal : Option ℤ) (q : OffsetCommitRequest) → IsTied w → IsTied (committed_all w refusal q).0 }
+    ensures committed { (limits : DataLimits) (w : World) (refusal : Option ℤ) (q : OffsetCommitRequest) → IsTied w
+        → IsTied (committed_all limits w refusal q).0 }
     ensures retained { (clock : ℕ) (w : World) (place : TopicPartition) → IsTied w → IsTied (retain clock w place).0 }
 {}
 
@@ -31,8 +33,8 @@ pub fn names_stay_apart()
     ensures begun { HasOwnNames new_world }
     ensures served { (node : Node) (w : World) (clock n : ℕ) (key version : ℤ) (body : List ℕ) → HasOwnNames w
         → HasOwnNames (plainly_served node w clock n key version body).world }
-    ensures committed { (w : World) (refusal : Option ℤ) (q : OffsetCommitRequest) → HasOwnNames w
-        → HasOwnNames (committed_all w refusal q).0 }
+    ensures committed { (limits : DataLimits) (w : World) (refusal : Option ℤ) (q : OffsetCommitRequest) → HasOwnNames w
+        → HasOwnNames (committed_all limits w refusal q).0 }
     ensures retained { (clock : ℕ) (w : World) (place : TopicPartition) → HasOwnNames w → HasOwnNames (retain clock w place).0 }
 {}
 
@@ -43,8 +45,9 @@ pub fn requests_elsewhere()
         → IsTied w → fetch_answer w clock r deadline ≡ None
         → AreApart (places_of w r) (plainly_served node w clock n key version body).touched
         → StillWaits w (plainly_served node w clock n key version body).world clock r deadline }
-    ensures committed { (w : World) (clock : ℕ) (refusal : Option ℤ) (q : OffsetCommitRequest) (r : FetchRequest) (deadline : ℕ)
-        → IsTied w → fetch_answer w clock r deadline ≡ None → StillWaits w (committed_all w refusal q).0 clock r deadline }
+    ensures committed { (limits : DataLimits) (w : World) (clock : ℕ) (refusal : Option ℤ) (q : OffsetCommitRequest) (r : FetchRequest)
+        (deadline : ℕ) → IsTied w → fetch_answer w clock r deadline ≡ None
+        → StillWaits w (committed_all limits w refusal q).0 clock r deadline }
 {}
 
 /// The same after retention at a place that it does not wait for.
@@ -67,10 +70,10 @@ pub fn requests_again()
         → fetch_answer w clock r deadline ≡ None
         → fetch_answer (plainly_served node w clock n key version body).world clock r deadline ≡ None
         → places_of (plainly_served node w clock n key version body).world r ≡ places_of w r }
-    ensures committed { (w : World) (clock : ℕ) (refusal : Option ℤ) (q : OffsetCommitRequest) (r : FetchRequest) (deadline : ℕ)
-        → IsTied w → HasOwnNames w
-        → fetch_answer w clock r deadline ≡ None → fetch_answer (committed_all w refusal q).0 clock r deadline ≡ None
-        → places_of (committed_all w refusal q).0 r ≡ places_of w r }
+    ensures committed { (limits : DataLimits) (w : World) (clock : ℕ) (refusal : Option ℤ) (q : OffsetCommitRequest) (r : FetchRequest)
+        (deadline : ℕ) → IsTied w → HasOwnNames w
+        → fetch_answer w clock r deadline ≡ None → fetch_answer (committed_all limits w refusal q).0 clock r deadline ≡ None
+        → places_of (committed_all limits w refusal q).0 r ≡ places_of w r }
 {}
 
 /// Retention changes no place that a fetch asks for.
@@ -84,8 +87,8 @@ pub fn logs_stay_small()
     ensures begun { HasSmallLogs new_world }
     ensures served { (node : Node) (w : World) (clock n : ℕ) (key version : ℤ) (body : List ℕ) → HasSmallLogs w
         → HasSmallLogs (plainly_served node w clock n key version body).world }
-    ensures committed { (w : World) (refusal : Option ℤ) (q : OffsetCommitRequest) → HasSmallLogs w
-        → HasSmallLogs (committed_all w refusal q).0 }
+    ensures committed { (limits : DataLimits) (w : World) (refusal : Option ℤ) (q : OffsetCommitRequest) → HasSmallLogs w
+        → HasSmallLogs (committed_all limits w refusal q).0 }
     ensures retained { (clock : ℕ) (w : World) (place : TopicPartition) → HasSmallLogs w → HasSmallLogs (retain clock w place).0 }
 {}
 

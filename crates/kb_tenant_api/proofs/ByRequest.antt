@@ -12,6 +12,7 @@ use Rattle.kb_api_group.specs.declared.offset_commit.OffsetCommitRequest.{Offset
 use Rattle.kb_coordinator.specs.Groups.{Groups, silent}
 use Rattle.kb_tenant_state.specs.World.{World}
 use Rattle.kb_tenant.specs.Replies.{Shuts}
+use Rattle.kb_tenant.specs.Entries.{commit_entries, describe_groups_entries, within}
 use Rattle.kb_tenant.specs.Serve as tenant
 use Rattle.kb_tenant.specs.declared.node.Node.{Node}
 use Rattle.kb_tenant_api.specs.Replies.{Reaction, Plain}
@@ -20,7 +21,7 @@ use Rattle.kb_tenant_api.specs.Serve.{Outcome, if_read, of_describe, of_groups, 
 -- It holds where the topics stay, whatever becomes of the groups; after each commit; and after a request that is for no group.
 pub record Cases (P : Outcome → Type 0) (node : Node) (w : World) (clock : ℕ) (gs : Groups) (n : ℕ) (key version : ℤ) (body : List ℕ) : Type 0 where
   pub stays : (after : Groups) (reaction : Reaction) → P (of_groups w after reaction)
-  pub commit : (r : OffsetCommitRequest) → P (of_offset_commit w clock gs r)
+  pub commit : (r : OffsetCommitRequest) → P (of_offset_commit node.limits w clock gs r)
   pub topics : P (of_topics gs (tenant.plainly_served node w clock n key version body))
 
 read_by : {A : Type 0} (P : Outcome → Type 0) (w : World) (gs : Groups) (r : Result A WireFault) (f : A → Outcome) → ((a : A) → P (f a)) → P (of_groups w (silent gs) (Plain Shuts)) → P (if_read w gs r f)
@@ -37,22 +38,22 @@ by_request P node w clock gs n key version body c =
     let shut = c.stays (silent gs) (Plain Shuts) in
     let others : Outcome = of_topics gs (tenant.plainly_served node w clock n key version body) in
     let lists : Outcome = if_read w gs (whole list_groups_request body) (of_list w gs) in
-    let describes : Outcome = if_read w gs (whole describe_groups_request body) (of_describe w gs) in
+    let describes : Outcome = if_read w gs (within node.limits.request_entries describe_groups_entries (whole describe_groups_request body)) (of_describe w gs) in
     let syncs : Outcome = if_read w gs (whole sync_group_request body) (of_sync w clock n gs) in
     let leaves : Outcome = if_read w gs (whole leave_group_request body) (of_leave w clock gs) in
     let beats : Outcome = if_read w gs (whole heartbeat_request body) (of_heartbeat w clock gs) in
     let joins : Outcome = if_read w gs (whole join_group_request body) (of_join w clock n gs) in
-    let commits : Outcome = if_read w gs (whole offset_commit_request body) (of_offset_commit w clock gs) in
+    let commits : Outcome = if_read w gs (within node.limits.request_entries commit_entries (whole offset_commit_request body)) (of_offset_commit node.limits w clock gs) in
     let from_list : Outcome = if int_eq key LIST_GROUPS then lists else others in
     let from_describe : Outcome = if int_eq key DESCRIBE_GROUPS then describes else from_list in
     let from_sync : Outcome = if int_eq key SYNC_GROUP then syncs else from_describe in
     let from_leave : Outcome = if int_eq key LEAVE_GROUP then leaves else from_sync in
     let from_heartbeat : Outcome = if int_eq key HEARTBEAT then beats else from_leave in
     let from_join : Outcome = if int_eq key JOIN_GROUP then joins else from_heartbeat in
-    either P (int_eq key OFFSET_COMMIT) commits from_join (read_by P w gs (whole offset_commit_request body) (of_offset_commit w clock gs) c.commit shut)
+    either P (int_eq key OFFSET_COMMIT) commits from_join (read_by P w gs (within node.limits.request_entries commit_entries (whole offset_commit_request body)) (of_offset_commit node.limits w clock gs) c.commit shut)
     (either P (int_eq key JOIN_GROUP) joins from_heartbeat (read_by P w gs (whole join_group_request body) (of_join w clock n gs) (λ r. c.stays (of_join w clock n gs r).groups (of_join w clock n gs r).reaction) shut)
     (either P (int_eq key HEARTBEAT) beats from_leave (read_by P w gs (whole heartbeat_request body) (of_heartbeat w clock gs) (λ r. c.stays (of_heartbeat w clock gs r).groups (of_heartbeat w clock gs r).reaction) shut)
     (either P (int_eq key LEAVE_GROUP) leaves from_sync (read_by P w gs (whole leave_group_request body) (of_leave w clock gs) (λ r. c.stays (of_leave w clock gs r).groups (of_leave w clock gs r).reaction) shut)
     (either P (int_eq key SYNC_GROUP) syncs from_describe (read_by P w gs (whole sync_group_request body) (of_sync w clock n gs) (λ r. c.stays (of_sync w clock n gs r).groups (of_sync w clock n gs r).reaction) shut)
-    (either P (int_eq key DESCRIBE_GROUPS) describes from_list (read_by P w gs (whole describe_groups_request body) (of_describe w gs) (λ r. c.stays (of_describe w gs r).groups (of_describe w gs r).reaction) shut)
+    (either P (int_eq key DESCRIBE_GROUPS) describes from_list (read_by P w gs (within node.limits.request_entries describe_groups_entries (whole describe_groups_request body)) (of_describe w gs) (λ r. c.stays (of_describe w gs r).groups (of_describe w gs r).reaction) shut)
     (either P (int_eq key LIST_GROUPS) lists others (read_by P w gs (whole list_groups_request body) (of_list w gs) (λ r. c.stays (of_list w gs r).groups (of_list w gs r).reaction) shut) c.topics))))))

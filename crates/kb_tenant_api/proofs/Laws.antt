@@ -24,21 +24,21 @@ use Rattle.kb_tenant_api.proofs.ByRequest.{by_request}
 pub served_tied : (node : Node) (w : World) (clock : ℕ) (gs : Groups) (n : ℕ) (key version : ℤ) (body : List ℕ) → IsTied w → IsTied (served node w clock gs n key version body).world
 served_tied node w clock gs n key version body tied = by_request (λ (o : Outcome). IsTied o.world) node w clock gs n key version body (record {
   stays = λ after reaction. tied;
-  commit = λ r. commit_tied w (commit_refusal gs r) r tied;
+  commit = λ r. commit_tied node.limits w (commit_refusal gs r) r tied;
   topics = topics_tied node w clock n key version body tied;
 })
 
 pub served_names : (node : Node) (w : World) (clock : ℕ) (gs : Groups) (n : ℕ) (key version : ℤ) (body : List ℕ) → HasOwnNames w → HasOwnNames (served node w clock gs n key version body).world
 served_names node w clock gs n key version body own = by_request (λ (o : Outcome). HasOwnNames o.world) node w clock gs n key version body (record {
   stays = λ after reaction. own;
-  commit = λ r. commit_names w (commit_refusal gs r) r own;
+  commit = λ r. commit_names node.limits w (commit_refusal gs r) r own;
   topics = topics_names node w clock n key version body own;
 })
 
 pub served_small : (node : Node) (w : World) (clock : ℕ) (gs : Groups) (n : ℕ) (key version : ℤ) (body : List ℕ) → HasSmallLogs w → HasSmallLogs (served node w clock gs n key version body).world
 served_small node w clock gs n key version body small = by_request (λ (o : Outcome). HasSmallLogs o.world) node w clock gs n key version body (record {
   stays = λ after reaction. small;
-  commit = λ r. committed_small w (commit_refusal gs r) r small;
+  commit = λ r. committed_small node.limits w (commit_refusal gs r) r small;
   topics = topics_small node w clock n key version body small;
 })
 
@@ -52,7 +52,7 @@ pub served_waits : (node : Node) (w : World) (clock : ℕ) (gs : Groups) (n : �
     → AreApart (places_of w r) (served node w clock gs n key version body).touched → StillWaits w (served node w clock gs n key version body).world clock r deadline
 served_waits node w clock gs n key version body r deadline tied waits = by_request (λ (o : Outcome). AreApart (places_of w r) o.touched → StillWaits w o.world clock r deadline) node w clock gs n key version body (record {
   stays = λ after reaction apart. waits_here w clock r deadline waits;
-  commit = λ q apart. committed_waits w clock (commit_refusal gs q) q r deadline tied waits;
+  commit = λ q apart. committed_waits node.limits w clock (commit_refusal gs q) q r deadline tied waits;
   topics = topics_waits node w clock n key version body r deadline tied waits;
 })
 
@@ -60,7 +60,7 @@ pub served_again : (node : Node) (w : World) (clock : ℕ) (gs : Groups) (n : �
     → fetch_answer (served node w clock gs n key version body).world clock r deadline ≡ None → places_of (served node w clock gs n key version body).world r ≡ places_of w r
 served_again node w clock gs n key version body r deadline tied own waits = by_request (λ (o : Outcome). fetch_answer o.world clock r deadline ≡ None → places_of o.world r ≡ places_of w r) node w clock gs n key version body (record {
   stays = λ after reaction none. refl;
-  commit = λ q. committed_again w clock (commit_refusal gs q) q r deadline tied own waits;
+  commit = λ q. committed_again node.limits w clock (commit_refusal gs q) q r deadline tied own waits;
   topics = topics_again node w clock n key version body r deadline tied own waits;
 })
 

@@ -34,7 +34,9 @@ use Rattle.kb_coordinator.specs.Replies.{join_refusal}
 use Rattle.kb_coordinator.specs.Requests.{assigned_to, join_of, named}
 use Rattle.kb_tenant_state.specs.World.{World, new_world}
 use Rattle.kb_tenant.specs.Replies.{Shuts}
+use Rattle.kb_tenant.specs.Entries.{commit_entries, describe_groups_entries, within}
 use Rattle.kb_tenant.specs.Serve as tenant
+use Rattle.kb_tenant.specs.declared.limits.DataLimits.{DataLimits}
 use Rattle.kb_tenant.specs.declared.node.Node.{Node}
 use Rattle.kb_tenant_api.specs.Replies.{Reaction, Plain, Rebalances, replies}
 use Rattle.kb_tenant_api.specs.declared.answer.Answer.{Answer}
@@ -121,8 +123,8 @@ heartbeat_told w clock n gs r k =
     let f : State → State = one.after_heartbeat clock (named r.member_id) r.generation_id in
     omega (arith, same_in k r.group_id f (λ g. touched_waits k (one.starts (one.heartbeat (named r.member_id) r.generation_id g)) clock (named r.member_id) g) gs.groups)
 
-commit_told : (w : World) (clock n : ℕ) (gs : Groups) (r : OffsetCommitRequest) → IsTold n gs (of_offset_commit w clock gs r)
-commit_told w clock n gs r = by (one.is_empty r.group_id)
+commit_told : (limits : DataLimits) (w : World) (clock n : ℕ) (gs : Groups) (r : OffsetCommitRequest) → IsTold n gs (of_offset_commit limits w clock gs r)
+commit_told limits w clock n gs r = by (one.is_empty r.group_id)
   where
     f : State → State
     f = one.after_may_commit clock (named r.member_id) r.generation_id
@@ -144,24 +146,24 @@ unfolding served
 served_told node w clock gs n key version body =
     let others : Outcome = of_topics gs (tenant.plainly_served node w clock n key version body) in
     let lists : Outcome = if_read w gs (whole list_groups_request body) (of_list w gs) in
-    let describes : Outcome = if_read w gs (whole describe_groups_request body) (of_describe w gs) in
+    let describes : Outcome = if_read w gs (within node.limits.request_entries describe_groups_entries (whole describe_groups_request body)) (of_describe w gs) in
     let syncs : Outcome = if_read w gs (whole sync_group_request body) (of_sync w clock n gs) in
     let leaves : Outcome = if_read w gs (whole leave_group_request body) (of_leave w clock gs) in
     let beats : Outcome = if_read w gs (whole heartbeat_request body) (of_heartbeat w clock gs) in
     let joins : Outcome = if_read w gs (whole join_group_request body) (of_join w clock n gs) in
-    let commits : Outcome = if_read w gs (whole offset_commit_request body) (of_offset_commit w clock gs) in
+    let commits : Outcome = if_read w gs (within node.limits.request_entries commit_entries (whole offset_commit_request body)) (of_offset_commit node.limits w clock gs) in
     let from_list : Outcome = if int_eq key LIST_GROUPS then lists else others in
     let from_describe : Outcome = if int_eq key DESCRIBE_GROUPS then describes else from_list in
     let from_sync : Outcome = if int_eq key SYNC_GROUP then syncs else from_describe in
     let from_leave : Outcome = if int_eq key LEAVE_GROUP then leaves else from_sync in
     let from_heartbeat : Outcome = if int_eq key HEARTBEAT then beats else from_leave in
     let from_join : Outcome = if int_eq key JOIN_GROUP then joins else from_heartbeat in
-    either n gs (int_eq key OFFSET_COMMIT) commits from_join (read_told w n gs (whole offset_commit_request body) (of_offset_commit w clock gs) (commit_told w clock n gs))
+    either n gs (int_eq key OFFSET_COMMIT) commits from_join (read_told w n gs (within node.limits.request_entries commit_entries (whole offset_commit_request body)) (of_offset_commit node.limits w clock gs) (commit_told node.limits w clock n gs))
     (either n gs (int_eq key JOIN_GROUP) joins from_heartbeat (read_told w n gs (whole join_group_request body) (of_join w clock n gs) (join_told w clock n gs))
     (either n gs (int_eq key HEARTBEAT) beats from_leave (read_told w n gs (whole heartbeat_request body) (of_heartbeat w clock gs) (heartbeat_told w clock n gs))
     (either n gs (int_eq key LEAVE_GROUP) leaves from_sync (read_told w n gs (whole leave_group_request body) (of_leave w clock gs) (leave_told w clock n gs))
     (either n gs (int_eq key SYNC_GROUP) syncs from_describe (read_told w n gs (whole sync_group_request body) (of_sync w clock n gs) (sync_told w clock n gs))
-    (either n gs (int_eq key DESCRIBE_GROUPS) describes from_list (read_told w n gs (whole describe_groups_request body) (of_describe w gs) (λ r. silent_served n false gs))
+    (either n gs (int_eq key DESCRIBE_GROUPS) describes from_list (read_told w n gs (within node.limits.request_entries describe_groups_entries (whole describe_groups_request body)) (of_describe w gs) (λ r. silent_served n false gs))
     (either n gs (int_eq key LIST_GROUPS) lists others (read_told w n gs (whole list_groups_request body) (of_list w gs) (λ r. silent_served n false gs)) (silent_served n false gs)))))))
 
 -- 3. A moment, and a connection that is gone
@@ -242,11 +244,11 @@ leave_waits_told w clock n gs new body r is = told_groups n gs (if_read w gs (wh
     by (Ok q) = leave_told w clock n gs q
     by (Err fault) = silent_served n false gs
 
-pub commit_waits : (w : World) (clock n : ℕ) (gs new : Groups) (body : List ℕ) (r : Result Answer ReadFault) → AreGroupsBy gs (if_read w gs (whole offset_commit_request body) (of_offset_commit w clock gs)).groups r new → IsWaitToldBy n gs r new
-commit_waits w clock n gs new body r is = told_groups n gs (if_read w gs (whole offset_commit_request body) (of_offset_commit w clock gs)).groups new r (by (whole offset_commit_request body)) is
+pub commit_waits : (limits : DataLimits) (w : World) (clock n : ℕ) (gs new : Groups) (body : List ℕ) (r : Result Answer ReadFault) → AreGroupsBy gs (if_read w gs (within limits.request_entries commit_entries (whole offset_commit_request body)) (of_offset_commit limits w clock gs)).groups r new → IsWaitToldBy n gs r new
+commit_waits limits w clock n gs new body r is = told_groups n gs (if_read w gs (within limits.request_entries commit_entries (whole offset_commit_request body)) (of_offset_commit limits w clock gs)).groups new r (by (within limits.request_entries commit_entries (whole offset_commit_request body))) is
   where
-    by : (q : Result OffsetCommitRequest WireFault) → AreServed n false gs (if_read w gs q (of_offset_commit w clock gs)).groups
-    by (Ok q) = commit_told w clock n gs q
+    by : (q : Result OffsetCommitRequest WireFault) → AreServed n false gs (if_read w gs q (of_offset_commit limits w clock gs)).groups
+    by (Ok q) = commit_told limits w clock n gs q
     by (Err fault) = silent_served n false gs
 
 -- a join that is not accepted

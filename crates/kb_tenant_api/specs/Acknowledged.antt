@@ -14,6 +14,7 @@ use Rattle.kb_tenant.specs.Told.{IsCommitTopicTold, IsReplied}
 use Rattle.kb_tenant.specs.Turns.{AreServed}
 use Rattle.kb_tenant.specs.declared.answer.Answer as plain
 use Rattle.kb_tenant.specs.declared.answer.Answer.TheVariants as plain_answers
+use Rattle.kb_tenant.specs.declared.limits.DataLimits.{DataLimits}
 use Rattle.kb_tenant.specs.declared.node.Node.{Node}
 use Rattle.kb_tenant_api.specs.Replies.{Reaction, IsAnswer}
 use Rattle.kb_tenant_api.specs.Serve.{commit_refusal, served}
@@ -27,15 +28,15 @@ IsPlainly Told answers.Rebalance = ⊥
 
 -- It is the reply of an OffsetCommit, of which the group refuses what it refuses: each offset, one after another, is committed, or is
 -- refused as is defined; or it is refused for a want, and nothing changes.
-abbrev pub TellsCommits : Type 0 → Groups → World → OffsetCommitRequest → World → List ℕ → Type 0
-TellsCommits failed gs w q v body =
+abbrev pub TellsCommits : Type 0 → DataLimits → Groups → World → OffsetCommitRequest → World → List ℕ → Type 0
+TellsCommits failed limits gs w q v body =
     (reply : OffsetCommitReply) × ((body ≡ offset_commit_reply.written reply)
-    × AreServed (IsCommitTopicTold failed (commit_refusal gs q) q.group_id) w q.topics v reply.topics)
+    × AreServed (IsCommitTopicTold failed limits (commit_refusal gs q) q.group_id) w q.topics v reply.topics)
 
 -- The same of a body, where it is a request of OffsetCommit.
-abbrev pub AcknowledgesCommits : Type 0 → ℤ → Groups → World → List ℕ → World → Answer → Type 0
-AcknowledgesCommits failed id gs w body v a =
-    (q : OffsetCommitRequest) → whole offset_commit_request body ≡ Ok q → IsPlainly (IsReplied id (TellsCommits failed gs w q v)) a
+abbrev pub AcknowledgesCommits : Type 0 → DataLimits → ℤ → Groups → World → List ℕ → World → Answer → Type 0
+AcknowledgesCommits failed limits id gs w body v a =
+    (q : OffsetCommitRequest) → whole offset_commit_request body ≡ Ok q → IsPlainly (IsReplied id (TellsCommits failed limits gs w q v)) a
 
 -- the APIs of a group's members, and of those who look at groups
 abbrev pub IsOfMembers : ℤ → Type 0
@@ -53,6 +54,6 @@ pub record IsTruthful (failed full : Type 0) (node : Node) (clock n : ℕ) (key 
     (v : World) (touched : List TopicPartition) (answer : Answer) : Type 0 where
   pub plain : (IsOfMembers key → ⊥) → (key ≡ OFFSET_COMMIT → ⊥)
       → IsPlainly (tenant.IsTruthful failed full node clock n key version id body w v touched) answer
-  pub committed : key ≡ OFFSET_COMMIT → AcknowledgesCommits (failed ⊎ full) id gs w body v answer
+  pub committed : key ≡ OFFSET_COMMIT → AcknowledgesCommits (failed ⊎ full) node.limits id gs w body v answer
   pub members : IsOfMembers key → IsAnswerOrShut id (served node w clock gs n key version body).reaction answer
   pub stays : IsOfMembers key → v ≡ w

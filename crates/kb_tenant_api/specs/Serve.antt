@@ -29,9 +29,11 @@ use Rattle.kb_groups.specs.declared.reply.SyncAnswer.{SyncAnswer}
 use Rattle.kb_groups.specs.declared.reply.SyncAnswer.TheVariants as sync
 use Rattle.kb_tenant_state.specs.World.{World}
 use Rattle.kb_tenant_state.specs.declared.topic_partition.TopicPartition.{TopicPartition}
+use Rattle.kb_tenant.specs.Entries.{commit_entries, describe_groups_entries, within}
 use Rattle.kb_tenant.specs.OffsetCommit.{committed_all}
 use Rattle.kb_tenant.specs.Replies.{Shuts}
 use Rattle.kb_tenant.specs.Serve as tenant
+use Rattle.kb_tenant.specs.declared.limits.DataLimits.{DataLimits}
 use Rattle.kb_tenant.specs.declared.node.Node.{Node}
 use Rattle.kb_tenant_api.specs.Replies.{Reaction, Plain, Rebalances, IsAnswer, replies}
 use Rattle.kb_tenant_api.specs.declared.answer.Answer.{Answer}
@@ -90,9 +92,9 @@ refusal_in code = if is_accepted code then None else Some (code_of code)
 abbrev pub commit_refusal : Groups → OffsetCommitRequest → Option ℤ
 commit_refusal gs r = refusal_in (may_commit r.group_id r.member_id r.generation_id gs)
 
-abbrev pub of_offset_commit : World → ℕ → Groups → OffsetCommitRequest → Outcome
-of_offset_commit w clock gs r =
-    let c = committed_all w (commit_refusal gs r) r in
+abbrev pub of_offset_commit : DataLimits → World → ℕ → Groups → OffsetCommitRequest → Outcome
+of_offset_commit limits w clock gs r =
+    let c = committed_all limits w (commit_refusal gs r) r in
     record {
       world = c.0;
       groups = after_may_commit clock r.group_id r.member_id r.generation_id gs;
@@ -111,15 +113,19 @@ abbrev pub if_read : {A : Type 0} → World → Groups → Result A WireFault �
 if_read w gs (Ok v) f = f v
 if_read w gs (Err fault) f = of_groups w (silent gs) (Plain Shuts)
 
--- a request on the connection of number n, at a time of the clock in milliseconds; those of other APIs are for no group
+-- a request on the connection of number n, at a time of the clock in milliseconds; those of other APIs are for no group. One that names
+-- more entries than its tenant's limit allows shuts the connection.
 unfoldable pub served : Node → World → ℕ → Groups → ℕ → ℤ → ℤ → List ℕ → Outcome
 served node w clock gs n key version body =
-    if int_eq key OFFSET_COMMIT then if_read w gs (whole offset_commit_request body) (of_offset_commit w clock gs)
+    let limit = node.limits.request_entries in
+    if int_eq key OFFSET_COMMIT then if_read w gs (within limit commit_entries (whole offset_commit_request body))
+    (of_offset_commit node.limits w clock gs)
     else if int_eq key JOIN_GROUP then if_read w gs (whole join_group_request body) (of_join w clock n gs)
     else if int_eq key HEARTBEAT then if_read w gs (whole heartbeat_request body) (of_heartbeat w clock gs)
     else if int_eq key LEAVE_GROUP then if_read w gs (whole leave_group_request body) (of_leave w clock gs)
     else if int_eq key SYNC_GROUP then if_read w gs (whole sync_group_request body) (of_sync w clock n gs)
-    else if int_eq key DESCRIBE_GROUPS then if_read w gs (whole describe_groups_request body) (of_describe w gs)
+    else if int_eq key DESCRIBE_GROUPS then if_read w gs (within limit describe_groups_entries (whole describe_groups_request body))
+    (of_describe w gs)
     else if int_eq key LIST_GROUPS then if_read w gs (whole list_groups_request body) (of_list w gs)
     else of_topics gs (tenant.plainly_served node w clock n key version body)
 

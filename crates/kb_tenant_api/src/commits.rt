@@ -4,6 +4,7 @@ ghost use Rattle.kb_api_group.specs.Layouts.{offset_commit_request};
 ghost use Rattle.kb_coordinator.specs.Calls.{after_may_commit};
 ghost use Rattle.kb_wire.specs.Codec.{whole};
 ghost use Rattle.kb_tenant_state.specs.Scene.{WhereHonest};
+ghost use Rattle.kb_tenant.specs.Entries.{commit_entries, within};
 ghost use Rattle.kb_tenant.specs.Told.{CatalogFailed};
 ghost use Rattle.kb_tenant_state.specs.Parts.{scene};
 ghost use Rattle.kb_tenant_state.specs.Steps.{IsStep, Meets};
@@ -15,9 +16,9 @@ use kb_api_group::OffsetCommitRequest;
 use kb_coordinator::Coordinator;
 use kb_log::{PartitionLog, Shelf};
 use kb_store::Store;
-use kb_tenant::{Request, begin, finish, offset_commit};
+use kb_tenant::{DataLimits, Request, begin, finish, offset_commit, read_within};
 use kb_tenant_state::Parts;
-use kb_wire::{Layout, ReadFault};
+use kb_wire::ReadFault;
 use std::alloc::Global;
 
 /// The error code of each entry of a commit, if its group refuses the member. The session of one that may commit starts again.
@@ -36,33 +37,36 @@ fn refusal(groups: &mut Coordinator, clock: u64, request: &OffsetCommitRequest<'
     if error == 0 { None } else { Some(error) }
 }
 
-/// OffsetCommit, at that clock in milliseconds.
+/// OffsetCommit, at that clock in milliseconds, within a tenant's limits.
 pub(crate) fn commit_offsets<L: PartitionLog + Drop, S: Store>(
     alloc: Global,
     parts: &mut Parts<L>,
     groups: &mut Coordinator,
     shelf: &mut Shelf<S>,
     clock: u64,
+    limits: DataLimits,
     request: &Request<'_>,
 ) -> Result<Answer, ReadFault>
     requires { (scene L.log S.disk parts.old shelf.old).sound }
     ensures step { IsStep (scene L.log S.disk parts.old shelf.old) (scene L.log S.disk parts.new shelf.new) }
     ensures meets { let a = scene L.log S.disk parts.old shelf.old in let b = scene L.log S.disk parts.new shelf.new in
         Meets a b (IsServed request.now.correlation_id
-        (if_read a.state.world groups.old (whole offset_commit_request request.now.body.now)
-        (of_offset_commit a.state.world clock groups.old)) b.state.world groups.new [] result) }
+        (if_read a.state.world groups.old (within limits.request_entries commit_entries (whole offset_commit_request request.now.body.now))
+        (of_offset_commit limits a.state.world clock groups.old)) b.state.world groups.new [] result) }
     // An offset that is answered with no error is what the catalog has, whatever else was refused.
     ensures acknowledged { let a = scene L.log S.disk parts.old shelf.old in let b = scene L.log S.disk parts.new shelf.new in
         IfOk result (λ answer. WhereHonest a b (AcknowledgesCommits
-        (CatalogFailed a b) request.now.correlation_id groups.old a.state.world request.now.body.now b.state.world answer)) }
+        (CatalogFailed a b) limits request.now.correlation_id groups.old a.state.world request.now.body.now b.state.world answer)) }
     ensures groups { let a = scene L.log S.disk parts.old shelf.old in
-        AreGroupsBy groups.old (if_read a.state.world groups.old (whole offset_commit_request request.now.body.now)
-        (of_offset_commit a.state.world clock groups.old)).groups result groups.new }
+        AreGroupsBy groups.old (if_read a.state.world groups.old
+        (within limits.request_entries commit_entries (whole offset_commit_request request.now.body.now))
+        (of_offset_commit limits a.state.world clock groups.old)).groups result groups.new }
 {
     groups.silence();
-    let asked = OffsetCommitRequest::read(alloc, request.body)?;
+    let limit = limits.request_entries;
+    let asked = read_within::<OffsetCommitRequest<'_>>(alloc, limit, request.body)?;
     let mut sink = begin(alloc, request.correlation_id)?;
     let refusal = refusal(groups, clock, &asked);
-    offset_commit(parts, shelf, &asked, refusal, &mut sink)?;
+    offset_commit(parts, shelf, limits, &asked, refusal, &mut sink)?;
     Ok(Answer::Plain(finish(sink)))
 }

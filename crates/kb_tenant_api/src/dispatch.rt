@@ -60,13 +60,16 @@ fn serve_by_key<L: PartitionLog + Drop, S: Store>(
         request.now.api_version request.now.body.now).groups result groups.new }
     ensures waits { IsWaitToldBy request.now.connection groups.old result groups.new }
 {
+    let limit = node.limits.request_entries;
     match request.api_key {
-        api_key::OFFSET_COMMIT => commit_offsets(alloc, parts, groups, shelf, clock, request),
+        api_key::OFFSET_COMMIT => {
+            commit_offsets(alloc, parts, groups, shelf, clock, node.limits, request)
+        }
         api_key::JOIN_GROUP => join_group(alloc, groups, clock, request),
         api_key::HEARTBEAT => heartbeat(alloc, groups, clock, request),
         api_key::LEAVE_GROUP => leave_group(alloc, groups, clock, request),
         api_key::SYNC_GROUP => sync_group(alloc, groups, clock, request),
-        group_key::DESCRIBE_GROUPS => describe_groups(alloc, groups, request),
+        group_key::DESCRIBE_GROUPS => describe_groups(alloc, groups, limit, request),
         group_key::LIST_GROUPS => list_groups(alloc, groups, request),
         _ => {
             groups.silence();
@@ -93,9 +96,10 @@ fn served_with(answer: Answer, touched: Vec<TopicPartition>, groups: &Coordinato
 
 /// Serves a request of a tenant, at a time of the clock in milliseconds.
 ///
-/// A body that is not the API's, a key that is not a tenant's and a reply whose size does not fit an INT32 shut the connection. So does
-/// want of memory for the read request, the reply or a wait, which is counted. Whatever was refused, and on any store, the groups are
-/// then those that the request makes, or those of before without the last replies. The host is to fit a STRING.
+/// A body that is not the API's, one that names more entries than the tenant's limit allows, a key that is not a tenant's and a reply
+/// whose size does not fit an INT32 shut the connection. So does want of memory for the read request, the reply or a wait, which is
+/// counted. Whatever was refused, and on any store, the groups are then those that the request makes, or those of before without the
+/// last replies. The host is to fit a STRING.
 pub fn serve<L: PartitionLog + Drop, S: Store>(
     alloc: Global,
     parts: &mut Parts<L>,

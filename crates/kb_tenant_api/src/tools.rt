@@ -6,28 +6,31 @@ ghost use Rattle.kb_api_group.specs.Layouts.{describe_groups_request, list_group
 ghost use Rattle.kb_coordinator.specs.Groups.{silent};
 ghost use Rattle.kb_wire.specs.Codec.{whole};
 ghost use Rattle.kb_tenant_state.specs.World.{World};
+ghost use Rattle.kb_tenant.specs.Entries.{describe_groups_entries, within};
 ghost use Rattle.kb_tenant_api.specs.Serve.{if_read, of_describe, of_list, IsServed};
 
 use crate::answer::Answer;
 use kb_api_group::{DescribeGroupsRequest, ListGroupsRequest};
 use kb_coordinator::Coordinator;
-use kb_tenant::{Request, begin, finish};
+use kb_tenant::{Request, begin, finish, read_within};
 use kb_wire::{Layout, ReadFault};
 use std::alloc::Global;
 
-/// DescribeGroups.
+/// DescribeGroups, of a request that names no more groups than a limit allows.
 pub(crate) fn describe_groups(
     alloc: Global,
     groups: &mut Coordinator,
+    limit: Option<u64>,
     request: &Request<'_>,
 ) -> Result<Answer, ReadFault>
     ensures served { (w : World)
-        → IsServed request.now.correlation_id (if_read w groups.old (whole describe_groups_request request.now.body.now)
+        → IsServed request.now.correlation_id
+        (if_read w groups.old (within limit describe_groups_entries (whole describe_groups_request request.now.body.now))
         (of_describe w groups.old)) w groups.new [] result }
     ensures groups { groups.new ≡ silent groups.old }
 {
     groups.silence();
-    let asked = DescribeGroupsRequest::read(alloc, request.body)?;
+    let asked = read_within::<DescribeGroupsRequest<'_>>(alloc, limit, request.body)?;
     let mut sink = begin(alloc, request.correlation_id)?;
     groups.put_descriptions(&asked, &mut sink)?;
     Ok(Answer::Plain(finish(sink)))

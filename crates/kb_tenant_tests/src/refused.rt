@@ -6,7 +6,7 @@ ghost use Rattle.kb_tenants.specs.Tenants.{AreKept};
 use kb_log::{PartitionLog, Shelf};
 use kb_segment_log::SegmentLog;
 use kb_store::{Fuse, FusedStore, MemoryStore, Store};
-use kb_tenant::{Answer, Node, Request, Wait};
+use kb_tenant::{Answer, DataLimits, Node, Request, Wait};
 use kb_tenants::Tenants;
 use kb_wire::{Text, api_key};
 use std::alloc::{AllocError, Global};
@@ -83,6 +83,7 @@ fn ask<L: PartitionLog + Drop, S: Store>(
     let node = Node {
         host: Text::new("localhost"),
         port: 9092,
+        limits: DataLimits::none(),
     };
     let request = Request {
         connection: 1,

@@ -4,6 +4,7 @@
 
 mod steps;
 
+use kb_tenant::DataLimits;
 use std::test::Fail;
 use steps::Tenant;
 
@@ -61,9 +62,61 @@ const REQUESTS: [[&str; 3]; 4] = [
 /// counted. A group has the offset that it had, or the one that it commits.
 #[test]
 fn want_of_memory_is_counted(rt: HostRuntime) -> Result<(), Fail> {
-    let mut tenant = Tenant::new(rt.alloc())?;
+    let mut tenant = Tenant::new(rt.alloc(), DataLimits::none())?;
     if tenant.is_refused(&rt, rt.alloc(), &REQUESTS)? {
         return tenant.has_one_of(&rt, rt.alloc(), FETCH_OFFSET, NO_OFFSET_OR_5);
     }
+    Ok(())
+}
+
+/// What a tenant is answered that may have two batches of `hi` and one committed offset. A deletion makes room for one batch more.
+const AT_LIMITS: [[&str; 3]; 8] = [
+    [CREATE, CREATED, "0000000d 0000000a 00000001 0001 't ffff"],
+    [APPEND, APPENDED, "produced ffff nowhere 00000000"],
+    [
+        APPEND,
+        "produced 0000 0000000000000001 ffffffffffffffff 00000000",
+        "produced ffff nowhere 00000000",
+    ],
+    [
+        APPEND,
+        "produced 002c nowhere 00000000",
+        "produced ffff nowhere 00000000",
+    ],
+    [
+        DELETE,
+        DELETED,
+        "00000021 00000046 00000000 t/0 ffffffffffffffff ffff",
+    ],
+    [
+        APPEND,
+        "produced 0000 0000000000000002 ffffffffffffffff 00000000",
+        "produced ffff nowhere 00000000",
+    ],
+    [
+        COMMIT,
+        "00000015 0000003c 00000001 0001 't 00000001 00000000 0000",
+        "00000015 0000003c 00000001 0001 't 00000001 00000000 ffff",
+    ],
+    [
+        "00000035 0008 0002 0000003c ffff 0001 'h ffffffff 0000 ffffffffffffffff 00000001 0001 't \
+        00000001 00000000 0000000000000005 0001 'm",
+        "00000015 0000003c 00000001 0001 't 00000001 00000000 002c",
+        "00000015 0000003c 00000001 0001 't 00000001 00000000 ffff",
+    ],
+];
+
+/// What a tenant may not have is refused, which no store's refusal is, and is not counted as one.
+#[test]
+fn limits_are_told(rt: HostRuntime) -> Result<(), Fail> {
+    let limits = DataLimits {
+        topics: None,
+        partitions: None,
+        offsets: Some(1),
+        bytes: Some(140),
+        request_entries: None,
+    };
+    let mut tenant = Tenant::new(rt.alloc(), limits)?;
+    tenant.is_refused(&rt, rt.alloc(), &AT_LIMITS)?;
     Ok(())
 }

@@ -7,7 +7,7 @@ ghost use Rattle.kb_tenants.specs.Tenants.{AreKept, hosted};
 
 use kb_log::{ListLog, Shelf};
 use kb_store::MemoryStore;
-use kb_tenant::{Answer, Node, Request};
+use kb_tenant::{Answer, DataLimits, Node, Request};
 use kb_tenants::Tenants;
 use kb_wire::{Text, api_key};
 use std::alloc::{AllocError, Global};
@@ -67,6 +67,7 @@ fn plays(
     let node = Node {
         host: Text::new("localhost"),
         port: 9092,
+        limits: DataLimits::none(),
     };
     for (tenant, api_key, body, reply) in asked {
         let request = Request {

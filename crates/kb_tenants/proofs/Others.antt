@@ -11,6 +11,7 @@ use Rattle.kb_topics.specs.MetaLog.{IsFoldOf}
 use Rattle.std.proofs.lemmas.List.{length-set}
 use Rattle.kb_tenant_state.proofs.Put.{get_put}
 use Rattle.kb_tenant_state.specs.RetentionTime.{AreAllKept}
+use Rattle.kb_tenant_state.specs.Stored.{IsTold, stored_in, up_to_end}
 use Rattle.kb_tenant_state.specs.Parts as parts
 use Rattle.kb_tenant_state.specs.Parts.{IsSound, Agrees, Owns, entries, meta, world_of}
 use Rattle.kb_tenant_state.specs.Counts.{END, IsCalm}
@@ -49,6 +50,7 @@ module _ {L : Type 0} (log : L → Log) (law : (l : L) → IsLawfulLog (log l)) 
     tied = sound.tied;
     catalog_named = sound.catalog_named;
     logs_named = sound.logs_named;
+    offsets = sound.offsets;
   }
 
   pub still_seen : e.honest → world_of log q e.files ≡ world_of log q d.files
@@ -64,6 +66,7 @@ module _ {L : Type 0} (log : L → Log) (law : (l : L) → IsLawfulLog (log l)) 
     started = agree.started;
     meta_started = agree.meta_started;
     until = subst (AreAllKept q.next_retention_time) (sym (still_seen honest)) agree.until;
+    stored = subst (λ (w : World). IsTold q.stored (up_to_end (stored_in w))) (sym (still_seen honest)) agree.stored;
   }
 
   pub still_exact : (meta log q).exact d.table → (meta log q).exact e.table

@@ -2,11 +2,13 @@
 //!
 //! From version 5 on a request tells where a follower's logs start, which nobody asks for here, and a reply where the partition's
 //! log does.
-ghost use Rattle.std.specs.Prelude.{◌≡◌, map, IfOk};
+ghost use Rattle.std.specs.Prelude.{◌≡◌, map, IfOk, Ok};
 ghost use Rattle.kb_wire.specs.Reads.{ReadsWhole};
 ghost use Rattle.kb_api_data.specs.Layouts.{fetch_request};
+ghost use Rattle.kb_tenant.specs.Entries.{fetch_entries, within};
 ghost use Rattle.kb_tenant.specs.Fetch.{has_starts, plain, plain_partition, plain_topic, read_as};
 
+use crate::within::within;
 use kb_api_data::{
     FetchPartition, FetchPartitionV5, FetchRequest, FetchRequestV5, FetchTopic, FetchTopicV5,
 };
@@ -84,4 +86,19 @@ pub(crate) fn read_request<'a>(
         return Ok(plain(alloc, &asked)?);
     }
     FetchRequest::read(alloc, body)
+}
+
+/// Reads a whole body of a request, unless it names more entries than a limit allows.
+pub(crate) fn read_request_within<'a>(
+    alloc: Global,
+    limit: Option<u64>,
+    has_starts: bool,
+    body: &'a [u8],
+) -> Result<FetchRequest<'a>, ReadFault>
+    ensures fits { IfOk result (λ asked. fetch_request.Fits asked) }
+    ensures exact { ReadsWhole (within limit fetch_entries (read_as has_starts body.now)) result }
+    ensures spelled { IfOk result (λ asked. read_as has_starts body.now ≡ Ok asked) }
+{
+    let asked = read_request(alloc, has_starts, body)?;
+    within(limit, asked)
 }

@@ -9,7 +9,7 @@ ghost use Rattle.kb_tenant_state.specs.Parts.{scene};
 use crate::words::bytes;
 use kb_log::{ListLog, Shelf};
 use kb_store::MemoryStore;
-use kb_tenant::{Answer, Node, Request, Served, serve};
+use kb_tenant::{Answer, DataLimits, Node, Request, Served, serve};
 use kb_tenant_state::Parts;
 use kb_wire::{Cursor, Text};
 use std::alloc::Global;
@@ -39,18 +39,23 @@ fn request<'a>(rt: &impl Abort, frame: &'a [u8]) -> Result<Request<'a>, Fail> {
 pub(super) struct Tenant {
     parts: Parts<ListLog>,
     shelf: Shelf<MemoryStore>,
+    limits: DataLimits,
 }
 
 impl Tenant {
-    /// A tenant without topics.
-    pub(super) fn new(alloc: Global) -> Result<Tenant, Fail>
+    /// A tenant without topics, which may have so much.
+    pub(super) fn new(alloc: Global, limits: DataLimits) -> Result<Tenant, Fail>
         ensures { IfOk result (λ t. (scene list_log (λ s. memory_disk s.files.entries) t.parts t.shelf).sound) }
     {
         let shelf = Shelf::new(alloc, MemoryStore::new(alloc), 0)
             .ok()
             .ok_or("a shelf")?;
         let parts = Parts::new(alloc, "a tenant", 1_048_576)?;
-        Ok(Tenant { parts, shelf })
+        Ok(Tenant {
+            parts,
+            shelf,
+            limits,
+        })
     }
 
     /// Serves a request, at clock 0.
@@ -61,6 +66,7 @@ impl Tenant {
         let node = Node {
             host: Text::new("localhost"),
             port: 9092,
+            limits: self.limits,
         };
         serve(alloc, &mut self.parts, &mut self.shelf, &node, 0, request)
     }

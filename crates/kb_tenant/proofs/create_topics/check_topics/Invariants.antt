@@ -9,6 +9,6 @@ use Rattle.kb_tenant.proofs.create_topics.check_topics.Given as goal
 abbrev pub invariant-loop-topic : goal.invariant-loop-topic
 invariant-loop-topic g l =
     (files : Files) →
-    let f = checked_topic l.entries (world_of g.L.PartitionLog.log l.parts files) in
+    let f = checked_topic l.limits l.entries (world_of g.L.PartitionLog.log l.parts files) in
     let write = creation_in l.version in
-    written_behind write l.sink.bytes (in_turn f l.count (drop l.topic-index l.entries)) ≡ written_behind write l.initial.sink.bytes (in_turn f l.initial.count l.entries)
+    written_behind write l.sink.bytes (in_turn f l.room (drop l.topic-index l.entries)) ≡ written_behind write l.initial.sink.bytes (in_turn f l.initial.room l.entries)

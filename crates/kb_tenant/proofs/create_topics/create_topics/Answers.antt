@@ -52,22 +52,22 @@ loop-topic-preserved g c =
     let sent = to_z-of_z w16 c.create_topic-error_code.result (record { sfits = c.create_topic-error_code.type_inv }) in
     record {
       step = step_then a b d c.loop-topic.invariant.step c.create_topic-error_code.ensures.step;
-      told = meets_so a d _ _ (λ both. answer_next (to_z w16 (of_z w16 c.args.version)) (created_topic ts) c.loop-topic.sink.bytes c.put_answer.new.sink.bytes b.state.world d.state.world _ ts i t _ c.loop-topic-test.true c.topic-item.is c.in_ok-put_answer.ensures
-          (created_is b.state.world d.state.world ts t c.as_str-name.result.now c.contains.result c.create_topic-error_code.result _ c.as_str-name.ensures again both.1 sent) both.0)
+      told = meets_so a d _ _ (λ both. answer_next (to_z w16 (of_z w16 c.args.version)) (created_topic c.args.limits ts) c.loop-topic.sink.bytes c.put_answer.new.sink.bytes b.state.world d.state.world _ ts i t _ c.loop-topic-test.true c.topic-item.is c.in_ok-put_answer.ensures
+          (created_is c.args.limits b.state.world d.state.world ts t c.as_str-name.result.now c.contains.result c.create_topic-error_code.result _ c.as_str-name.ensures again both.1 sent) both.0)
           (meets_then a b d _ _ c.loop-topic.invariant.step c.create_topic-error_code.ensures.step c.loop-topic.invariant.told c.create_topic-error_code.ensures.meets);
       answers = λ honest agree.
           let reply : CreateTopicReply = record { name = c.as_str-name.result.now; error_code = to_z w16 (of_z w16 c.create_topic-error_code.result) } in
           let first = c.loop-topic.invariant.step in
           let second = c.create_topic-error_code.ensures.step in
           let both = honest_then a b d _ _ first second c.loop-topic.invariant.answers
-          (creation_told_so b d ts t c.as_str-name.result.now c.contains.result c.create_topic-error_code.result reply.error_code second c.as_str-name.ensures again sent c.create_topic-error_code.ensures.told) honest agree in
+          (creation_told_so c.args.limits b d ts t c.as_str-name.result.now c.contains.result c.create_topic-error_code.result reply.error_code second c.as_str-name.ensures again sent c.create_topic-error_code.ensures.told) honest agree in
           let before = both.0 in (
             before.0 ++ reply ∷ [],
             (
               written_more (creation_in (to_z w16 (of_z w16 c.args.version))) c.put_count.new.self.bytes c.loop-topic.sink.bytes c.put_answer.new.sink.bytes before.0 reply before.1.0 c.in_ok-put_answer.ensures,
-              served_next (IsCreationTold (CreationFailed a d) ts) a.state.world b.state.world d.state.world ts i t before.0 reply c.loop-topic-test.true c.topic-item.is
-                  (creations_before a b d second ts (take i ts) a.state.world b.state.world before.0 before.1.1)
-                  (creation_behind a b d first ts b.state.world t d.state.world reply both.1),
+              served_next (IsCreationTold (CreationFailed a d) c.args.limits ts) a.state.world b.state.world d.state.world ts i t before.0 reply c.loop-topic-test.true c.topic-item.is
+                  (creations_before a b d second c.args.limits ts (take i ts) a.state.world b.state.world before.0 before.1.1)
+                  (creation_behind a b d first c.args.limits ts b.state.world t d.state.world reply both.1),
             ),
           );
     }
@@ -84,8 +84,8 @@ returns-clause-meets g c = λ honest agrees calm.
     let w : World = a.state.world in
     let v : World = b.state.world in
     let same = to_z-of_z w16 c.args.version c.ranges.version in
-    let over = answers_over c.args.version (to_z w16 (of_z w16 c.args.version)) (created_topic ts) start c.put_count.new.self.bytes end w v ts c.loop-topic.topic-index same c.loop-topic-test.false c.in_ok-put_count.ensures.ok (c.loop-topic.invariant.told honest agrees calm) in
-    subst (λ (xs : List CreateTopic). let r = in_turn (created_topic xs) w xs in (v ≡ r.0) × (end ≡ start ++ creations_in c.args.version (record { topics = r.1 }))) c.as_slice-topics.ensures over
+    let over = answers_over c.args.version (to_z w16 (of_z w16 c.args.version)) (created_topic c.args.limits ts) start c.put_count.new.self.bytes end w v ts c.loop-topic.topic-index same c.loop-topic-test.false c.in_ok-put_count.ensures.ok (c.loop-topic.invariant.told honest agrees calm) in
+    subst (λ (xs : List CreateTopic). let r = in_turn (created_topic c.args.limits xs) w xs in (v ≡ r.0) × (end ≡ start ++ creations_in c.args.version (record { topics = r.1 }))) c.as_slice-topics.ensures over
 
 pub returns-clause-told : goal.returns-clause-told
 returns-clause-told g c = λ honest agree.
@@ -99,7 +99,7 @@ returns-clause-told g c = λ honest agree.
     let w : World = a.state.world in
     let v : World = b.state.world in
     let so = c.loop-topic.invariant.answers honest agree in
-    let all = served_all (IsCreationTold (CreationFailed a b) ts) w v ts c.loop-topic.topic-index so.0 c.loop-topic-test.false so.1.1 in
-    let many = sym (served_length (IsCreationTold (CreationFailed a b) ts) w v ts so.0 all) in
+    let all = served_all (IsCreationTold (CreationFailed a b) c.args.limits ts) w v ts c.loop-topic.topic-index so.0 c.loop-topic-test.false so.1.1 in
+    let many = sym (served_length (IsCreationTold (CreationFailed a b) c.args.limits ts) w v ts so.0 all) in
     let bytes = replies_written c.args.version (to_z w16 (of_z w16 c.args.version)) start c.put_count.new.self.bytes end (length ts) so.0 (to_z-of_z w16 c.args.version c.ranges.version) many c.in_ok-put_count.ensures.ok so.1.0 in
-    subst (λ (xs : List CreateTopic). (replies : List CreateTopicReply) × ((end ≡ start ++ creations_in c.args.version (record { topics = replies })) × AreServed (IsCreationTold (CreationFailed a b) xs) w xs v replies)) c.as_slice-topics.ensures (so.0, (bytes, all))
+    subst (λ (xs : List CreateTopic). (replies : List CreateTopicReply) × ((end ≡ start ++ creations_in c.args.version (record { topics = replies })) × AreServed (IsCreationTold (CreationFailed a b) c.args.limits xs) w xs v replies)) c.as_slice-topics.ensures (so.0, (bytes, all))

@@ -14,11 +14,11 @@ abbrev pub invariant-loop-topic : goal.invariant-loop-topic
 invariant-loop-topic g l =
     let a = scene g.L.PartitionLog.log g.S.Store.disk l.initial.parts l.initial.shelf in
     let b = scene g.L.PartitionLog.log g.S.Store.disk l.parts l.shelf in
-    let f = created_topic l.topics in
+    let f = created_topic l.limits l.topics in
     let write = creation_in l.version in
     record {
       step : IsStep a b;
       told : Meets a b (written_behind write l.sink.bytes (in_turn f b.state.world (drop l.topic-index l.topics)) ≡ written_behind write l.initial.sink.bytes (in_turn f a.state.world l.topics));
       answers : WhereHonest a b ((replies : List CreateTopicReply) × ((l.sink.bytes ≡ l.initial.sink.bytes ++ flat_map write replies)
-          × AreServed (IsCreationTold (CreationFailed a b) l.topics) a.state.world (take l.topic-index l.topics) b.state.world replies));
+          × AreServed (IsCreationTold (CreationFailed a b) l.limits l.topics) a.state.world (take l.topic-index l.topics) b.state.world replies));
     }

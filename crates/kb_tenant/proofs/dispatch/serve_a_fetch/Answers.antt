@@ -1,5 +1,6 @@
 use Rattle.std.proofs.Common.{rules, [], ◌≡◌, ◌∙◌, Bool, Ok, ap, sym, refl, subst}
 use Rattle.kb_tenant_state.specs.Parts.{scene, world_of}
+use Rattle.kb_tenant.specs.Entries.{fetch_entries, within}
 use Rattle.kb_tenant.specs.Fetch as fetch
 use Rattle.kb_tenant.specs.Fetch.{asked_fetch, deadline_of, fetch_answer, has_starts, read_as}
 use Rattle.kb_tenant.specs.Replies.{begun}
@@ -22,7 +23,7 @@ returns-in-Reply-clause-meets g c = λ honest agree calm.
     let starts : Bool = c.has_starts-has_starts.result in
     let same : starts ≡ has_starts version = search rules in
     let from : c.in_ok-sink.sink.bytes ≡ begun id = search rules in
-    let read : asked_fetch version c.args.request.now.body.now ≡ Ok asked = ap (λ b. read_as b c.args.request.now.body.now) (sym same) ∙ c.in_ok-asked.ensures.exact in
+    let read : within c.args.limit fetch_entries (asked_fetch version c.args.request.now.body.now) ≡ Ok asked = ap (λ b. within c.args.limit fetch_entries (read_as b c.args.request.now.body.now)) (sym same) ∙ c.in_ok-asked.ensures.exact in
     subst (λ r. IsServed id (if_read w r (of_fetch version w clock)) after [] (Ok c.finish.result)) (sym read) (
       c.serve_fetch.ensures.same honest agree,
       refl,
@@ -41,7 +42,7 @@ returns-clause-meets g c = λ honest agree calm.
     let version = c.args.request.now.api_version in
     let starts : Bool = c.has_starts-has_starts.result in
     let same : starts ≡ has_starts version = search rules in
-    let read : asked_fetch version c.args.request.now.body.now ≡ Ok asked = ap (λ b. read_as b c.args.request.now.body.now) (sym same) ∙ c.in_ok-asked.ensures.exact in
+    let read : within c.args.limit fetch_entries (asked_fetch version c.args.request.now.body.now) ≡ Ok asked = ap (λ b. within c.args.limit fetch_entries (read_as b c.args.request.now.body.now)) (sym same) ∙ c.in_ok-asked.ensures.exact in
     subst (λ r. IsServed id (if_read w r (of_fetch version w clock)) after [] (Ok (answers.Wait c.in-Wait.deadline c.in-Wait.keys))) (sym read) (
       c.serve_fetch.ensures.same honest agree,
       refl,
@@ -60,7 +61,7 @@ returns-in-Reply-clause-fetched g c = λ honest agree q is.
     let starts : Bool = c.has_starts-has_starts.result in
     let same : starts ≡ has_starts request.api_version = search rules in
     let from : c.in_ok-sink.sink.bytes ≡ begun request.correlation_id = search rules in
-    let both : Ok asked ≡ Ok q = sym (ap (λ b. read_as b request.body.now) (sym same) ∙ c.in_ok-asked.ensures.exact) ∙ is in
+    let both : Ok asked ≡ Ok q = sym (ap (λ b. read_as b request.body.now) (sym same) ∙ c.in_ok-asked.ensures.spelled) ∙ is in
     let one : asked ≡ q = cc in
     let made : IsFetchMade (HasFailed a b) starts a.state.world c.args.clock asked c.in_ok-sink.sink.bytes fetching.Reply c.serve_fetch.new.sink.bytes =
     subst (λ f. IsFetchMade (HasFailed a b) starts a.state.world c.args.clock asked c.in_ok-sink.sink.bytes f c.serve_fetch.new.sink.bytes) c.in-Reply.is
@@ -78,7 +79,7 @@ returns-clause-fetched g c = λ honest agree q is.
     let asked = c.in_ok-asked.asked in
     let starts : Bool = c.has_starts-has_starts.result in
     let same : starts ≡ has_starts request.api_version = search rules in
-    let both : Ok asked ≡ Ok q = sym (ap (λ b. read_as b request.body.now) (sym same) ∙ c.in_ok-asked.ensures.exact) ∙ is in
+    let both : Ok asked ≡ Ok q = sym (ap (λ b. read_as b request.body.now) (sym same) ∙ c.in_ok-asked.ensures.spelled) ∙ is in
     let one : asked ≡ q = cc in
     let wait = c.in-Wait in
     subst (λ r. IsLeftWaiting (HasFailed a b) a.state.world c.args.clock r wait.deadline wait.keys.items) one

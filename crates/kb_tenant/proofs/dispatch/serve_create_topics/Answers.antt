@@ -1,6 +1,7 @@
-use Rattle.std.proofs.Common.{rules, ◌≡◌, ◌∙◌, ◌++◌, [], false, refl, true, Ok, sym, ap, subst, to_z, of_z}
+use Rattle.std.proofs.Common.{rules, ℕ, Option, ◌≡◌, ◌∙◌, ◌++◌, [], false, refl, true, Ok, sym, ap, subst, to_z, of_z}
 use Rattle.std.specs.Int.{w16, w32}
 use Rattle.kb_tenant.specs.CreateTopics.{asked_creations, checked_all, created_all, creations_in, made_of}
+use Rattle.kb_tenant.specs.Entries.{create_topics_entries, within}
 use Rattle.kb_tenant.specs.Replies.{begun}
 use Rattle.kb_tenant.specs.Serve.{if_read, of_create_topics, IsServed}
 use Rattle.kb_tenant.specs.Told.{CreationFailed, IsReplied, TellsCreations}
@@ -20,13 +21,14 @@ returns-then-asked-clause-meets g c = λ honest agree calm.
     let request = c.args.request.now in
     let version = request.api_version in
     let asked = c.in_ok-asked.asked in
-    let reply = checked_all w asked.topics in
+    let reply = checked_all c.args.limits w asked.topics in
     let body = creations_in version reply in
     let id : to_z w32 (of_z w32 request.correlation_id) ≡ request.correlation_id = search rules in
     let same : to_z w16 (of_z w16 version) ≡ version = search rules in
-    let read : asked_creations version request.body.now ≡ Ok asked = ap (λ v. asked_creations v request.body.now) (sym same) ∙ c.in_ok-asked.ensures.exact in
-    subst (λ r. IsServed request.correlation_id (if_read w r (of_create_topics version w)) w [] (Ok c.finish.result)) (sym read)
-    (checked_outcome request.correlation_id version w asked c.finish.result c.if-asked.true
+    let limit : Option ℕ = c.args.limits.request_entries in
+    let read : within limit create_topics_entries (asked_creations version request.body.now) ≡ Ok asked = ap (λ v. within limit create_topics_entries (asked_creations v request.body.now)) (sym same) ∙ c.in_ok-asked.ensures.exact in
+    subst (λ r. IsServed request.correlation_id (if_read w r (of_create_topics c.args.limits version w)) w [] (Ok c.finish.result)) (sym read)
+    (checked_outcome c.args.limits request.correlation_id version w asked c.finish.result c.if-asked.true
     (c.finish.ensures request.correlation_id body
     (c.in_ok-check_topics.ensures.written files ∙ ap (λ v. c.in_ok-sink.sink.bytes ++ creations_in v reply) same ∙ ap (λ s. s ++ body) (c.in_ok-sink.ensures ∙ ap begun id))))
 
@@ -37,14 +39,15 @@ returns-clause-meets g c = λ honest agree calm.
     let request = c.args.request.now in
     let version = request.api_version in
     let asked = c.in_ok-asked.asked in
-    let reply = (created_all w (made_of asked)).1 in
+    let reply = (created_all c.args.limits w (made_of asked)).1 in
     let body = creations_in version reply in
     let id : to_z w32 (of_z w32 request.correlation_id) ≡ request.correlation_id = search rules in
     let same : to_z w16 (of_z w16 version) ≡ version = search rules in
-    let read : asked_creations version request.body.now ≡ Ok asked = ap (λ x. asked_creations x request.body.now) (sym same) ∙ c.in_ok-asked.ensures.exact in
+    let limit : Option ℕ = c.args.limits.request_entries in
+    let read : within limit create_topics_entries (asked_creations version request.body.now) ≡ Ok asked = ap (λ x. within limit create_topics_entries (asked_creations x request.body.now)) (sym same) ∙ c.in_ok-asked.ensures.exact in
     let met = c.in_ok-create_topics.ensures.meets honest agree calm in
-    subst (λ r. IsServed request.correlation_id (if_read w r (of_create_topics version w)) v [] (Ok c.finish-2.result)) (sym read)
-    (made_outcome request.correlation_id version w v asked c.finish-2.result c.if-asked.false met.0
+    subst (λ r. IsServed request.correlation_id (if_read w r (of_create_topics c.args.limits version w)) v [] (Ok c.finish-2.result)) (sym read)
+    (made_outcome c.args.limits request.correlation_id version w v asked c.finish-2.result c.if-asked.false met.0
     (c.finish-2.ensures request.correlation_id body
     (met.1 ∙ ap (λ x. c.in_ok-sink.sink.bytes ++ creations_in x reply) same ∙ ap (λ s. s ++ body) (c.in_ok-sink.ensures ∙ ap begun id))))
 
@@ -54,7 +57,7 @@ returns-then-asked-clause-acknowledged g c = λ honest agree q read made.
     let version = request.api_version in
     let asked = c.in_ok-asked.asked in
     let same : to_z w16 (of_z w16 version) ≡ version = search rules in
-    let both : Ok asked ≡ Ok q = sym (ap (λ x. asked_creations x request.body.now) (sym same) ∙ c.in_ok-asked.ensures.exact) ∙ read in
+    let both : Ok asked ≡ Ok q = sym (ap (λ x. asked_creations x request.body.now) (sym same) ∙ c.in_ok-asked.ensures.spelled) ∙ read in
     let one : asked ≡ q = cc in
     let only : asked.validate_only ≡ true = c.if-asked.true in
     let clash : true ≡ false → ⊥ = λ bad. cc in
@@ -69,12 +72,12 @@ returns-clause-acknowledged g c = λ honest agree q read made.
     let asked = c.in_ok-asked.asked in
     let id : to_z w32 (of_z w32 request.correlation_id) ≡ request.correlation_id = search rules in
     let same : to_z w16 (of_z w16 version) ≡ version = search rules in
-    let both : Ok asked ≡ Ok q = sym (ap (λ x. asked_creations x request.body.now) (sym same) ∙ c.in_ok-asked.ensures.exact) ∙ read in
+    let both : Ok asked ≡ Ok q = sym (ap (λ x. asked_creations x request.body.now) (sym same) ∙ c.in_ok-asked.ensures.spelled) ∙ read in
     let one : asked ≡ q = cc in
     let told = c.in_ok-create_topics.ensures.told honest agree in
     let log = g.L.PartitionLog.log in
     let disk = g.S.Store.disk in
     let failed = CreationFailed (scene log disk c.args.parts.now c.args.shelf.now) (scene log disk c.create_topics.new.parts c.create_topics.new.shelf) in
-    subst (λ x. IsReplied request.correlation_id (TellsCreations failed version w x v) c.finish-2.result) one
-    (replied_by request.correlation_id (TellsCreations failed version w asked v) c.in_ok-sink.sink.bytes c.create_topics.new.sink.bytes (creations_in version (record { topics = told.0 })) c.finish-2.result
+    subst (λ x. IsReplied request.correlation_id (TellsCreations failed c.args.limits version w x v) c.finish-2.result) one
+    (replied_by request.correlation_id (TellsCreations failed c.args.limits version w asked v) c.in_ok-sink.sink.bytes c.create_topics.new.sink.bytes (creations_in version (record { topics = told.0 })) c.finish-2.result
     (c.in_ok-sink.ensures ∙ ap begun id) (told.1.0 ∙ ap (λ x. c.in_ok-sink.sink.bytes ++ creations_in x (record { topics = told.0 })) same) (told.0, (refl, told.1.1)) c.finish-2.ensures)

@@ -19,7 +19,7 @@ returns-clause-acknowledged g c = λ honest agree q read.
     let asked = c.in_ok-asked.asked in
     let touched = c.delete_records.new.touched.items in
     let id : to_z w32 (of_z w32 request.correlation_id) ≡ request.correlation_id = search rules in
-    let both : Ok asked ≡ Ok q = sym c.in_ok-asked.ensures.exact ∙ read in
+    let both : Ok asked ≡ Ok q = sym c.in_ok-asked.ensures.spelled ∙ read in
     let one : asked ≡ q = cc in
     let told = c.in_ok-delete_records.ensures.told honest agree in
     subst (λ x. IsReplied request.correlation_id (TellsDeletions failed w x v touched) c.finish.result) one

@@ -17,7 +17,7 @@ returns-clause-listed g c = λ honest agree q read.
     let request = c.args.request.now in
     let asked = c.in_ok-asked.asked in
     let id : to_z w32 (of_z w32 request.correlation_id) ≡ request.correlation_id = search rules in
-    let both : Ok asked ≡ Ok q = sym c.in_ok-asked.ensures.exact ∙ read in
+    let both : Ok asked ≡ Ok q = sym c.in_ok-asked.ensures.spelled ∙ read in
     let one : asked ≡ q = cc in
     let told = c.in_ok-list_offsets.ensures.told honest agree in
     subst (λ x. IsReplied request.correlation_id (TellsListing failed w x) c.finish.result) one

@@ -1,6 +1,7 @@
 use Rattle.std.proofs.Common.{rules, ◌≡◌, ◌∙◌, ◌++◌, [], Ok, sym, ap, refl, subst, to_z, of_z}
 use Rattle.std.specs.Int.{w16, w32}
 use Rattle.kb_tenant_state.specs.Parts.{world_of}
+use Rattle.kb_tenant.specs.Entries.{metadata_entries, within}
 use Rattle.kb_tenant.specs.Metadata.{asked_metadata, metadata_in, metadata_of}
 use Rattle.kb_tenant.specs.Replies.{begun}
 use Rattle.kb_tenant.specs.Serve.{if_read, of_metadata, IsServed}
@@ -14,6 +15,7 @@ returns g c = λ files.
     let body = metadata_in version reply in
     let id : to_z w32 (of_z w32 c.args.request.now.correlation_id) ≡ c.args.request.now.correlation_id = search rules in
     let same : to_z w16 (of_z w16 version) ≡ version = search rules in
-    let asked : asked_metadata version c.args.request.now.body.now ≡ Ok c.in_ok-asked.asked = ap (λ v. asked_metadata v c.args.request.now.body.now) (sym same) ∙ c.in_ok-asked.ensures.exact in
+    let asked : within c.args.node.now.limits.request_entries metadata_entries (asked_metadata version c.args.request.now.body.now) ≡ Ok c.in_ok-asked.asked =
+    ap (λ v. within c.args.node.now.limits.request_entries metadata_entries (asked_metadata v c.args.request.now.body.now)) (sym same) ∙ c.in_ok-asked.ensures.exact in
     subst (λ r. IsServed c.args.request.now.correlation_id (if_read w r (of_metadata c.args.node.now version w)) w [] (Ok c.finish.result)) (sym asked)
     (refl, refl, c.finish.ensures c.args.request.now.correlation_id body (c.in_ok-metadata.ensures files ∙ ap (λ v. c.in_ok-sink.sink.bytes ++ metadata_in v reply) same ∙ ap (λ s. s ++ body) (c.in_ok-sink.ensures ∙ ap begun id)))

@@ -12,15 +12,15 @@ returns-clause-acknowledged g c = λ honest agree r read.
     let v = world_of g.L.PartitionLog.log c.produce.new.parts (g.S.Store.disk c.produce.new.shelf.store).files in
     let asked = c.in_ok-asked.asked in
     let id = c.args.request.now.correlation_id in
-    let both : Ok asked ≡ Ok r = sym c.in_ok-asked.ensures.exact ∙ read in
+    let both : Ok asked ≡ Ok r = sym c.in_ok-asked.ensures.spelled ∙ read in
     let same : asked ≡ r = cc in
     let from : c.in_ok-sink.sink.bytes ≡ begun id = search rules in
     let due : is_due asked.acks ≡ true = search rules in
     let a = scene g.L.PartitionLog.log g.S.Store.disk c.args.parts.now c.args.shelf.now in
     let b = scene g.L.PartitionLog.log g.S.Store.disk c.produce.new.parts c.produce.new.shelf in
     let failed = HasFailed a b in
-    subst (λ x. IsAcknowledged failed id w x v c.produce.new.touched.items c.finish.result) same
-    (acknowledged_by failed id w asked v c.args.touched.now.items c.produce.new.touched.items c.in_ok-sink.sink.bytes c.produce.new.sink.bytes c.finish.result from due c.requires.untouched (c.in_ok-produce.ensures.told honest agree) c.finish.ensures)
+    subst (λ x. IsAcknowledged failed c.args.limits.bytes id w x v c.produce.new.touched.items c.finish.result) same
+    (acknowledged_by failed c.args.limits.bytes id w asked v c.args.touched.now.items c.produce.new.touched.items c.in_ok-sink.sink.bytes c.produce.new.sink.bytes c.finish.result from due c.requires.untouched (c.in_ok-produce.ensures.told honest agree) c.finish.ensures)
 
 pub returns-clause-shut : goal.returns-clause-shut
 returns-clause-shut g c =
@@ -30,4 +30,4 @@ returns-clause-shut g c =
     let id = c.args.request.now.correlation_id in
     let from : c.in_ok-sink.sink.bytes ≡ begun id = search rules in
     let due : is_due asked.acks ≡ true = search rules in
-    spared_by id w c.args.request.now.body.now asked v c.in_ok-sink.sink.bytes c.produce.new.sink.bytes c.finish.result from due c.in_ok-asked.ensures.exact c.in_ok-produce.ensures.longer c.finish.ensures
+    spared_by id w c.args.request.now.body.now asked v c.in_ok-sink.sink.bytes c.produce.new.sink.bytes c.finish.result from due c.in_ok-asked.ensures.spelled c.in_ok-produce.ensures.longer c.finish.ensures

@@ -15,7 +15,7 @@ returns-clause-meets g c = λ honest agree calm.
     let e = c.args.entry.now in
     ap (λ (z : ℤ). (v, z)) (to_z-of_z w16 c.commit_at.result (record { sfits = c.commit_at.type_inv }))
     ∙ c.commit_at.ensures.meets honest agree calm
-    ∙ entry_at w c.args.refusal c.args.group.now c.args.topic e (Some c.in-Some-new.place) c.in_default.is (c.in-Some-new.ensures ∙ ap (place_in c.args.topic) (to_z-of_z w32 e.partition (search rules)))
+    ∙ entry_at w c.args.limits c.args.refusal c.args.group.now c.args.topic e (Some c.in-Some-new.place) c.in_default.is (c.in-Some-new.ensures ∙ ap (place_in c.args.topic) (to_z-of_z w32 e.partition (search rules)))
 
 pub returns-clause-told : goal.returns-clause-told
 returns-clause-told g c =
@@ -27,9 +27,9 @@ returns-clause-told g c =
     let v : World = b.state.world in
     let e = c.args.entry.now in
     let group = c.args.group.now in
-    subst (λ z. IsTold a b ((v, z) ≡ committed c.args.refusal group c.args.topic w e) (IsFaultOf (IsCatalogWant a b) z)) (sym (to_z-of_z w16 c.commit_at.result (record { sfits = c.commit_at.type_inv })))
-    (told_so a b ((v, c.commit_at.result) ≡ committed_at w (Some c.in-Some-new.place) group e) ((v, c.commit_at.result) ≡ committed c.args.refusal group c.args.topic w e) (IsFaultOf (IsCatalogWant a b) c.commit_at.result)
-    (λ is. is ∙ entry_at w c.args.refusal group c.args.topic e (Some c.in-Some-new.place) c.in_default.is (c.in-Some-new.ensures ∙ ap (place_in c.args.topic) (to_z-of_z w32 e.partition (search rules))))
+    subst (λ z. IsTold a b ((v, z) ≡ committed c.args.limits c.args.refusal group c.args.topic w e) (IsFaultOf (IsCatalogWant a b) z)) (sym (to_z-of_z w16 c.commit_at.result (record { sfits = c.commit_at.type_inv })))
+    (told_so a b ((v, c.commit_at.result) ≡ committed_at c.args.limits w (Some c.in-Some-new.place) group e) ((v, c.commit_at.result) ≡ committed c.args.limits c.args.refusal group c.args.topic w e) (IsFaultOf (IsCatalogWant a b) c.commit_at.result)
+    (λ is. is ∙ entry_at w c.args.limits c.args.refusal group c.args.topic e (Some c.in-Some-new.place) c.in_default.is (c.in-Some-new.ensures ∙ ap (place_in c.args.topic) (to_z-of_z w32 e.partition (search rules))))
     c.commit_at.ensures.told)
 
 pub returns-clause-acknowledged : goal.returns-clause-acknowledged
@@ -39,4 +39,4 @@ returns-clause-acknowledged g c =
     let a = scene log disk c.args.parts.now c.args.shelf.now in
     let b = scene log disk c.commit_at.new.parts c.commit_at.new.shelf in
     let code : ℤ = to_z w16 (of_z w16 c.commit_at.result) in
-    acknowledged a b ((b.state.world, code) ≡ committed c.args.refusal c.args.group.now c.args.topic a.state.world c.args.entry.now) (IsCatalogWant a b) code (returns-clause-told g c)
+    acknowledged a b ((b.state.world, code) ≡ committed c.args.limits c.args.refusal c.args.group.now c.args.topic a.state.world c.args.entry.now) (IsCatalogWant a b) code (returns-clause-told g c)

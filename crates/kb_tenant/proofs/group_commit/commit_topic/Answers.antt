@@ -28,7 +28,7 @@ returns-clause-meets g c =
     let w : World = a.state.world in
     let t = c.args.topic.now in
     on_ok_weaker c.commit_entries.result
-    (meets_so a b _ _ (topic_told c.args.refusal c.args.group.now c.topic_named-instance.result w t c.as_str.result.now c.as_slice-entries.result.now c.len.result
+    (meets_so a b _ _ (topic_told c.args.limits c.args.refusal c.args.group.now c.topic_named-instance.result w t c.as_str.result.now c.as_slice-entries.result.now c.len.result
     c.args.sink.now.bytes c.put_string.new.self.bytes c.put_count.new.self.bytes _
     c.as_str.ensures c.as_slice-entries.ensures c.len.ensures (c.topic_named-instance.ensures a.disk.files ∙ ap (λ n. named n w.known.topics) c.as_str-2.ensures) c.in_ok-put_string.ensures.ok c.in_ok-put_count.ensures.ok))
     c.commit_entries.ensures.meets
@@ -42,7 +42,7 @@ returns-clause-told g c =
     let w : World = a.state.world in
     let t = c.args.topic.now in
     on_ok_weaker c.commit_entries.result
-    (λ told honest agree. commit_topic_told_so (CatalogFailed a b) c.args.refusal c.args.group.now c.topic_named-instance.result w b.state.world t c.as_str.result.now c.as_slice-entries.result.now c.len.result
+    (λ told honest agree. commit_topic_told_so (CatalogFailed a b) c.args.limits c.args.refusal c.args.group.now c.topic_named-instance.result w b.state.world t c.as_str.result.now c.as_slice-entries.result.now c.len.result
     c.args.sink.now.bytes c.put_string.new.self.bytes c.put_count.new.self.bytes _
     c.as_str.ensures c.as_slice-entries.ensures c.len.ensures (c.topic_named-instance.ensures a.disk.files ∙ ap (λ n. named n w.known.topics) c.as_str-2.ensures) c.in_ok-put_string.ensures.ok c.in_ok-put_count.ensures.ok
     (told honest agree))

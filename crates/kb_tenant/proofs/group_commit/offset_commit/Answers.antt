@@ -50,7 +50,7 @@ loop-topic-preserved g c =
     let a : Scene Seen = scene log disk c.args.parts.now c.args.shelf.now in
     let b : Scene Seen = scene log disk c.loop-topic.parts c.loop-topic.shelf in
     let d : Scene Seen = scene log disk c.commit_topic.new.parts c.commit_topic.new.shelf in
-    let f = committed_topic c.args.refusal c.as_str-group.result.now in
+    let f = committed_topic c.args.limits c.args.refusal c.as_str-group.result.now in
     let i = c.loop-topic.topic-index in
     record {
       step = step_then a b d c.loop-topic.invariant.step c.commit_topic.ensures.step;
@@ -69,11 +69,11 @@ loop-topic-preserved g c =
             before.0 ++ reply.0 ∷ [],
             (
               written_more commit_topic_reply.written c.put_count.new.self.bytes c.loop-topic.sink.bytes c.commit_topic.new.sink.bytes before.0 reply.0 before.1.0 reply.1.0,
-              served_next (IsCommitTopicTold (CatalogFailed a d) c.args.refusal group) a.state.world b.state.world d.state.world c.args.request.now.topics i c.topic-item.result before.0 reply.0
+              served_next (IsCommitTopicTold (CatalogFailed a d) c.args.limits c.args.refusal group) a.state.world b.state.world d.state.world c.args.request.now.topics i c.topic-item.result before.0 reply.0
                   (subst (λ ts. i < length ts) c.as_slice-topic-items.ensures c.loop-topic-test.true)
                   (c.topic-item.is ∙ ap (λ ts. get_or ts i c.topic-item.result) c.as_slice-topic-items.ensures)
-                  (commit_topics_before a b d c.args.refusal group second (take i c.args.request.now.topics) a.state.world b.state.world before.0 before.1.1)
-                  (commit_topic_behind a b d c.args.refusal group first b.state.world c.topic-item.result d.state.world reply.0 reply.1.1),
+                  (commit_topics_before a b d c.args.limits c.args.refusal group second (take i c.args.request.now.topics) a.state.world b.state.world before.0 before.1.1)
+                  (commit_topic_behind a b d c.args.limits c.args.refusal group first b.state.world c.topic-item.result d.state.world reply.0 reply.1.1),
             ),
           );
     }
@@ -88,9 +88,9 @@ returns-clause-meets g c =
     let refusal = c.args.refusal in
     let group = c.as_str-group.result.now in
     let i = c.loop-topic.topic-index in
-    let over = turn_over commit_topic_reply.written (committed_topic refusal group) c.loop-topic.sink.bytes b.state.world q.topics i (subst (λ ts. length ts ≤ i) c.as_slice-topic-items.ensures c.loop-topic-test.false) in
+    let over = turn_over commit_topic_reply.written (committed_topic c.args.limits refusal group) c.loop-topic.sink.bytes b.state.world q.topics i (subst (λ ts. length ts ≤ i) c.as_slice-topic-items.ensures c.loop-topic-test.false) in
     meets_so a b _ _
-    (λ told. all_told q a.state.world b.state.world refusal group q.topics c.len.result c.args.sink.now.bytes c.put_count.new.self.bytes c.loop-topic.sink.bytes
+    (λ told. all_told q a.state.world b.state.world c.args.limits refusal group q.topics c.len.result c.args.sink.now.bytes c.put_count.new.self.bytes c.loop-topic.sink.bytes
     c.as_str-group.ensures refl c.len.ensures c.in_ok-put_count.ensures.ok (sym over ∙ told))
     c.loop-topic.invariant.told
 
@@ -104,6 +104,6 @@ returns-clause-told g c = λ honest agree.
     let group = c.as_str-group.result.now in
     let i = c.loop-topic.topic-index in
     let so = c.loop-topic.invariant.answers honest agree in
-    let all = served_all (IsCommitTopicTold (CatalogFailed a b) c.args.refusal group) a.state.world b.state.world q.topics i so.0 (subst (λ ts. length ts ≤ i) c.as_slice-topic-items.ensures c.loop-topic-test.false) so.1.1 in
-    commits_told_so (CatalogFailed a b) q c.args.refusal group a.state.world b.state.world c.len.result c.args.sink.now.bytes c.put_count.new.self.bytes c.loop-topic.sink.bytes
+    let all = served_all (IsCommitTopicTold (CatalogFailed a b) c.args.limits c.args.refusal group) a.state.world b.state.world q.topics i so.0 (subst (λ ts. length ts ≤ i) c.as_slice-topic-items.ensures c.loop-topic-test.false) so.1.1 in
+    commits_told_so (CatalogFailed a b) q c.args.limits c.args.refusal group a.state.world b.state.world c.len.result c.args.sink.now.bytes c.put_count.new.self.bytes c.loop-topic.sink.bytes
     c.as_str-group.ensures c.len.ensures c.in_ok-put_count.ensures.ok (so.0, (so.1.0, all))

@@ -15,11 +15,11 @@ abbrev pub invariant-loop-topic : goal.invariant-loop-topic
 invariant-loop-topic g l =
     let a = scene g.L.PartitionLog.log g.S.Store.disk l.initial.parts l.initial.shelf in
     let b = scene g.L.PartitionLog.log g.S.Store.disk l.parts l.shelf in
-    let f = committed_topic l.refusal l.group in
+    let f = committed_topic l.limits l.refusal l.group in
     let write = commit_topic_reply.written in
     record {
       step : IsStep a b;
       told : Meets a b (written_behind write l.sink.bytes (in_turn f b.state.world (drop l.topic-index l.request.topics)) ≡ written_behind write l.initial.sink.bytes (in_turn f a.state.world l.request.topics));
       answers : WhereHonest a b ((replies : List CommitTopicReply) × ((l.sink.bytes ≡ l.initial.sink.bytes ++ flat_map write replies)
-          × AreServed (IsCommitTopicTold (CatalogFailed a b) l.refusal l.group) a.state.world (take l.topic-index l.request.topics) b.state.world replies));
+          × AreServed (IsCommitTopicTold (CatalogFailed a b) l.limits l.refusal l.group) a.state.world (take l.topic-index l.request.topics) b.state.world replies));
     }

@@ -19,11 +19,11 @@ returns-clause-acknowledged g c = λ honest agree q read.
     let failed = CatalogFailed (scene log disk c.args.parts.now c.args.shelf.now) (scene log disk c.offset_commit.new.parts c.offset_commit.new.shelf) in
     let asked = c.in_ok-asked.asked in
     let id : to_z w32 (of_z w32 request.correlation_id) ≡ request.correlation_id = search rules in
-    let both : Ok asked ≡ Ok q = sym c.in_ok-asked.ensures.exact ∙ read in
+    let both : Ok asked ≡ Ok q = sym c.in_ok-asked.ensures.spelled ∙ read in
     let one : asked ≡ q = cc in
     let told = c.in_ok-offset_commit.ensures.told honest agree in
     let refusal : c.refusal_of-refusal.result ≡ refusal_of asked.group_id asked.generation_id = search rules in
-    subst (λ x. IsReplied request.correlation_id (TellsCommits failed w x v) c.finish.result) one
-    (replied_by request.correlation_id (TellsCommits failed w asked v) c.in_ok-sink.sink.bytes c.offset_commit.new.sink.bytes (offset_commit_reply.written told.0) c.finish.result
+    subst (λ x. IsReplied request.correlation_id (TellsCommits failed c.args.limits w x v) c.finish.result) one
+    (replied_by request.correlation_id (TellsCommits failed c.args.limits w asked v) c.in_ok-sink.sink.bytes c.offset_commit.new.sink.bytes (offset_commit_reply.written told.0) c.finish.result
     (c.in_ok-sink.ensures ∙ ap begun id) told.1.0
-    (told.0, (refl, subst (λ r. AreServed (IsCommitTopicTold failed r asked.group_id) w asked.topics v told.0.topics) refusal told.1.1)) c.finish.ensures)
+    (told.0, (refl, subst (λ r. AreServed (IsCommitTopicTold failed c.args.limits r asked.group_id) w asked.topics v told.0.topics) refusal told.1.1)) c.finish.ensures)

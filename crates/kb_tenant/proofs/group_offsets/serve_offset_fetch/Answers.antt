@@ -1,5 +1,6 @@
 use Rattle.std.proofs.Common.{rules, ◌≡◌, ◌∙◌, ◌++◌, [], Bool, Ok, sym, ap, refl, subst}
 use Rattle.kb_tenant_state.specs.Parts.{world_of}
+use Rattle.kb_tenant.specs.Entries.{offset_fetch_entries, within}
 use Rattle.kb_tenant.specs.OffsetFetch.{asked_as, asked_offsets, fetched_all, has_code, offsets_as, offsets_in}
 use Rattle.kb_tenant.specs.Replies.{begun}
 use Rattle.kb_tenant.specs.Serve.{if_read, of_offset_fetch, IsServed}
@@ -15,6 +16,6 @@ returns g c = λ files.
     let has : Bool = c.has_code-has_code.result in
     let same : has ≡ has_code version = search rules in
     let from : c.in_ok-sink.sink.bytes ≡ begun id = search rules in
-    let read : asked_offsets version c.args.request.now.body.now ≡ Ok asked = ap (λ b. asked_as b c.args.request.now.body.now) (sym same) ∙ c.in_ok-asked.ensures.exact in
+    let read : within c.args.limit offset_fetch_entries (asked_offsets version c.args.request.now.body.now) ≡ Ok asked = ap (λ b. within c.args.limit offset_fetch_entries (asked_as b c.args.request.now.body.now)) (sym same) ∙ c.in_ok-asked.ensures.exact in
     subst (λ r. IsServed id (if_read w r (of_offset_fetch version w)) w [] (Ok c.finish.result)) (sym read)
     (refl, refl, c.finish.ensures id (offsets_in version reply) (c.in_ok-offset_fetch.ensures files ∙ ap (λ s. s ++ offsets_as has reply) from ∙ ap (λ b. begun id ++ offsets_as b reply) same))

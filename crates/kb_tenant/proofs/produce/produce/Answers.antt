@@ -1,4 +1,4 @@
-use Rattle.std.proofs.Common.{◌∙◌, ◌++◌, ◌∷◌, [], ◌<◌, ◌≤◌, arith, OnOk, Ok, pos, ap, sym, refl, subst, length, get_or, w32}
+use Rattle.std.proofs.Common.{◌≡◌, ◌∙◌, ◌++◌, ◌∷◌, [], ◌<◌, ◌≤◌, append-nil, arith, OnOk, Ok, pos, ap, sym, refl, subst, length, get_or, rules, w32}
 use Rattle.std.proofs.lemmas.Result.{on_ok_weaker}
 use Rattle.kb_wire.specs.Codec.{count}
 use Rattle.kb_api_data.specs.Layouts.{produce_topic_reply}
@@ -6,10 +6,11 @@ use Rattle.kb_api_data.specs.declared.produce.ProduceTopicReply.{ProduceTopicRep
 use Rattle.kb_tenant_state.specs.Parts.{scene}
 use Rattle.kb_tenant.specs.Produce.{progress, served_topic, where_due}
 use Rattle.kb_tenant.specs.Room.{length_due, reply_length, IsLonger}
-use Rattle.kb_tenant_state.specs.Steps.{step_then, meets_then, meets_so}
+use Rattle.kb_tenant_state.specs.Steps.{step_same, step_then, meets_then, meets_so}
 use Rattle.kb_tenant.specs.Told.{FailedBy, HasFailed, IsTopicTold}
 use Rattle.kb_tenant.proofs.Acknowledging.{failures_by, failures_since, honest_then, next_by, produce_told_so, served_all, served_next, written_more}
 use Rattle.kb_tenant.proofs.Produced.{number_fits, topics_fit, topic_fits, told_next, produce_told}
+use Rattle.kb_tenant.specs.Turns.{in_turn, written_behind, AreServed}
 use Rattle.kb_tenant.proofs.Turning.{turn_over}
 use Rattle.kb_tenant.proofs.Room.{never_refused, number_length, reply_put, topic_within, topics_put}
 use Rattle.kb_tenant.proofs.produce.produce.Goals as goal
@@ -37,6 +38,14 @@ returns-in_err-serve_topic-clause-step g c =
     let d = scene log disk c.serve_topic.new.parts c.serve_topic.new.shelf in
     step_then a b d c.loop-topic.invariant.step c.serve_topic.ensures.step
 
+pub loop-topic-init : goal.loop-topic-init
+loop-topic-init g c = record {
+  step = step_same (scene g.L.PartitionLog.log g.S.Store.disk c.args.parts.now c.args.shelf.now) c.requires.sound;
+  told = λ honest agree calm. refl;
+  answers = λ before now next since until later honest agree. ([], (sym (append-nil c.put_count.new.sink.bytes), refl));
+  put = search rules;
+}
+
 pub loop-topic-preserved : goal.loop-topic-preserved
 loop-topic-preserved g c =
     let log = g.L.PartitionLog.log in
@@ -46,7 +55,7 @@ loop-topic-preserved g c =
     let d = scene log disk c.serve_topic.new.parts c.serve_topic.new.shelf in
     let terms = c.terms_of-terms.result in
     let write : ProduceTopicReply → _ = λ x. where_due terms.due (produce_topic_reply.written x) in
-    let f = served_topic terms.refusal in
+    let f = served_topic terms.bytes terms.refusal in
     let p = progress b.state.world c.loop-topic.touched.items in
     let q = progress d.state.world c.serve_topic.new.touched.items in
     let i = c.loop-topic.topic-index in
@@ -67,7 +76,7 @@ loop-topic-preserved g c =
             earlier.0 ++ reply.0 ∷ [],
             (
               written_more write c.put_count.new.sink.bytes c.loop-topic.sink.bytes c.serve_topic.new.sink.bytes earlier.0 reply.0 earlier.1.0 reply.1.0,
-              served_next (IsTopicTold (FailedBy before now next) terms.refusal) (progress a.state.world c.args.touched.now.items) p q c.args.request.now.topics i c.topic-item.result earlier.0 reply.0
+              served_next (IsTopicTold (FailedBy before now next) terms.bytes terms.refusal) (progress a.state.world c.args.touched.now.items) p q c.args.request.now.topics i c.topic-item.result earlier.0 reply.0
                   (subst (λ ts. i < length ts) c.as_slice-topic-items.ensures c.loop-topic-test.true)
                   (c.topic-item.is ∙ ap (λ ts. get_or ts i c.topic-item.result) c.as_slice-topic-items.ensures) earlier.1.1 reply.1.1,
             ),
@@ -88,12 +97,12 @@ returns-clause-meets g c =
     let write : ProduceTopicReply → _ = λ x. where_due terms.due (produce_topic_reply.written x) in
     let p = progress b.state.world c.loop-topic.touched.items in
     let i = c.loop-topic.topic-index in
-    let over = turn_over write (served_topic terms.refusal) c.loop-topic.sink.bytes p request.topics i (subst (λ ts. length ts ≤ i) c.as_slice-topic-items.ensures c.loop-topic-test.false) in
+    let over = turn_over write (served_topic terms.bytes terms.refusal) c.loop-topic.sink.bytes p request.topics i (subst (λ ts. length ts ≤ i) c.as_slice-topic-items.ensures c.loop-topic-test.false) in
     on_ok_weaker c.put.result
     (λ last. meets_so a b _ _
-    (λ told. produce_told terms request a.state.world b.state.world c.args.touched.now.items c.loop-topic.touched.items c.len.result
+    (λ told. produce_told c.args.limit terms request a.state.world b.state.world c.args.touched.now.items c.loop-topic.touched.items c.len.result
     c.args.sink.now.bytes c.put_count.new.sink.bytes c.loop-topic.sink.bytes c.put.new.sink.bytes
-    c.terms_of-terms.ensures.refusal c.terms_of-terms.ensures.due c.len.ensures (c.in_ok-put_count.ensures.bytes ∙ ap (λ s. s ++ where_due terms.due ((count w32).written c.len.result)) c.in_ok-make_room.ensures.bytes) (sym over ∙ told) last)
+    c.terms_of-terms.ensures.refusal c.terms_of-terms.ensures.due c.len.ensures (c.in_ok-put_count.ensures.bytes ∙ ap (λ s. s ++ where_due terms.due ((count w32).written c.len.result)) c.in_ok-make_room.ensures.bytes) (subst (λ n. (p, c.loop-topic.sink.bytes) ≡ written_behind write c.put_count.new.sink.bytes (in_turn (served_topic n terms.refusal) (progress a.state.world c.args.touched.now.items) request.topics)) c.terms_of-terms.ensures.bytes (sym over ∙ told)) last)
     c.loop-topic.invariant.told)
     c.put.ensures.bytes
 
@@ -111,9 +120,9 @@ returns-clause-told g c =
     on_ok_weaker c.put.result
     (λ last honest agree.
     let so = c.loop-topic.invariant.answers a.disk.failures b.disk.failures b.next (omega arith) (omega arith) (omega arith) honest agree in
-    let all = served_all (IsTopicTold (HasFailed a b) terms.refusal) p q request.topics i so.0 (subst (λ ts. length ts ≤ i) c.as_slice-topic-items.ensures c.loop-topic-test.false) so.1.1 in
-    produce_told_so (HasFailed a b) terms request p q c.len.result c.args.sink.now.bytes c.put_count.new.sink.bytes c.loop-topic.sink.bytes c.put.new.sink.bytes
-    c.terms_of-terms.ensures.refusal c.terms_of-terms.ensures.due c.len.ensures (c.in_ok-put_count.ensures.bytes ∙ ap (λ s. s ++ where_due terms.due ((count w32).written c.len.result)) c.in_ok-make_room.ensures.bytes) (so.0, (so.1.0, all)) last)
+    let all = served_all (IsTopicTold (HasFailed a b) terms.bytes terms.refusal) p q request.topics i so.0 (subst (λ ts. length ts ≤ i) c.as_slice-topic-items.ensures c.loop-topic-test.false) so.1.1 in
+    produce_told_so (HasFailed a b) c.args.limit terms request p q c.len.result c.args.sink.now.bytes c.put_count.new.sink.bytes c.loop-topic.sink.bytes c.put.new.sink.bytes
+    c.terms_of-terms.ensures.refusal c.terms_of-terms.ensures.due c.len.ensures (c.in_ok-put_count.ensures.bytes ∙ ap (λ s. s ++ where_due terms.due ((count w32).written c.len.result)) c.in_ok-make_room.ensures.bytes) (so.0, (so.1.0, subst (λ n. AreServed (IsTopicTold (HasFailed a b) n terms.refusal) p request.topics q so.0) c.terms_of-terms.ensures.bytes all)) last)
     c.put.ensures.bytes
 
 pub returns-in_err-serve_topic-clause-spared : goal.returns-in_err-serve_topic-clause-spared

@@ -20,8 +20,8 @@ invariant-loop-topic g l =
     let b = scene log disk l.parts l.shelf in
     record {
       step : IsStep a b;
-      told : Meets a b (written_behind (λ x. where_due l.terms.due (produce_topic_reply.written x)) l.sink.bytes (in_turn (served_topic l.terms.refusal) (progress b.state.world l.touched.items) (drop l.topic-index l.request.topics)) ≡ written_behind (λ x. where_due l.terms.due (produce_topic_reply.written x)) l.initial.sink.bytes (in_turn (served_topic l.terms.refusal) (progress a.state.world l.initial.touched.items) l.request.topics));
+      told : Meets a b (written_behind (λ x. where_due l.terms.due (produce_topic_reply.written x)) l.sink.bytes (in_turn (served_topic l.terms.bytes l.terms.refusal) (progress b.state.world l.touched.items) (drop l.topic-index l.request.topics)) ≡ written_behind (λ x. where_due l.terms.due (produce_topic_reply.written x)) l.initial.sink.bytes (in_turn (served_topic l.terms.bytes l.terms.refusal) (progress a.state.world l.initial.touched.items) l.request.topics));
       answers : (before now next : ℕ) → before ≤ a.disk.failures → b.disk.failures ≤ now → b.next ≤ next → WhereHonest a b ((replies : List ProduceTopicReply) × ((l.sink.bytes ≡ l.initial.sink.bytes ++ flat_map (λ x. where_due l.terms.due (produce_topic_reply.written x)) replies)
-          × AreServed (IsTopicTold (FailedBy before now next) l.terms.refusal) (progress a.state.world l.initial.touched.items) (take l.topic-index l.request.topics) (progress b.state.world l.touched.items) replies));
+          × AreServed (IsTopicTold (FailedBy before now next) l.terms.bytes l.terms.refusal) (progress a.state.world l.initial.touched.items) (take l.topic-index l.request.topics) (progress b.state.world l.touched.items) replies));
       put : IsPut (length_due l.terms.due (sum_by topic_length (take l.topic-index l.request.topics))) l.initial.sink (Ok tt) l.sink;
     }

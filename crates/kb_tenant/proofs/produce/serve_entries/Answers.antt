@@ -31,7 +31,7 @@ loop-entry-preserved g c =
     let b = scene log disk c.loop-entry.parts c.loop-entry.shelf in
     let d = scene log disk c.serve_entry-reply.new.parts c.serve_entry-reply.new.shelf in
     let write : ProducePartitionReply → _ = λ x. where_due c.args.terms.due (produce_partition_reply.written x) in
-    let f = entry_served c.args.terms.refusal c.args.topic in
+    let f = entry_served c.args.terms.bytes c.args.terms.refusal c.args.topic in
     let p = progress b.state.world c.loop-entry.touched.items in
     let q = progress d.state.world c.serve_entry-reply.new.touched.items in
     record {
@@ -44,12 +44,12 @@ loop-entry-preserved g c =
           let first = c.loop-entry.invariant.step in
           let second = c.serve_entry-reply.ensures.step in
           let both = honest_then a b d _ _ first second (c.loop-entry.invariant.answers before now next since (failures_by b d now second until) (next_by b d next second later))
-          (entry_told_so before now next b d c.loop-entry.touched.items c.serve_entry-reply.new.touched.items c.args.terms.refusal c.args.topic c.entry-item.result c.serve_entry-reply.result second (failures_since a b before first since) until later c.serve_entry-reply.ensures.told) honest agree in
+          (entry_told_so before now next b d c.loop-entry.touched.items c.serve_entry-reply.new.touched.items c.args.terms.bytes c.args.terms.refusal c.args.topic c.entry-item.result c.serve_entry-reply.result second (failures_since a b before first since) until later c.serve_entry-reply.ensures.told) honest agree in
           let earlier = both.0 in (
             earlier.0 ++ c.serve_entry-reply.result ∷ [],
             (
               written_more write c.args.sink.now.bytes c.loop-entry.sink.bytes c.put.new.sink.bytes earlier.0 c.serve_entry-reply.result earlier.1.0 c.in_ok-put.ensures.bytes,
-              served_next (IsEntryTold (FailedBy before now next) c.args.terms.refusal c.args.topic) (progress a.state.world c.args.touched.now.items) p q c.args.entries.now c.loop-entry.entry-index c.entry-item.result earlier.0 c.serve_entry-reply.result
+              served_next (IsEntryTold (FailedBy before now next) c.args.terms.bytes c.args.terms.refusal c.args.topic) (progress a.state.world c.args.touched.now.items) p q c.args.entries.now c.loop-entry.entry-index c.entry-item.result earlier.0 c.serve_entry-reply.result
                   c.loop-entry-test.true c.entry-item.is earlier.1.1 both.1,
             ),
           );
@@ -63,7 +63,7 @@ returns-clause-told g c = λ before now next since until later honest agree.
     let a = scene log disk c.args.parts.now c.args.shelf.now in
     let b = scene log disk c.loop-entry.parts c.loop-entry.shelf in
     let so = c.loop-entry.invariant.answers before now next since until later honest agree in
-    (so.0, (so.1.0, served_all (IsEntryTold (FailedBy before now next) c.args.terms.refusal c.args.topic) (progress a.state.world c.args.touched.now.items) (progress b.state.world c.loop-entry.touched.items) c.args.entries.now c.loop-entry.entry-index so.0 c.loop-entry-test.false so.1.1))
+    (so.0, (so.1.0, served_all (IsEntryTold (FailedBy before now next) c.args.terms.bytes c.args.terms.refusal c.args.topic) (progress a.state.world c.args.touched.now.items) (progress b.state.world c.loop-entry.touched.items) c.args.entries.now c.loop-entry.entry-index so.0 c.loop-entry-test.false so.1.1))
 
 pub returns-in_err-put-clause-put : goal.returns-in_err-put-clause-put
 returns-in_err-put-clause-put g c =

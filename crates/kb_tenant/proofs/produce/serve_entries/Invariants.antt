@@ -20,8 +20,8 @@ invariant-loop-entry g l =
     let b = scene log disk l.parts l.shelf in
     record {
       step : IsStep a b;
-      told : Meets a b (written_behind (λ x. where_due l.terms.due (produce_partition_reply.written x)) l.sink.bytes (in_turn (entry_served l.terms.refusal l.topic) (progress b.state.world l.touched.items) (drop l.entry-index l.entries)) ≡ written_behind (λ x. where_due l.terms.due (produce_partition_reply.written x)) l.initial.sink.bytes (in_turn (entry_served l.terms.refusal l.topic) (progress a.state.world l.initial.touched.items) l.entries));
+      told : Meets a b (written_behind (λ x. where_due l.terms.due (produce_partition_reply.written x)) l.sink.bytes (in_turn (entry_served l.terms.bytes l.terms.refusal l.topic) (progress b.state.world l.touched.items) (drop l.entry-index l.entries)) ≡ written_behind (λ x. where_due l.terms.due (produce_partition_reply.written x)) l.initial.sink.bytes (in_turn (entry_served l.terms.bytes l.terms.refusal l.topic) (progress a.state.world l.initial.touched.items) l.entries));
       answers : (before now next : ℕ) → before ≤ a.disk.failures → b.disk.failures ≤ now → b.next ≤ next → WhereHonest a b ((replies : List ProducePartitionReply) × ((l.sink.bytes ≡ l.initial.sink.bytes ++ flat_map (λ x. where_due l.terms.due (produce_partition_reply.written x)) replies)
-          × AreServed (IsEntryTold (FailedBy before now next) l.terms.refusal l.topic) (progress a.state.world l.initial.touched.items) (take l.entry-index l.entries) (progress b.state.world l.touched.items) replies));
+          × AreServed (IsEntryTold (FailedBy before now next) l.terms.bytes l.terms.refusal l.topic) (progress a.state.world l.initial.touched.items) (take l.entry-index l.entries) (progress b.state.world l.touched.items) replies));
       put : IsPut (length_due l.terms.due (entries_length (take l.entry-index l.entries))) l.initial.sink (Ok tt) l.sink;
     }

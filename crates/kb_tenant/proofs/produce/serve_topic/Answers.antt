@@ -28,7 +28,7 @@ returns-clause-meets g c =
     let terms = c.args.terms in
     let named_so = c.topic_named-instance.ensures a.disk.files ∙ ap (λ n. named n a.state.world.known.topics) c.as_str-2.ensures in
     on_ok_weaker c.serve_entries.result
-    (meets_so a b _ _ (topic_told terms.due terms.refusal c.topic_named-instance.result p topic c.as_str.result.now c.as_slice.result.now c.len.result
+    (meets_so a b _ _ (topic_told terms.due terms.bytes terms.refusal c.topic_named-instance.result p topic c.as_str.result.now c.as_slice.result.now c.len.result
     c.args.sink.now.bytes c.put_string.new.sink.bytes c.put_count.new.sink.bytes _
     c.as_str.ensures c.as_slice.ensures c.len.ensures named_so c.in_ok-put_string.ensures.bytes c.in_ok-put_count.ensures.bytes))
     c.serve_entries.ensures.meets
@@ -44,7 +44,7 @@ returns-clause-told g c =
     let terms = c.args.terms in
     let named_so = c.topic_named-instance.ensures a.disk.files ∙ ap (λ n. named n a.state.world.known.topics) c.as_str-2.ensures in
     on_ok_weaker c.serve_entries.result
-    (λ told before now next since until later honest agree. topic_told_so (FailedBy before now next) terms.due terms.refusal c.topic_named-instance.result p q c.args.topic.now c.as_str.result.now c.as_slice.result.now c.len.result
+    (λ told before now next since until later honest agree. topic_told_so (FailedBy before now next) terms.due terms.bytes terms.refusal c.topic_named-instance.result p q c.args.topic.now c.as_str.result.now c.as_slice.result.now c.len.result
     c.args.sink.now.bytes c.put_string.new.sink.bytes c.put_count.new.sink.bytes c.serve_entries.new.sink.bytes
     c.as_str.ensures c.as_slice.ensures c.len.ensures named_so c.in_ok-put_string.ensures.bytes c.in_ok-put_count.ensures.bytes (told before now next since until later honest agree))
     c.serve_entries.ensures.told

@@ -1,5 +1,6 @@
 use Rattle.std.proofs.Common.{rules, ◌≡◌, ◌∙◌, ◌++◌, sym, ap, refl, subst, Ok, to_z, of_z, w32}
 use Rattle.kb_api_group.specs.Layouts.{offset_commit_reply, offset_commit_request}
+use Rattle.kb_tenant.specs.Entries.{commit_entries, within}
 use Rattle.kb_tenant.specs.OffsetCommit.{committed_all}
 use Rattle.kb_tenant.specs.Replies.{begun}
 use Rattle.kb_tenant.specs.Told.{CatalogFailed, IsCommitTopicTold, IsReplied}
@@ -22,11 +23,11 @@ returns-clause-meets g c = λ honest agree calm.
     let asked = c.in_ok-asked.asked in
     let gs = c.args.groups.now in
     let refusal = c.refusal-refusal.result in
-    let body = offset_commit_reply.written (committed_all w refusal asked).1 in
+    let body = offset_commit_reply.written (committed_all c.args.limits w refusal asked).1 in
     let met = c.in_ok-offset_commit.ensures.meets honest agree calm in
     let id : to_z w32 (of_z w32 request.correlation_id) ≡ request.correlation_id = search rules in
-    was_read request.correlation_id w after gs c.refusal-refusal.new.groups (whole offset_commit_request request.body.now) asked (of_offset_commit w c.args.clock gs) (answers.Plain c.finish.result) c.in_ok-asked.ensures.exact
-    (commits request.correlation_id w after c.args.clock gs c.silence.new.self c.refusal-refusal.new.groups asked refusal (answers.Plain c.finish.result) c.silence.ensures c.refusal-refusal.ensures.refusal c.refusal-refusal.ensures.after met.0
+    was_read request.correlation_id w after gs c.refusal-refusal.new.groups (within c.args.limits.request_entries commit_entries (whole offset_commit_request request.body.now)) asked (of_offset_commit c.args.limits w c.args.clock gs) (answers.Plain c.finish.result) c.in_ok-asked.ensures.exact
+    (commits c.args.limits request.correlation_id w after c.args.clock gs c.silence.new.self c.refusal-refusal.new.groups asked refusal (answers.Plain c.finish.result) c.silence.ensures c.refusal-refusal.ensures.refusal c.refusal-refusal.ensures.after met.0
     (c.finish.ensures request.correlation_id body (met.1 ∙ ap (λ s. s ++ body) (c.in_ok-sink.ensures ∙ ap begun id))))
 
 pub returns-clause-acknowledged : goal.returns-clause-acknowledged
@@ -40,11 +41,11 @@ returns-clause-acknowledged g c = λ honest agree q read.
     let gs = c.args.groups.now in
     let asked = c.in_ok-asked.asked in
     let id : to_z w32 (of_z w32 request.correlation_id) ≡ request.correlation_id = search rules in
-    let both : Ok asked ≡ Ok q = sym c.in_ok-asked.ensures.exact ∙ read in
+    let both : Ok asked ≡ Ok q = sym c.in_ok-asked.ensures.spelled ∙ read in
     let one : asked ≡ q = cc in
     let told = c.in_ok-offset_commit.ensures.told honest agree in
     let refusal : c.refusal-refusal.result ≡ commit_refusal gs asked = c.refusal-refusal.ensures.refusal ∙ ap (λ x. commit_refusal x asked) c.silence.ensures in
-    subst (λ x. IsReplied request.correlation_id (TellsCommits failed gs w x v) c.finish.result) one
-    (replied_by request.correlation_id (TellsCommits failed gs w asked v) c.in_ok-sink.sink.bytes c.offset_commit.new.sink.bytes (offset_commit_reply.written told.0) c.finish.result
+    subst (λ x. IsReplied request.correlation_id (TellsCommits failed c.args.limits gs w x v) c.finish.result) one
+    (replied_by request.correlation_id (TellsCommits failed c.args.limits gs w asked v) c.in_ok-sink.sink.bytes c.offset_commit.new.sink.bytes (offset_commit_reply.written told.0) c.finish.result
     (c.in_ok-sink.ensures ∙ ap begun id) told.1.0
-    (told.0, (refl, subst (λ r. AreServed (IsCommitTopicTold failed r asked.group_id) w asked.topics v told.0.topics) refusal told.1.1)) c.finish.ensures)
+    (told.0, (refl, subst (λ r. AreServed (IsCommitTopicTold failed c.args.limits r asked.group_id) w asked.topics v told.0.topics) refusal told.1.1)) c.finish.ensures)

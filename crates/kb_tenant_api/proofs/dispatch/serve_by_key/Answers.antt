@@ -3,6 +3,7 @@ use Rattle.std.specs.Ordering.{int_eq}
 use Rattle.kb_wire.specs.declared.api_key.TheConstants.{OFFSET_COMMIT, JOIN_GROUP, HEARTBEAT, LEAVE_GROUP, SYNC_GROUP}
 use Rattle.kb_api_group.specs.declared.group_key.TheConstants.{DESCRIBE_GROUPS, LIST_GROUPS}
 use Rattle.kb_tenant_state.specs.Parts.{world_of}
+use Rattle.kb_tenant.specs.Entries.{describe_groups_entries, within}
 use Rattle.kb_api_group.specs.Layouts.{describe_groups_request, list_groups_request}
 use Rattle.kb_wire.specs.Codec.{whole}
 use Rattle.kb_tenant_api.proofs.Looking.{looked_groups, only_silent}
@@ -154,7 +155,7 @@ returns-in-15-clause-groups g c =
     let gs = c.args.groups.now in
     let key : request.api_key ≡ DESCRIBE_GROUPS = search rules in
     subst (λ o. AreGroupsBy gs o.groups c.describe_groups.result c.describe_groups.new.groups) (sym (served_describe c.args.node.now w c.args.clock gs request.connection request.api_key request.api_version request.body.now key))
-    (looked_groups gs c.describe_groups.new.groups (if_read w gs (whole describe_groups_request request.body.now) (of_describe w gs)).groups c.describe_groups.result (only_silent w gs (whole describe_groups_request request.body.now) (of_describe w gs) (λ r. refl)) c.describe_groups.ensures.groups)
+    (looked_groups gs c.describe_groups.new.groups (if_read w gs (within c.args.node.now.limits.request_entries describe_groups_entries (whole describe_groups_request request.body.now)) (of_describe w gs)).groups c.describe_groups.result (only_silent w gs (within c.args.node.now.limits.request_entries describe_groups_entries (whole describe_groups_request request.body.now)) (of_describe w gs) (λ r. refl)) c.describe_groups.ensures.groups)
 
 pub returns-in-16-clause-groups : goal.returns-in-16-clause-groups
 returns-in-16-clause-groups g c =
@@ -183,7 +184,7 @@ returns-in_default-clause-groups g c =
 pub returns-in-8-clause-waits : goal.returns-in-8-clause-waits
 returns-in-8-clause-waits g c =
     let w = world_of g.L.PartitionLog.log c.args.parts.now (g.S.Store.disk c.args.shelf.now.store).files in
-    commit_waits w c.args.clock c.args.request.now.connection c.args.groups.now c.commit_offsets.new.groups c.args.request.now.body.now c.commit_offsets.result c.commit_offsets.ensures.groups
+    commit_waits c.args.node.now.limits w c.args.clock c.args.request.now.connection c.args.groups.now c.commit_offsets.new.groups c.args.request.now.body.now c.commit_offsets.result c.commit_offsets.ensures.groups
 
 pub returns-in-12-clause-waits : goal.returns-in-12-clause-waits
 returns-in-12-clause-waits g c =

@@ -1,6 +1,7 @@
 use Rattle.std.proofs.Common.{rules, ◌≡◌, ◌∙◌, ◌++◌, ap, refl, to_z, of_z, w32}
 use Rattle.kb_api_group.specs.Layouts.{describe_groups_reply, describe_groups_request}
 use Rattle.kb_coordinator.specs.Tools.{descriptions}
+use Rattle.kb_tenant.specs.Entries.{describe_groups_entries, within}
 use Rattle.kb_tenant.specs.Replies.{begun}
 use Rattle.kb_wire.specs.Codec.{whole}
 use Rattle.kb_tenant_api.specs.Serve.{of_describe}
@@ -17,6 +18,6 @@ returns-clause-served c = λ w.
     let quiet = c.silence.new.self in
     let body = describe_groups_reply.written (descriptions quiet asked) in
     let id : to_z w32 (of_z w32 request.correlation_id) ≡ request.correlation_id = search rules in
-    was_read request.correlation_id w w gs quiet (whole describe_groups_request request.body.now) asked (of_describe w gs) (answers.Plain c.finish.result) c.in_ok-asked.ensures.exact
+    was_read request.correlation_id w w gs quiet (within c.args.limit describe_groups_entries (whole describe_groups_request request.body.now)) asked (of_describe w gs) (answers.Plain c.finish.result) c.in_ok-asked.ensures.exact
     (looked request.correlation_id w gs quiet (λ x. describe_groups_reply.written (descriptions x asked)) (answers.Plain c.finish.result) c.silence.ensures refl
     (c.finish.ensures request.correlation_id body (c.in_ok-put_descriptions.ensures ∙ ap (λ s. s ++ body) (c.in_ok-sink.ensures ∙ ap begun id))))

@@ -19,6 +19,9 @@ use Rattle.kb_isolation_spec.specs.Broker.{BrokerState, AreUnready, AnyWait, IsS
 use Rattle.kb_store.specs.Disk.{Disk}
 use Rattle.kb_broker.specs.Hosts.{OnStore, IsReadyOn}
 use Rattle.kb_settings.specs.Names.{place_of}
+use Rattle.kb_settings.specs.Values.{values_of}
+use Rattle.kb_tenant.specs.declared.node.Node.{Node}
+use Rattle.kb_broker.specs.Nodes.{node_named, node_unnamed}
 use Rattle.kb_broker.specs.Opening.{tenant_of, tenants_of, login_of, opening_listing, opening_over, opening_setup, listed, listed_as}
 use Rattle.kb_broker.specs.declared.opening.Listing.{Listing}
 use Rattle.kb_broker.specs.declared.opening.Listing.TheVariants as listings
@@ -112,6 +115,18 @@ over-made listing s ts setup b fixed is =
 map-twice : {X Y Z : Type 0} (f : X → Y) (g : Y → Z) (xs : List X) → map (λ x. g (f x)) xs ≡ map g (map f xs)
 map-twice f g [] = refl
 map-twice f g (x ∷ xs) = ap (λ zs. g (f x) ∷ zs) (map-twice f g xs)
+
+-- of these parts what is fixed is made
+pub setup-made : {X : Type 0} (listing : Listing) (f : X → List ℕ) (s : Settings) (names : List X) (versions : List ApiVersion) (users : List Login) (nodes : List Node) (node : Node) (setup : Setup)
+    → map f names ≡ tenants_of s.users.items → versions ≡ listed listing → users ≡ map (login_of (tenants_of s.users.items)) s.users.items
+    → nodes ≡ map (λ n. node_named listing (values_of s) (f n)) names → node ≡ node_unnamed listing (values_of s)
+    → setup ≡ record { versions = versions; users = users; nodes = nodes; node = node } → setup ≡ opening_setup listing s
+setup-made listing f s names versions users nodes node setup named v u ns n is =
+    let each : nodes ≡ map (node_named listing (values_of s)) (tenants_of s.users.items) = ns ∙ map-twice f (node_named listing (values_of s)) names ∙ ap (map (node_named listing (values_of s))) named in
+    let made : List ApiVersion → List Login → List Node → Node → Setup = λ v u ns n. record { versions = v; users = u; nodes = ns; node = n } in
+    is ∙ ap (λ v. made v users nodes node) v ∙ ap (λ u. made (listed listing) u nodes node) u
+    ∙ ap (λ ns. made (listed listing) (map (login_of (tenants_of s.users.items)) s.users.items) ns node) each
+    ∙ ap (made (listed listing) (map (login_of (tenants_of s.users.items)) s.users.items) (map (node_named listing (values_of s)) (tenants_of s.users.items))) n
 
 -- a broker that is made of these parts is the one at its start
 pub opening-made : {X : Type 0} (listing : Listing) (f : X → List ℕ) (s : Settings) (users : List User) (names : List X) (tenants : List TenantState) (setup : Setup) (b : BrokerState)

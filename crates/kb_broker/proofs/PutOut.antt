@@ -7,7 +7,7 @@ use Rattle.kb_tenant_api.specs.declared.answer.Answer.{Answer}
 use Rattle.kb_tenant_api.specs.declared.answer.Answer.TheVariants as any
 use Rattle.kb_isolation_spec.specs.declared.shut.Shut.TheVariants as causes
 use Rattle.kb_isolation_spec.specs.declared.head.Head.{Head}
-use Rattle.kb_isolation_spec.specs.Greeting.{Setup, greeted}
+use Rattle.kb_isolation_spec.specs.Greeting.{Setup, greeted, for_tenant, node_of}
 use Rattle.kb_isolation_spec.specs.Machine.{Line, after_turn}
 use Rattle.kb_isolation_spec.specs.Session.{Greeting, Stage, Greets, BoundTo, Session, shut_down}
 use Rattle.kb_isolation_spec.specs.Tenant.{Wait}
@@ -34,7 +34,7 @@ module _ (failed : Type 0) (full : ℕ → Type 0) (setup : Setup) (clock n t : 
   }
 
   -- of what is a matter of the connection alone its tenant is asked nothing
-  pub told-own : (l m : Line) → IsOwn setup l.session → m ≡ with_session l (after_turn setup (kept_of ts t) clock n l.session)
+  pub told-own : (l m : Line) → IsOwn setup l.session → m ≡ with_session l (after_turn (for_tenant setup t) (kept_of ts t) clock n l.session)
       → IsToldAt failed full setup clock n (BoundTo t None) ts ts l.session m.session
   told-own l m own is = record {
     asked = λ key version head body asks. let no : true ≡ false = sym asks.tenants ∙ own.own in absurd (cc);
@@ -45,14 +45,14 @@ module _ (failed : Type 0) (full : ℕ → Type 0) (setup : Setup) (clock n t : 
   -- only one request stands in front
   pub told-asked : (us : List TenantState) (s r : Session) (key version : ℤ) (head : Head) (body : List ℕ) (touched : List TopicPartition)
       (answer : Answer) → IsAsked setup s key version head body
-      → IsTrueAnswer failed (full t) setup.node clock n key version head.correlation_id body (kept_of ts t) (kept_of us t) touched answer
+      → IsTrueAnswer failed (full t) (node_of setup t) clock n key version head.correlation_id body (kept_of ts t) (kept_of us t) touched answer
       → IsPutOut head answer s r → IsToldAt failed full setup clock n (BoundTo t None) ts us s r
   told-asked us s r key version head body touched answer asked is_true put_out = record {
     asked = λ key' version' head' body' asks.
         let both : Some (head, key, version, body) ≡ Some (head', key', version', body') = sym asked.asked ∙ asks.asked in
         let same : (head, key, version, body) ≡ (head', key', version', body') = cc in
         let Told : Head × ℤ × ℤ × List ℕ → Type 0 =
-        λ q. IsToldTruth failed (full t) setup.node clock n q.1 q.2 q.0 q.3 (kept_of ts t) (kept_of us t) s r in
+        λ q. IsToldTruth failed (full t) (node_of setup t) clock n q.1 q.2 q.0 q.3 (kept_of ts t) (kept_of us t) s r in
         inl (subst Told same (record { answer = answer; touched = touched; is_true = is_true; put_out = put_out }));
     own = λ own. let no : true ≡ false = sym asked.tenants ∙ own.own in absurd (cc);
     stays = λ own. let no : true ≡ false = sym asked.tenants ∙ own.own in absurd (cc);
@@ -78,7 +78,7 @@ pub told-counted : (failed : Type 0) (before after : ℕ → ℕ) (setup : Setup
 told-counted failed before after setup clock n t ts us vs s r commands stays told = record {
   asked = λ key version head body asks.
       let Told : ℕ → Kept → Type 0 =
-      λ commands l. IsToldTruth failed (2 ^ 63 ≤ commands + 1) setup.node clock n key version head body (kept_of ts t) l s r
+      λ commands l. IsToldTruth failed (2 ^ 63 ≤ commands + 1) (node_of setup t) clock n key version head body (kept_of ts t) l s r
       ⊎ IsUnasked (kept_of ts t) l s r in
       subst (λ count. Told count (kept_of vs t)) (sym (commands t))
       (subst (λ l. Told (before t) l) (sym (stays t)) (told.asked key version head body asks));

@@ -29,7 +29,7 @@ use Rattle.kb_isolation_spec.specs.Requests as requests
 use Rattle.kb_api_group.specs.declared.api_versions.ApiVersion.{ApiVersion}
 use Rattle.kb_isolation_spec.specs.Requests.{Asked, Versions, OtherVersions, Handshake, Authenticate, Another, Malformed}
 use Rattle.kb_isolation_spec.specs.Session.{Greeting, Stage, Greets, BoundTo, Session, shut_down, waiting, without_wait, is_free}
-use Rattle.kb_isolation_spec.specs.Greeting.{Setup, greeted}
+use Rattle.kb_isolation_spec.specs.Greeting.{Setup, greeted, for_tenant, node_of}
 use Rattle.kb_isolation_spec.specs.Machine.{Line, after_reaction, after_turn, served_by, served_at, put}
 use Rattle.kb_isolation_spec.proofs.Owners.{stage-shut}
 use Rattle.kb_isolation_spec.proofs.Quiet.{asked-group, asked-parks}
@@ -83,19 +83,19 @@ own_at setup kept clock n s TooLarge own free = free-without s.stage
 own_at setup kept clock n s Partial own free = free
 
 -- a turn that is a matter of the connection alone waits for nothing
-free-own : (setup : Setup) (kept : Kept) (clock n : ℕ) (s : Session) → IsOwn setup s → is_free s.stage ≡ true → is_free (after_turn setup kept clock n s).stage ≡ true
+free-own : (setup : Setup) (t : ℕ) (kept : Kept) (clock n : ℕ) (s : Session) → IsOwn setup s → is_free s.stage ≡ true → is_free (after_turn (for_tenant setup t) kept clock n s).stage ≡ true
 unfolding after_turn
-free-own setup kept clock n s own free = own_at setup kept clock n s (front s.unread) own.own free
+free-own setup t kept clock n s own free = own_at (for_tenant setup t) kept clock n s (front s.unread) own.own free
 
-pub own-free : (setup : Setup) (t : ℕ) (l new : Line) → l.session.stage ≡ BoundTo t None → IsOwn setup l.session → ((kept : Kept) (clock n : ℕ) → new ≡ with_session l (after_turn setup kept clock n l.session)) → is_free new.session.stage ≡ true
-own-free setup t l new bound own is = ap (λ (x : Line). is_free x.session.stage) (is nothing 0 0) ∙ free-own setup nothing 0 0 l.session own (ap is_free bound)
+pub own-free : (setup : Setup) (t : ℕ) (l new : Line) → l.session.stage ≡ BoundTo t None → IsOwn setup l.session → ((tenant : ℕ) (kept : Kept) (clock n : ℕ) → new ≡ with_session l (after_turn (for_tenant setup tenant) kept clock n l.session)) → is_free new.session.stage ≡ true
+own-free setup t l new bound own is = ap (λ (x : Line). is_free x.session.stage) (is t nothing 0 0) ∙ free-own setup t nothing 0 0 l.session own (ap is_free bound)
 
 -- it touches nothing of the tenant's
-pub own-touched : (setup : Setup) (t clock n : ℕ) (ts : List TenantState) (l new : Line) (places : List TopicPartition) → l.session.stage ≡ BoundTo t None → IsOwn setup l.session → ((kept : Kept) (clock n : ℕ) → new ≡ with_session l (after_turn setup kept clock n l.session))
+pub own-touched : (setup : Setup) (t clock n : ℕ) (ts : List TenantState) (l new : Line) (places : List TopicPartition) → l.session.stage ≡ BoundTo t None → IsOwn setup l.session → ((tenant : ℕ) (kept : Kept) (clock n : ℕ) → new ≡ with_session l (after_turn (for_tenant setup tenant) kept clock n l.session))
     → IsTouchedTurn setup t clock n ts ts l.session new.session places
 own-touched setup t clock n ts l new places bound own is = record {
-  session = ap (λ (x : Line). x.session) (is (kept_of ts t) clock n);
-  kept = sym (own.put (kept_of ts t) clock n);
+  session = ap (λ (x : Line). x.session) (is t (kept_of ts t) clock n);
+  kept = sym (own.put t (kept_of ts t) clock n);
   own = inr (own-free setup t l new bound own is);
   ready = λ k w apart silent. silent;
 }
@@ -212,7 +212,7 @@ keyed-by node us t clock n k key version head body s Rebalances answers.Rebalanc
 
 -- the connection that was answered stands in the queue under what it asks
 pub keyed-answered : (H : Type 0) → H → (setup : Setup) (t clock n : ℕ) (ts us : List TenantState) (l new : Line) (key version : ℤ) (head : Head) (body : List ℕ) (r : Answer) (o : Option queue.Wait) → l.session.stage ≡ BoundTo t None → IsSpent l.session new.session → IsAsked setup l.session key version head body → IsTurn t H ts us
-    → IsMet t H ts us (λ k m. (m ≡ kept_after setup.node k clock n key version body) × IsAnswer head.correlation_id (answer setup.node k clock n key version body) r)
+    → IsMet t H ts us (λ k m. (m ≡ kept_after (node_of setup t) k clock n key version body) × IsAnswer head.correlation_id (answer (node_of setup t) k clock n key version body) r)
     → ((key version : ℤ) (head : Head) (body : List ℕ) (reaction : Reaction) → IsAsked setup l.session key version head body → IsAnswer head.correlation_id reaction r → new ≡ with_session l (after_reaction reaction head version body (without_front l.session)))
     → o ≡ parked_for t r → IsKeyedAt us n new.session.stage o
 keyed-answered H honest setup t clock n ts us l new key version head body r o bound spent asks turn meets ok parked =
@@ -221,15 +221,15 @@ keyed-answered H honest setup t clock n ts us l new key version head body r o bo
     let up = turn.grows t in
     let before : refusals_of ts t ≡ 0 = omega (arith, none, up) in
     let done = meets honest (record { same = none ∙ sym before; below = grind (arith, nat_tests, before) }) in
-    let is = ok key version head body (answer setup.node (kept_of ts t) clock n key version body) asks done.1 in
+    let is = ok key version head body (answer (node_of setup t) (kept_of ts t) clock n key version body) asks done.1 in
     subst (IsKeyedAt us n new.session.stage) (sym parked)
-    (subst (λ (x : Line). IsKeyedAt us n x.session.stage (parked_for t r)) (sym is) (keyed-by setup.node us t clock n (kept_of ts t) key version head body (without_front l.session) (answer setup.node (kept_of ts t) clock n key version body) r refl done.0 bound done.1)))
+    (subst (λ (x : Line). IsKeyedAt us n x.session.stage (parked_for t r)) (sym is) (keyed-by (node_of setup t) us t clock n (kept_of ts t) key version head body (without_front l.session) (answer (node_of setup t) (kept_of ts t) clock n key version body) r refl done.0 bound done.1)))
 
 -- 4. Whom a turn concerns
 
 -- what the tenant was asked is the turn
 pub turned-touched : (H : Type 0) (setup : Setup) (t clock n : ℕ) (ts us : List TenantState) (s r : Session) (touched : Touched) → (H → IsTouchedBy touched t clock ts us)
-    → IsMet t H ts us (λ k l. (r ≡ after_turn setup k clock n s) × (l ≡ put setup k clock n s.unread)) → H → IsTouchedTurnBy touched setup t clock n ts us s r
+    → IsMet t H ts us (λ k l. (r ≡ after_turn (for_tenant setup t) k clock n s) × (l ≡ put (for_tenant setup t) k clock n s.unread)) → H → IsTouchedTurnBy touched setup t clock n ts us s r
 turned-touched H setup t clock n ts us s r (touches.Partitions places) touched meets honest =
     let h = touched honest in
     let both = meets honest h.calm in

@@ -22,7 +22,7 @@ use Rattle.kb_tenant.specs.declared.answer.Answer.TheVariants as answers
 use Rattle.kb_tenant.specs.declared.node.Node.{Node}
 use Rattle.kb_isolation_spec.specs.Tenant.{Awaited, Records, Group, Wait, is_members, answer, asked, ready, ready_for, kept_after}
 use Rattle.kb_isolation_spec.specs.Session.{Greeting, Greets, BoundTo, Session, can, shut_down, waiting, without_wait, unanswerable}
-use Rattle.kb_isolation_spec.specs.Greeting.{Setup, greeted}
+use Rattle.kb_isolation_spec.specs.Greeting.{Setup, greeted, for_tenant, node_of}
 use Rattle.kb_isolation_spec.specs.Machine.{Line, after_reaction, told, woken, woken_by, after_turn as served_by_turn, put}
 use Rattle.kb_isolation_spec.proofs.Laws.{can-turn, some-left, greeted-less, served-less}
 use Rattle.kb_isolation_spec.proofs.Owners.{stage-served, stage-shut}
@@ -63,12 +63,12 @@ answered-now node k l clock n id key version body touched r h =
     (ap (λ w. kept_in w l.groups) h.0 ∙ ap (kept_in o.world) h.1, h.3)
 
 -- what stands in front was asked, and answered so: the connection is the machine's
-pub asked-now : (setup : Setup) (clock n : ℕ) (k m : Kept) (l new : Line) (key version : ℤ) (head : Head) (body : List ℕ) (r : Answer) → IsAsked setup l.session key version head body → m ≡ kept_after setup.node k clock n key version body → IsAnswer head.correlation_id (answer setup.node k clock n key version body) r
+pub asked-now : (setup : Setup) (t clock n : ℕ) (k m : Kept) (l new : Line) (key version : ℤ) (head : Head) (body : List ℕ) (r : Answer) → IsAsked setup l.session key version head body → m ≡ kept_after (node_of setup t) k clock n key version body → IsAnswer head.correlation_id (answer (node_of setup t) k clock n key version body) r
     → ((key' version' : ℤ) (head' : Head) (body' : List ℕ) (reaction : Reaction) → IsAsked setup l.session key' version' head' body' → IsAnswer head'.correlation_id reaction r → new ≡ with_session l (after_reaction reaction head' version' body' (without_front l.session)))
-    → (new.session ≡ served_by_turn setup k clock n l.session) × (m ≡ put setup k clock n l.session.unread)
-asked-now setup clock n k m l new key version head body r asked kept told ok =
-    let is = ok key version head body (answer setup.node k clock n key version body) asked told in
-    (ap (λ (x : Line). x.session) is ∙ sym (asked.served k clock n), kept ∙ sym (asked.put k clock n))
+    → (new.session ≡ served_by_turn (for_tenant setup t) k clock n l.session) × (m ≡ put (for_tenant setup t) k clock n l.session.unread)
+asked-now setup t clock n k m l new key version head body r asked kept told ok =
+    let is = ok key version head body (answer (node_of setup t) k clock n key version body) asked told in
+    (ap (λ (x : Line). x.session) is ∙ sym (asked.served t k clock n), kept ∙ sym (asked.put t k clock n))
 
 -- where nothing was refused, and nobody's group answered it, only a fetch that asks a touched partition may have become ready
 pub touched-now : {L S : Type 0} (log : L → Log) (disk : S → Disk) (H : Type 0) → H → (node : Node) (hosts : Tenants L S) (us : List TenantState) (clock t n : ℕ) (id key version : ℤ) (body : List ℕ) (touched : List TopicPartition) (r : Answer) → AreHosted log disk hosts
@@ -140,13 +140,13 @@ spent-shut l new able is =
     record { less = omega (arith, some, left); stage = λ t w e. ap (λ (x : Line). without_wait x.session.stage) is ∙ stage-shut l.session }
 
 -- a matter of the connection alone
-pub spent-served : {A E : Type 0} (result : Result A E) (setup : Setup) (l new : Line) → can l.session ≡ true → ((kept : Kept) (clock n : ℕ) → OnOk result (new ≡ with_session l (served_by_turn setup kept clock n l.session)))
+pub spent-served : {A E : Type 0} (result : Result A E) (setup : Setup) (l new : Line) → can l.session ≡ true → ((tenant : ℕ) (kept : Kept) (clock n : ℕ) → OnOk result (new ≡ with_session l (served_by_turn (for_tenant setup tenant) kept clock n l.session)))
     → OnErr result (new ≡ with_session l (shut_down causes.Memory l.session)) → IsSpent l.session new.session
 spent-served (Ok x) setup l new able ok err =
-    let is = ok nothing 0 0 in
-    let less = served-less setup nothing 0 0 l.session (can-turn l.session able) in
+    let is = ok 0 nothing 0 0 in
+    let less = served-less (for_tenant setup 0) nothing 0 0 l.session (can-turn l.session able) in
     let left = ap (λ (x : Line). length x.session.unread) is in
-    record { less = omega (arith, less, left); stage = λ t w e. ap (λ (x : Line). without_wait x.session.stage) is ∙ stage-served setup nothing 0 0 l.session }
+    record { less = omega (arith, less, left); stage = λ t w e. ap (λ (x : Line). without_wait x.session.stage) is ∙ stage-served (for_tenant setup 0) nothing 0 0 l.session }
 spent-served (Err x) setup l new able ok err = spent-shut l new able err
 
 -- a greeting

@@ -4,6 +4,7 @@ pub mod Deadline
 pub mod Hosts
 pub mod Limited
 pub mod Members
+pub mod Nodes
 pub mod Opening
 pub mod Parked
 pub mod Places

@@ -11,12 +11,13 @@ use Rattle.kb_coordinator.specs.Groups.{none}
 use Rattle.kb_tenant_api.specs.Hosted.{TenantState, kept_of, new_tenant}
 use Rattle.kb_isolation_spec.specs.Broker.{BrokerState}
 use Rattle.kb_settings.specs.Names.{in_order, place_of}
-use Rattle.kb_settings.specs.Values.{values_of, told}
+use Rattle.kb_settings.specs.Values.{values_of}
 use Rattle.kb_settings.specs.declared.settings.User.{User}
 use Rattle.kb_settings.specs.declared.settings.Settings.{Settings}
 use Rattle.kb_store.specs.Disk.{Disk, Grew}
 use Rattle.kb_store.specs.declared.fault.StoreFault.{StoreFault}
 use Rattle.kb_store.specs.declared.fault.StoreFault.TheVariants as refusals
+use Rattle.kb_broker.specs.Nodes.{node_named, node_unnamed}
 use Rattle.kb_broker.specs.declared.opening.Listing.{Listing}
 use Rattle.kb_broker.specs.declared.opening.Listing.TheVariants as listings
 use Rattle.kb_broker.specs.declared.opening.OpenFault.{OpenFault}
@@ -82,7 +83,8 @@ abbrev pub opening_setup : Listing → Settings → Setup
 opening_setup listing s = record {
   versions = listed listing;
   users = map (login_of (tenants_of s.users.items)) s.users.items;
-  node = record { host = (told (values_of s)).0; port = (told (values_of s)).1 };
+  nodes = map (node_named listing (values_of s)) (tenants_of s.users.items);
+  node = node_unnamed listing (values_of s);
 }
 
 -- nobody is connected, and no time has passed, and the tenants are those

@@ -21,7 +21,7 @@ use Rattle.kb_tenant_api.specs.declared.answer.Answer.{Answer}
 use Rattle.kb_tenant_api.specs.declared.answer.Answer.TheVariants as answers
 use Rattle.kb_isolation_spec.specs.Tenant.{Awaited, Records, Group, Wait, ready, asked}
 use Rattle.kb_isolation_spec.specs.Session.{Stage, Greets, BoundTo, Session, can, is_free}
-use Rattle.kb_isolation_spec.specs.Greeting.{Setup}
+use Rattle.kb_isolation_spec.specs.Greeting.{Setup, for_tenant}
 use Rattle.kb_isolation_spec.specs.Machine.{Line, after_turn, put}
 use Rattle.kb_isolation_spec.specs.Owners.{whose}
 use Rattle.kb_isolation_spec.specs.Machine.{find_line}
@@ -131,8 +131,8 @@ IsAskedOnAt (BoundTo t wait) old new = IsAskedOn t old new
 -- after the turn of a connection with that number and session s, which is r then, of a tenant to which nothing was ever refused:
 -- what waits and was not ready is not ready, if the queue has it under what it asks and its connection is not among those
 pub record IsPassedOn (setup : Setup) (t clock n : ℕ) (q : Queue) (old new : List TenantState) (s r : Session) (ns : List ℕ) : Type 0 where
-  pub session : r ≡ after_turn setup (hosted.kept_of old t) clock n s
-  pub kept : hosted.kept_of new t ≡ put setup (hosted.kept_of old t) clock n s.unread
+  pub session : r ≡ after_turn (for_tenant setup t) (hosted.kept_of old t) clock n s
+  pub kept : hosted.kept_of new t ≡ put (for_tenant setup t) (hosted.kept_of old t) clock n s.unread
   pub calm : hosted.refusals_of new t ≡ 0
   pub own : Contains ns n
   pub others : (k : ℕ) (w : Wait) → k ≢ n → (Contains ns k → ⊥) → places_of (get q k) ≡ Some (keys_for t (asked (hosted.kept_of old t) w))
@@ -173,8 +173,8 @@ IsTouchedBy touches.Unknown t clock old new = ⊤
 -- nothing then, or the groups answer nobody who waited; and what waits and was not ready is not ready, if it asks none of those partitions
 pub record IsTouchedTurn (setup : Setup) (t clock n : ℕ) (old new : List TenantState) (s r : Session)
     (places : List TopicPartition) : Type 0 where
-  pub session : r ≡ after_turn setup (hosted.kept_of old t) clock n s
-  pub kept : hosted.kept_of new t ≡ put setup (hosted.kept_of old t) clock n s.unread
+  pub session : r ≡ after_turn (for_tenant setup t) (hosted.kept_of old t) clock n s
+  pub kept : hosted.kept_of new t ≡ put (for_tenant setup t) (hosted.kept_of old t) clock n s.unread
   pub own : (has_released (hosted.kept_of new t).groups ≡ false) ⊎ (is_free r.stage ≡ true)
   pub ready : (k : ℕ) (w : Wait) → AreApart (asked (hosted.kept_of old t) w) places → ready (hosted.kept_of old t) clock k w ≡ Silent
       → ready (hosted.kept_of new t) clock k w ≡ Silent
@@ -237,8 +237,8 @@ IsLeftAmong setup t clock n q old new s r ns =
 -- the turn of a connection of number n bound to that tenant, of whose session s it leaves r, was not refused, the connection waits for
 -- nothing then, or the groups answer nobody who waited, and what waits elsewhere and was not ready is not ready
 pub record IsQuietTurn (setup : Setup) (t clock n : ℕ) (q : Queue) (old new : List TenantState) (s r : Session) : Type 0 where
-  pub session : r ≡ after_turn setup (hosted.kept_of old t) clock n s
-  pub kept : hosted.kept_of new t ≡ put setup (hosted.kept_of old t) clock n s.unread
+  pub session : r ≡ after_turn (for_tenant setup t) (hosted.kept_of old t) clock n s
+  pub kept : hosted.kept_of new t ≡ put (for_tenant setup t) (hosted.kept_of old t) clock n s.unread
   pub own : (has_released (hosted.kept_of new t).groups ≡ false) ⊎ (is_free r.stage ≡ true)
   pub others : IsLeftAmong setup t clock n q old new s r (n ∷ [])
 

@@ -26,7 +26,7 @@ use Rattle.kb_isolation_spec.specs.declared.head.Head.{Head}
 use Rattle.kb_isolation_spec.specs.Stranded.{IsMembersAt, members_of}
 use Rattle.kb_isolation_spec.specs.Tenant.{Awaited, Group, Records, Wait, is_members, ready}
 use Rattle.kb_isolation_spec.specs.Session.{Stage, Greets, BoundTo, Session, shut_down, without_wait, is_free, can}
-use Rattle.kb_isolation_spec.specs.Greeting.{Setup, greeted}
+use Rattle.kb_isolation_spec.specs.Greeting.{Setup, greeted, for_tenant, node_of}
 use Rattle.kb_isolation_spec.specs.Machine.{Line, after_turn, put, woken, first_able, work}
 use Rattle.kb_isolation_spec.specs.Broker.{BrokerState, IsSound, IsUnready, AreUnready, AnyWait, refusals_of}
 use Rattle.kb_isolation_spec.specs.Calls.{IsRefused}
@@ -89,7 +89,8 @@ IsTurnAt honest (BoundTo tenant wait) old new = IsTurn tenant honest old new
 abbrev pub IsTakenAt : Type 0 → Setup → ℕ → ℕ → Stage → List TenantState → List TenantState → Session → Session → Type 0
 IsTakenAt honest setup clock n (Greets handshaken) old new s r = r ≡ greeted setup handshaken s
 IsTakenAt honest setup clock n (BoundTo tenant wait) old new s r =
-    IsMet tenant honest old new (λ k l. (r ≡ after_turn setup k clock n s) × (l ≡ put setup k clock n s.unread))
+    IsMet tenant honest old new (λ k l. (r ≡ after_turn (for_tenant setup tenant) k clock n s)
+    × (l ≡ put (for_tenant setup tenant) k clock n s.unread))
 
 -- The turn of a connection of number n at that stage, also where it is refused, leaves no member more waiting but on that connection,
 -- and of those who waited each waits still or was answered; or it leaves the tenant's groups as they were.
@@ -219,17 +220,17 @@ IsUnasked k l s r = (l ≡ k) × (r ≡ shut_down causes.Memory s)
 
 -- The turn of a bound connection, whatever was refused in it: the tenant's request in front of it is told the truth; any other is the
 -- connection's own matter, and comes to what is defined, or shuts it, and what the tenant keeps stays.
-pub record IsToldBound (failed full : Type 0) (setup : Setup) (clock n : ℕ) (k l : Kept) (s r : Session) : Type 0 where
+pub record IsToldBound (failed full : Type 0) (setup : Setup) (t clock n : ℕ) (k l : Kept) (s r : Session) : Type 0 where
   pub asked : (key version : ℤ) (head : Head) (body : List ℕ) → IsAsked setup s key version head body
-      → IsToldTruth failed full setup.node clock n key version head body k l s r ⊎ IsUnasked k l s r
-  pub own : IsOwn setup s → IsDoneOrShut (after_turn setup k clock n s) s r
+      → IsToldTruth failed full (node_of setup t) clock n key version head body k l s r ⊎ IsUnasked k l s r
+  pub own : IsOwn setup s → IsDoneOrShut (after_turn (for_tenant setup t) k clock n s) s r
   pub stays : IsOwn setup s → l ≡ k
 
 -- so it is of the turn of a connection at that stage: one that greets comes to what is defined, or is shut
 abbrev pub IsToldAt : Type 0 → (ℕ → Type 0) → Setup → ℕ → ℕ → Stage → List TenantState → List TenantState → Session → Session → Type 0
 IsToldAt failed full setup clock n (Greets handshaken) old new s r = IsDoneOrShut (greeted setup handshaken s) s r
 IsToldAt failed full setup clock n (BoundTo tenant wait) old new s r =
-    IsToldBound failed (full tenant) setup clock n (hosted.kept_of old tenant) (hosted.kept_of new tenant) s r
+    IsToldBound failed (full tenant) setup tenant clock n (hosted.kept_of old tenant) (hosted.kept_of new tenant) s r
 
 -- The answer to a member that waits for its group on the connection of number n is what the group told it, or the connection is shut.
 abbrev pub TellsMember : ℕ → ℕ → Kept → Wait → Answer → Type 0

@@ -14,6 +14,7 @@ mod count;
 mod deadline;
 mod engine;
 mod limits;
+mod nodes;
 mod opening;
 mod parking;
 mod promises;

@@ -12,11 +12,13 @@ ghost use Rattle.kb_tenant_api.specs.Hosted.{names_of, new_tenant};
 ghost use Rattle.kb_tenants.specs.Members.{HaveNoGroup};
 ghost use Rattle.kb_tenants.specs.Tenants.{numbers_in};
 ghost use Rattle.kb_broker.specs.Hosts.{tenants_in, AreHosted};
+ghost use Rattle.kb_broker.specs.Nodes.{has_stock_clients};
 ghost use Rattle.kb_broker.specs.Opening.{entry_between, listed, listed_as, opening, opening_listing, opening_over, opening_setup};
 ghost use Rattle.kb_broker.specs.Opening.{tenants_of, login_of, fault_for, BlamesStore, HaveNoGroups};
 
 use crate::broker::Broker;
 use crate::engine::Engine;
+use crate::nodes::{node_unnamed, nodes_named};
 use kb_api_group::{ApiVersion, group_key};
 use kb_connection::{Login, Setup};
 use kb_log::{ListLog, PartitionLog, Shelf, ShelfRefused};
@@ -67,6 +69,16 @@ pub enum Listing {
 }
 
 impl Listing {
+    /// Whether it is for stock clients.
+    pub fn has_stock_clients(self) -> bool
+        ensures { result ≡ has_stock_clients self }
+    {
+        match self {
+            Listing::Served => false,
+            Listing::StockClients => true,
+        }
+    }
+
     /// What it lists of an API, if it has a version.
     fn entry(self, api: Api) -> Option<ApiVersion>
         ensures { result ≡ listed_as self api }
@@ -248,9 +260,9 @@ fn new_setup(
 {
     let logins = logins_of(alloc, &settings.users, names)?;
     let versions = listed_versions(alloc, listing)?;
-    let (host, port) = settings.told();
-    let host = String::from_str(alloc, host)?;
-    Ok(Setup::new(versions, logins, host, port))
+    let nodes = nodes_named(alloc, settings, listing, names)?;
+    let node = node_unnamed(alloc, settings, listing)?;
+    Ok(Setup::new(versions, logins, nodes, node))
 }
 
 /// The versions that are listed. They fit a reply.

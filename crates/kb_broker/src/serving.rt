@@ -1,5 +1,6 @@
 //! The turn of one connection, beside the tenants.
 
+ghost use Rattle.kb_isolation_spec.specs.Greeting.{for_tenant, node_of};
 ghost use Rattle.std.specs.Prelude.{◌≡◌, ◌≢◌, ◌<◌, ◌≤◌, ◌^◌, ◌⊎◌, ℕ, ℤ, List, length, OnOk, OnErr, IfOk, Ok, None, true};
 ghost use Rattle.std.specs.Prelude.{false};
 ghost use Rattle.std.specs.FinMap as fin;
@@ -248,8 +249,9 @@ fn serve_bound<L: PartitionLog + Drop, S: Store>(
         → IsAskedOn tenant (tenants_in L.log S.disk tenants.old) (tenants_in L.log S.disk tenants.new) }
     ensures ok { OnOk result (IsMet tenant (shelf_is_honest S.disk tenants.new) (tenants_in L.log S.disk tenants.old)
         (tenants_in L.log S.disk tenants.new)
-        (λ k l. (connection.new.session ≡ after_turn setup.now k clock connection.old.number connection.old.session)
-        × (l ≡ put setup.now k clock connection.old.number connection.old.session.unread))) }
+        (λ k l. let own = for_tenant setup.now tenant in
+        (connection.new.session ≡ after_turn own k clock connection.old.number connection.old.session)
+        × (l ≡ put own k clock connection.old.number connection.old.session.unread))) }
     ensures told { shelf_is_honest S.disk tenants.new → IsToldAt
         (FailedBy (S.disk tenants.old.shelf.store).failures (S.disk tenants.new.shelf.store).failures tenants.new.shelf.next)
         (IsCatalogFull L.log tenants.new) setup.now clock connection.old.number (BoundTo tenant None)
@@ -375,14 +377,14 @@ fn ask<L: PartitionLog + Drop, S: Store>(
         (tenants_in L.log S.disk tenants.new) }
     ensures meets { IsMet tenant (shelf_is_honest S.disk tenants.new) (tenants_in L.log S.disk tenants.old)
         (tenants_in L.log S.disk tenants.new)
-        (λ k l. (l ≡ kept_after setup.now.node k clock request.now.connection request.now.api_key request.now.api_version
-        request.now.body.now)
-        × IsAnswer request.now.correlation_id (answer setup.now.node k clock request.now.connection request.now.api_key
+        (λ k l. let node = node_of setup.now tenant in
+        (l ≡ kept_after node k clock request.now.connection request.now.api_key request.now.api_version request.now.body.now)
+        × IsAnswer request.now.correlation_id (answer node k clock request.now.connection request.now.api_key
         request.now.api_version request.now.body.now) result.0) }
     ensures truthful { shelf_is_honest S.disk tenants.new → (touched : List TopicPartition) × IsTrueAnswer
         (FailedBy (S.disk tenants.old.shelf.store).failures (S.disk tenants.new.shelf.store).failures tenants.new.shelf.next)
-        (IsCatalogFull L.log tenants.new tenant) setup.now.node clock request.now.connection request.now.api_key request.now.api_version
-        request.now.correlation_id request.now.body.now (kept_of (tenants_in L.log S.disk tenants.old) tenant)
+        (IsCatalogFull L.log tenants.new tenant) (node_of setup.now tenant) clock request.now.connection request.now.api_key
+        request.now.api_version request.now.correlation_id request.now.body.now (kept_of (tenants_in L.log S.disk tenants.old) tenant)
         (kept_of (tenants_in L.log S.disk tenants.new) tenant) touched result.0 }
     ensures asked { shelf_is_honest S.disk tenants.new
         → IsAskedOn tenant (tenants_in L.log S.disk tenants.old) (tenants_in L.log S.disk tenants.new) }
@@ -393,7 +395,7 @@ fn ask<L: PartitionLog + Drop, S: Store>(
     ensures told { IsWaitTold request.now.connection (kept_of (tenants_in L.log S.disk tenants.old) tenant).groups result.0
         (kept_of (tenants_in L.log S.disk tenants.new) tenant).groups }
 {
-    let node = setup.node();
+    let node = setup.node(tenant);
     let Outcome {
         answer,
         touched,

@@ -1,7 +1,7 @@
 //! Texts of settings.
 
 use crate::said::Field::{Count, Id, Number, Text};
-use crate::said::Said;
+use crate::said::{Field, Said};
 use kb_settings::{Settings, SettingsFault, TenantLimits, User};
 use std::alloc::{AllocError, Global};
 
@@ -22,6 +22,7 @@ pub fn read(alloc: Global, kind: &str, rest: &str, said: &mut Said) -> Result<bo
         "many" => many(alloc, rest, said)?,
         "limits" => limits(alloc, rest, said)?,
         "limited" => limited(alloc, rest, said)?,
+        "data" => data_limits(alloc, rest, said)?,
         _ => return Ok(false),
     }
     Ok(true)
@@ -148,6 +149,7 @@ fn say(settings: &Settings, said: &mut Said) -> Result<(), AllocError> {
             Number(settings.requests.idle_seconds as i64),
         ),
         ("input_bytes", Number(settings.requests.input_bytes as i64)),
+        ("request_entries", limit(settings.requests.request_entries)),
         ("stock_clients", Text(yes_or_no(settings.stock_clients))),
         ("data", Text(settings.folder.as_deref().unwrap_or("none"))),
         ("users", Count(settings.users.len())),
@@ -158,6 +160,14 @@ fn say(settings: &Settings, said: &mut Said) -> Result<(), AllocError> {
 
 fn yes_or_no(flag: bool) -> &'static str {
     if flag { "yes" } else { "no" }
+}
+
+/// A number, or `none`.
+fn limit(limit: Option<u64>) -> Field<'static> {
+    match limit {
+        Some(number) => Number(i64::try_from(number).unwrap_or(i64::MAX)),
+        None => Text("none"),
+    }
 }
 
 fn say_limits(tenants: &[TenantLimits], said: &mut Said) -> Result<(), AllocError> {
@@ -234,6 +244,43 @@ fn say_limits_of(settings: &Settings, names: &str, said: &mut Said) -> Result<()
             ("reserved", Number(limits.reserved as i64)),
             ("groups", Number(groups.groups as i64)),
             ("group_bytes", Number(groups.bytes as i64)),
+        ])?;
+    }
+    Ok(())
+}
+
+/// What tenants may have, whose names stand in front with commas, and what their clients are told, by a text before two users.
+fn data_limits(alloc: Global, rest: &str, said: &mut Said) -> Result<(), AllocError> {
+    let (names, text) = rest.split_once(' ').unwrap_or((rest, ""));
+    let mut lines = String::new(alloc);
+    add_lines(&mut lines, text)?;
+    lines.push_str(USERS)?;
+    match Settings::read(alloc, &lines) {
+        Ok(settings) => say_data_limits(&settings, names, said),
+        Err(fault) => wrong(alloc, &fault, said),
+    }
+}
+
+fn say_data_limits<'a>(
+    settings: &'a Settings,
+    names: &'a str,
+    said: &mut Said,
+) -> Result<(), AllocError> {
+    said.fields(&[
+        ("entries", limit(settings.entries_for(false))),
+        ("with stock clients", limit(settings.entries_for(true))),
+    ])?;
+    for name in names.split(',') {
+        let limits = settings.data_of(name);
+        let (host, port) = settings.told_to(name);
+        said.fields(&[
+            ("limits of", Text(name)),
+            ("topics", limit(limits.topics)),
+            ("partitions", limit(limits.partitions)),
+            ("offsets", limit(limits.offsets)),
+            ("bytes", limit(limits.bytes)),
+            ("told", Text(host)),
+            ("port", Number(port as i64)),
         ])?;
     }
     Ok(())

@@ -9,7 +9,7 @@ use Rattle.kb_tenant_api.specs.Hosted.{Kept}
 use Rattle.kb_isolation_spec.specs.declared.head.Head.{Head}
 use Rattle.kb_isolation_spec.specs.Requests.{Asked, Versions, OtherVersions, Handshake, Authenticate, Another, Malformed, Request, request}
 use Rattle.kb_isolation_spec.specs.Session.{Session}
-use Rattle.kb_isolation_spec.specs.Greeting.{Setup}
+use Rattle.kb_isolation_spec.specs.Greeting.{Setup, for_tenant}
 use Rattle.kb_isolation_spec.specs.Machine.{after_turn, served_at, served_by, put, kept_at, kept_by}
 use Rattle.kb_isolation_spec.proofs.Laws.{front-rest}
 use Rattle.kb_connection.specs.declared.request.Asked.{Asked as Read}
@@ -36,7 +36,7 @@ kept_own_at setup kept clock n TooLarge h = refl
 
 is_own : (setup : Setup) (s : Session) → is_tenants_at setup.versions (front s.unread) ≡ false → IsOwn setup s
 unfolding put
-is_own setup s h = record { own = h; put = λ kept clock n. kept_own_at setup kept clock n (front s.unread) h }
+is_own setup s h = record { own = h; put = λ tenant kept clock n. kept_own_at (for_tenant setup tenant) kept clock n (front s.unread) h }
 
 -- no whole frame stands in front
 unless_frame : (versions : List ApiVersion) (next : Next) (f : Front) → next ≡ answer f → ((frame : List ℕ) → next ≡ answers.Frame frame → ⊥) → is_tenants_at versions f ≡ false
@@ -104,8 +104,8 @@ unfolding after_turn served_by put
 is_asked setup s bytes key version head body e is = record {
   tenants = at_frame setup.versions bytes (Another key version body) (front s.unread) e (ap (λ (q : Request). q.asked) is);
   asked = asked_whole setup.versions bytes (front s.unread) e ∙ ap (λ (q : Request). asked_under q.head q.asked) is;
-  served = λ kept clock n. served_whole setup kept clock n s bytes (front s.unread) e ∙ ap (λ (q : Request). served_by setup kept clock n q.head q.asked (without_front s)) is;
-  put = λ kept clock n. kept_whole setup kept clock n bytes (front s.unread) e ∙ ap (λ (q : Request). kept_by setup kept clock n q.asked) is;
+  served = λ tenant kept clock n. served_whole (for_tenant setup tenant) kept clock n s bytes (front s.unread) e ∙ ap (λ (q : Request). served_by (for_tenant setup tenant) kept clock n q.head q.asked (without_front s)) is;
+  put = λ tenant kept clock n. kept_whole (for_tenant setup tenant) kept clock n bytes (front s.unread) e ∙ ap (λ (q : Request). kept_by (for_tenant setup tenant) kept clock n q.asked) is;
 }
 
 -- the frame in front asks something of the tenant, and this is handed out

@@ -9,7 +9,7 @@ use Rattle.kb_isolation_spec.specs.declared.head.Head.{Head}
 use Rattle.kb_isolation_spec.specs.Requests.{request}
 use Rattle.kb_isolation_spec.specs.Session.{Greeting, Session, shut_down}
 use Rattle.kb_tenant_api.specs.Hosted.{Kept}
-use Rattle.kb_isolation_spec.specs.Greeting.{Setup, greeted, greeted_at, greeted_frame}
+use Rattle.kb_isolation_spec.specs.Greeting.{Setup, for_tenant, greeted, greeted_at, greeted_frame}
 use Rattle.kb_isolation_spec.specs.Machine.{Line, after_turn, served_at, served_by}
 use Rattle.kb_connection.specs.declared.reaction.Reaction.{Reaction}
 use Rattle.kb_connection.specs.View.{with_session, without_front}
@@ -105,12 +105,12 @@ greet_frame setup greeting l new result reaction unread frame bytes same e read 
     let in_front : answers.Frame bytes ≡ answer (front l.session.unread) = ap answers.Frame read ∙ e ∙ ap (λ b. answer (front b)) same in
     reacts setup l new result reaction (greeted_frame setup greeting bytes) (greeted_at setup greeting l.session (front l.session.unread)) is (greeted_whole setup greeting l.session bytes (front l.session.unread) in_front) h
 
-pub serve_frame : {E : Type 0} (setup : Setup) (kept : Kept) (clock n : ℕ) (l new : Line) (result : Result (Unit {0}) E) (reaction : Result (Head × Reaction) AllocError) (unread frame bytes : List ℕ) → unread ≡ l.session.unread → answers.Frame frame ≡ answer (front unread) → bytes ≡ frame → IfOk reaction (λ done. (kept : Kept) (clock n : ℕ) (s : Session) → reacted setup done.1 done.0 s ≡ served_by setup kept clock n (request setup.versions bytes).head (request setup.versions bytes).asked s) → OnOk result (IfReacts reaction (λ head what. new ≡ with_session l (reacted setup what head (without_front l.session)))) → OnOk result (new ≡ with_session l (after_turn setup kept clock n l.session))
+pub serve_frame : {E : Type 0} (setup : Setup) (tenant : ℕ) (kept : Kept) (clock n : ℕ) (l new : Line) (result : Result (Unit {0}) E) (reaction : Result (Head × Reaction) AllocError) (unread frame bytes : List ℕ) → unread ≡ l.session.unread → answers.Frame frame ≡ answer (front unread) → bytes ≡ frame → IfOk reaction (λ done. (tenant : ℕ) (kept : Kept) (clock n : ℕ) (s : Session) → reacted setup done.1 done.0 s ≡ served_by (for_tenant setup tenant) kept clock n (request setup.versions bytes).head (request setup.versions bytes).asked s) → OnOk result (IfReacts reaction (λ head what. new ≡ with_session l (reacted setup what head (without_front l.session)))) → OnOk result (new ≡ with_session l (after_turn (for_tenant setup tenant) kept clock n l.session))
 unfolding after_turn
-serve_frame setup kept clock n l new result reaction unread frame bytes same e read is h =
+serve_frame setup tenant kept clock n l new result reaction unread frame bytes same e read is h =
     let in_front : answers.Frame bytes ≡ answer (front l.session.unread) = ap answers.Frame read ∙ e ∙ ap (λ b. answer (front b)) same in
-    reacts setup l new result reaction (served_by setup kept clock n (request setup.versions bytes).head (request setup.versions bytes).asked) (served_at setup kept clock n l.session (front l.session.unread)) (for_this reaction is) (served_whole setup kept clock n l.session bytes (front l.session.unread) in_front) h
+    reacts setup l new result reaction (served_by (for_tenant setup tenant) kept clock n (request setup.versions bytes).head (request setup.versions bytes).asked) (served_at (for_tenant setup tenant) kept clock n l.session (front l.session.unread)) (for_this reaction is) (served_whole (for_tenant setup tenant) kept clock n l.session bytes (front l.session.unread) in_front) h
   where
-    for_this : (r : Result (Head × Reaction) AllocError) → IfOk r (λ done. (kept : Kept) (clock n : ℕ) (s : Session) → reacted setup done.1 done.0 s ≡ served_by setup kept clock n (request setup.versions bytes).head (request setup.versions bytes).asked s) → IfOk r (λ done. (s : Session) → reacted setup done.1 done.0 s ≡ served_by setup kept clock n (request setup.versions bytes).head (request setup.versions bytes).asked s)
-    for_this (Ok done) each = each kept clock n
+    for_this : (r : Result (Head × Reaction) AllocError) → IfOk r (λ done. (tenant : ℕ) (kept : Kept) (clock n : ℕ) (s : Session) → reacted setup done.1 done.0 s ≡ served_by (for_tenant setup tenant) kept clock n (request setup.versions bytes).head (request setup.versions bytes).asked s) → IfOk r (λ done. (s : Session) → reacted setup done.1 done.0 s ≡ served_by (for_tenant setup tenant) kept clock n (request setup.versions bytes).head (request setup.versions bytes).asked s)
+    for_this (Ok done) each = each tenant kept clock n
     for_this (Err fault) each = tt

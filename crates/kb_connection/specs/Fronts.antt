@@ -8,7 +8,7 @@ use Rattle.kb_isolation_spec.specs.Requests.{Asked, Versions, OtherVersions, Han
 use Rattle.kb_isolation_spec.specs.Session.{Session}
 use Rattle.kb_isolation_spec.specs.Versions.{no_head}
 use Rattle.kb_isolation_spec.specs.Tenant.{answer, kept_after}
-use Rattle.kb_isolation_spec.specs.Greeting.{Setup}
+use Rattle.kb_isolation_spec.specs.Greeting.{Setup, for_tenant, node_of}
 use Rattle.kb_isolation_spec.specs.Machine.{after_reaction, after_turn, put}
 use Rattle.kb_connection.specs.View.{without_front}
 
@@ -49,15 +49,16 @@ head_at versions Partial = no_head
 head_at versions TooSmall = no_head
 head_at versions TooLarge = no_head
 
--- no request of the tenant stands in front: what the tenant keeps stays
+-- no request of the tenant stands in front: what any tenant keeps stays
 pub record IsOwn (setup : Setup) (s : Session) : Type 0 where
   pub own : is_tenants_at setup.versions (front s.unread) ≡ false
-  pub put : (kept : Kept) (clock n : ℕ) → put setup kept clock n s.unread ≡ kept
+  pub put : (tenant : ℕ) (kept : Kept) (clock n : ℕ) → put (for_tenant setup tenant) kept clock n s.unread ≡ kept
 
--- this request of the tenant stands in front
+-- this request of the tenant stands in front, whichever tenant it is
 pub record IsAsked (setup : Setup) (s : Session) (key version : ℤ) (head : Head) (body : List ℕ) : Type 0 where
   pub tenants : is_tenants_at setup.versions (front s.unread) ≡ true
   pub asked : asked_at setup.versions (front s.unread) ≡ Some (head, key, version, body)
-  pub served : (kept : Kept) (clock n : ℕ)
-      → after_turn setup kept clock n s ≡ after_reaction (answer setup.node kept clock n key version body) head version body (without_front s)
-  pub put : (kept : Kept) (clock n : ℕ) → put setup kept clock n s.unread ≡ kept_after setup.node kept clock n key version body
+  pub served : (tenant : ℕ) (kept : Kept) (clock n : ℕ) → after_turn (for_tenant setup tenant) kept clock n s
+      ≡ after_reaction (answer (node_of setup tenant) kept clock n key version body) head version body (without_front s)
+  pub put : (tenant : ℕ) (kept : Kept) (clock n : ℕ)
+      → put (for_tenant setup tenant) kept clock n s.unread ≡ kept_after (node_of setup tenant) kept clock n key version body

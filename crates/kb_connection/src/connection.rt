@@ -13,7 +13,7 @@ ghost use Rattle.kb_isolation_spec.specs.declared.shut.Shut.TheVariants as cause
 ghost use Rattle.kb_isolation_spec.specs.Tenant.{Wait};
 ghost use Rattle.kb_api_group.specs.declared.api_versions.ApiVersion.{ApiVersion};
 ghost use Rattle.kb_isolation_spec.specs.Session.{has_member, is_free, can};
-ghost use Rattle.kb_isolation_spec.specs.Greeting.{Setup, greeted};
+ghost use Rattle.kb_isolation_spec.specs.Greeting.{Setup, for_tenant, greeted};
 ghost use Rattle.kb_isolation_spec.specs.Machine.{after_reaction, after_turn, told};
 ghost use Rattle.kb_isolation_spec.specs.Calls.{without_output};
 ghost use Rattle.kb_tenant_api.specs.declared.answer.Answer.TheVariants as any;
@@ -480,8 +480,8 @@ impl Connection {
     /// it is shut.
     pub fn serve(&mut self, alloc: Global, setup: &Setup) -> Result<(), AllocError>
         requires { IsOwn setup.now self.old.session }
-        ensures ok { (kept : Kept) (clock n : ℕ)
-            → OnOk result (self.new ≡ with_session self.old (after_turn setup.now kept clock n self.old.session)) }
+        ensures ok { (tenant : ℕ) (kept : Kept) (clock n : ℕ)
+            → OnOk result (self.new ≡ with_session self.old (after_turn (for_tenant setup.now tenant) kept clock n self.old.session)) }
         ensures err { OnErr result (self.new ≡ with_session self.old (shut_down causes.Memory self.old.session)) }
     {
         match self.unread.next() {

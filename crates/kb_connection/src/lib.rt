@@ -16,9 +16,11 @@ mod reply;
 mod request;
 mod setup;
 mod stage;
+mod tenant_node;
 mod version;
 
 pub use connection::Connection;
 pub use greeting::Greeting;
 pub use setup::{Login, Setup};
 pub use stage::{Awaited, Phase, Waiting};
+pub use tenant_node::TenantNode;

@@ -4,7 +4,7 @@ ghost use Rattle.std.specs.Prelude.{◌≡◌, ℕ, IfOk, false};
 ghost use Rattle.kb_isolation_spec.specs.declared.head.Head.{Head};
 ghost use Rattle.kb_isolation_spec.specs.Session.{Session};
 ghost use Rattle.kb_tenant_api.specs.Hosted.{Kept};
-ghost use Rattle.kb_isolation_spec.specs.Greeting.{bare_login, greeted_by, greeted_frame, login};
+ghost use Rattle.kb_isolation_spec.specs.Greeting.{bare_login, for_tenant, greeted_by, greeted_frame, login};
 ghost use Rattle.kb_isolation_spec.specs.Requests.{request};
 ghost use Rattle.kb_isolation_spec.specs.Machine.{served_by};
 ghost use Rattle.kb_connection.specs.Fronts.{is_tenants};
@@ -79,8 +79,8 @@ impl Reaction {
     /// What a request of a bound connection comes to that is no request of its tenant.
     #[tactic(auto, unfolding(kb_isolation_spec::specs::Machine::served_by))]
     pub fn bound(setup: &Setup, head: Head, asked: &Asked<'_>) -> Reaction
-        ensures { is_tenants (asked_of asked.now) ≡ false → (kept : Kept) (clock n : ℕ) (s : Session)
-            → reacted setup.now result head s ≡ served_by setup.now kept clock n head (asked_of asked.now) s }
+        ensures { is_tenants (asked_of asked.now) ≡ false → (tenant : ℕ) (kept : Kept) (clock n : ℕ) (s : Session)
+            → reacted setup.now result head s ≡ served_by (for_tenant setup.now tenant) kept clock n head (asked_of asked.now) s }
     {
         match asked {
             Asked::Versions => Reaction::Versions(ErrorCode::None),
@@ -123,8 +123,8 @@ pub fn bound_reaction(
 ) -> Result<(Head, Reaction), AllocError>
     ensures { let r = request setup.now.versions frame.now in
         is_tenants r.asked ≡ false → IfOk result (λ done.
-        (kept : Kept) (clock n : ℕ) (s : Session)
-        → reacted setup.now done.1 done.0 s ≡ served_by setup.now kept clock n r.head r.asked s) }
+        (tenant : ℕ) (kept : Kept) (clock n : ℕ) (s : Session)
+        → reacted setup.now done.1 done.0 s ≡ served_by (for_tenant setup.now tenant) kept clock n r.head r.asked s) }
 {
     let request = Request::read(alloc, setup.versions().as_slice(), frame)?;
     Ok((

@@ -1,13 +1,14 @@
-//! What is fixed while a broker runs: the versions that it lists, its users, and where clients are told to connect to.
+//! What is fixed while a broker runs: the versions that it lists, its users, and the node of each tenant.
 
-ghost use Rattle.std.specs.Prelude.{◌≡◌, string_bytes};
+ghost use Rattle.std.specs.Prelude.{◌≡◌};
 ghost use Rattle.kb_wire.specs.Codec.{array, string};
 ghost use Rattle.kb_api_group.specs.Layouts.{api_version};
-ghost use Rattle.kb_isolation_spec.specs.Greeting.{tenant_of, login};
+ghost use Rattle.kb_isolation_spec.specs.Greeting.{tenant_of, login, node_of};
 
+use crate::tenant_node::TenantNode;
 use kb_api_group::{ApiVersion, PlainLogin, read_plain};
 use kb_tenant::Node;
-use kb_wire::{Array, Text};
+use kb_wire::Array;
 use std::marker::Model;
 
 /// A user: the name and password of its login, and the place of its tenant.
@@ -39,18 +40,17 @@ impl Login {
     }
 }
 
-/// What is fixed while a broker runs. The versions and the host fit a reply.
+/// What is fixed while a broker runs. The versions and the hosts fit a reply.
 #[derive(Drop)]
 pub struct Setup {
     versions: Array<ApiVersion>,
     logins: Vec<Login>,
-    host: String,
-    port: u16,
+    nodes: Vec<TenantNode>,
+    node: TenantNode,
 }
 
 impl Model for Setup {
-    ghost use Rattle.std.specs.Prelude.{string_bytes};
-    ghost use Rattle.kb_wire.specs.Codec.{array, string};
+    ghost use Rattle.kb_wire.specs.Codec.{array};
     ghost use Rattle.kb_api_group.specs.Layouts.{api_version};
     ghost use Rattle.kb_isolation_spec.specs.Greeting.{Setup};
 
@@ -59,35 +59,41 @@ impl Model for Setup {
     ghost view = { λ s. record {
       versions = s.versions;
       users = s.logins.items;
-      node = record { host = string_bytes s.host; port = s.port };
+      nodes = s.nodes.items;
+      node = s.node;
     } };
 
-    ghost invariant = { λ s. ((array api_version).Fits s.versions) × (string.Fits (string_bytes s.host)) };
+    ghost invariant = { λ s. (array api_version).Fits s.versions };
 }
 
 impl Setup {
-    /// What is fixed: the versions that are listed, the users, and the host and port that clients are told to connect to.
-    pub fn new(versions: Array<ApiVersion>, logins: Vec<Login>, host: String, port: u16) -> Setup
+    /// What is fixed: the versions that are listed, the users, the nodes of the tenants by their places, and the node of a place that no
+    /// tenant has.
+    pub fn new(
+        versions: Array<ApiVersion>,
+        logins: Vec<Login>,
+        nodes: Vec<TenantNode>,
+        node: TenantNode,
+    ) -> Setup
         requires versions { (array api_version).Fits versions }
-        requires host { string.Fits (string_bytes host) }
-        ensures { result ≡ record { versions = versions; users = logins.items; node = record { host = string_bytes host; port = port } } }
+        ensures { result ≡ record { versions = versions; users = logins.items; nodes = nodes.items; node = node } }
     {
         Setup {
             versions,
             logins,
-            host,
-            port,
+            nodes,
+            node,
         }
     }
 
-    /// Where clients are told to connect to. The host fits a reply.
-    pub fn node(&self) -> Node<'_>
-        ensures node { result ≡ self.now.node }
+    /// Where clients of the tenant at that place are told to connect to, and what the tenant may have. The host fits a reply.
+    pub fn node(&self, tenant: usize) -> Node<'_>
+        ensures node { result ≡ node_of self.now tenant }
         ensures fits { string.Fits result.host }
     {
-        Node {
-            host: Text::new(self.host.as_str()),
-            port: self.port,
+        match self.nodes.get(tenant) {
+            Some(node) => node.told(),
+            None => self.node.told(),
         }
     }
 

@@ -12,7 +12,7 @@ use Rattle.kb_tenant_api.proofs.Laws.{served_small}
 use Rattle.kb_isolation_spec.specs.Requests.{Asked, Versions, OtherVersions, Handshake, Authenticate, Another, Malformed, request}
 use Rattle.kb_isolation_spec.specs.Tenant.{kept_after}
 use Rattle.kb_isolation_spec.specs.Session.{Stage, Greets, BoundTo, Session, fed, overruns, has_member}
-use Rattle.kb_isolation_spec.specs.Greeting.{Setup}
+use Rattle.kb_isolation_spec.specs.Greeting.{Setup, for_tenant}
 use Rattle.kb_isolation_spec.specs.Machine.{Happening, Opens, Comes, Closes, Moment, Line, View, put, kept_by, kept_at, each, on, find_line, first_able, all_woken, turn_at, turn_of, turn, again, work, turns, kept_without, kept_closed, kept_fed, step}
 use Rattle.kb_isolation_spec.specs.Left.{last_world}
 use Rattle.kb_isolation_spec.specs.Fetches.{ServesBatches, WakesWithBatches, AllWakeWithBatches, after_request, TurnGivesBatches, NextGivesBatches, TurnsGiveBatches, EventGivesBatches, FetchesGetBatches}
@@ -72,7 +72,7 @@ small-put setup kept clock n unread small = small-at setup kept clock n (front u
 
 small-turn_at : (w : View) (n : ℕ) (unread : List ℕ) (stage : Stage) → IsSmall w → IsSmall (turn_at w n unread stage)
 small-turn_at w n unread (Greets greeting) small = small
-small-turn_at w n unread (BoundTo tenant wait) small = small-put w.setup w.kept w.clock n unread small
+small-turn_at w n unread (BoundTo tenant wait) small = small-put (for_tenant w.setup tenant) w.kept w.clock n unread small
 
 small-turn_of : (w : View) (o : Option Line) → IsSmall w → IsSmall (turn_of w o)
 small-turn_of w None small = small
@@ -106,8 +106,8 @@ small-last (e ∷ es) w small = small-last es (step e w) (small-step e w small)
 
 -- 2. Answers
 
-serves : (w : View) (n : ℕ) (s : Session) → IsSmall w → ServesBatches w n s
-serves w n s small frame rest version body fetch at asks read = served-batches w.setup w.kept w.clock n s frame rest version body fetch small at asks read
+serves : (w : View) (tenant n : ℕ) (s : Session) → IsSmall w → ServesBatches w tenant n s
+serves w tenant n s small frame rest version body fetch at asks read = served-batches (for_tenant w.setup tenant) w.kept w.clock n s frame rest version body fetch small at asks read
 
 wakes : (w : View) (n : ℕ) (s : Session) → IsSmall w → WakesWithBatches w n s
 wakes w n s small tenant head version body deadline fetch waits read = woken-batches w.kept w.clock n tenant s head version body deadline fetch small waits read
@@ -121,7 +121,7 @@ all-wake w small = each-line (λ (l : Line). WakesWithBatches w l.number l.sessi
 
 turn-gives : (w : View) (l : Line) (stage : Stage) → IsSmall w → TurnGivesBatches w l stage
 turn-gives w l (Greets greeting) small = tt
-turn-gives w l (BoundTo tenant wait) small = (serves w l.number l.session small, all-wake (after_request w l) (small-put w.setup w.kept w.clock l.number l.session.unread small))
+turn-gives w l (BoundTo tenant wait) small = (serves w tenant l.number l.session small, all-wake (after_request w tenant l) (small-put (for_tenant w.setup tenant) w.kept w.clock l.number l.session.unread small))
 
 next-gives : (w : View) (o : Option Line) → IsSmall w → NextGivesBatches w o
 next-gives w None small = tt

@@ -13,7 +13,7 @@ use Rattle.kb_tenant.specs.Replies.{Replies, Waits, Silent, Shuts}
 use Rattle.kb_tenant_api.specs.Replies.{Reaction, Plain, Rebalances}
 use Rattle.kb_isolation_spec.specs.Tenant.{answer, ready}
 use Rattle.kb_isolation_spec.specs.Session.{Greeting, Unshaken, Shaken, Bare, Stage, Greets, BoundTo, Session, replied, is_turn, can}
-use Rattle.kb_isolation_spec.specs.Greeting.{Setup, greeted_by, greeted_frame, greeted_at, greeted, greeting_after, shaken, authenticated, logged_in, bare_login, login}
+use Rattle.kb_isolation_spec.specs.Greeting.{Setup, for_tenant, greeted_by, greeted_frame, greeted_at, greeted, greeting_after, shaken, authenticated, logged_in, bare_login, login}
 use Rattle.kb_isolation_spec.specs.Machine.{Line, View, plainly, after_reaction, served_by, served_at, after_turn, put, told, woken_by, woken, each, on, those, first_able, turn_at, turn_of, turn, again, work, turns}
 
 -- 1. Lists of connections
@@ -233,8 +233,8 @@ work-woken kept clock (l ∷ ls) = let h = woken_by-le kept clock l.number l.ses
 work-turn_at : (w : View) (l : Line) (st : Stage) → first_able w.lines ≡ Some l → work (turn_at w l.number l.session.unread st).lines < work w.lines
 work-turn_at w l (Greets h) f = work-on l.number (greeted w.setup h) (greeted-takes w.setup h) w.lines l f refl
 work-turn_at w l (BoundTo u wait) f =
-    let e = work-woken (put w.setup w.kept w.clock l.number l.session.unread) w.clock (each (on l.number (after_turn w.setup w.kept w.clock l.number)) w.lines) in
-    let lt = work-on l.number (after_turn w.setup w.kept w.clock l.number) (served-takes w.setup w.kept w.clock l.number) w.lines l f refl in
+    let e = work-woken (put (for_tenant w.setup u) w.kept w.clock l.number l.session.unread) w.clock (each (on l.number (after_turn (for_tenant w.setup u) w.kept w.clock l.number)) w.lines) in
+    let lt = work-on l.number (after_turn (for_tenant w.setup u) w.kept w.clock l.number) (served-takes (for_tenant w.setup u) w.kept w.clock l.number) w.lines l f refl in
     omega (arith, e, lt)
 
 -- 3. The turn of a world

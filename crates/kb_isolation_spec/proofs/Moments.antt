@@ -52,15 +52,15 @@ unfolding turns
 turns-again w = refl
 
 -- the turn of a bound connection
-pub turn-bound : (w : View) (l : Line) (tenant : ℕ) (wait : Option Wait) → first_able w.lines ≡ Some l → l.session.stage ≡ BoundTo tenant wait → turn w ≡ all_woken (after_request w l)
+pub turn-bound : (w : View) (l : Line) (tenant : ℕ) (wait : Option Wait) → first_able w.lines ≡ Some l → l.session.stage ≡ BoundTo tenant wait → turn w ≡ all_woken (after_request w tenant l)
 turn-bound w l tenant wait first bound = turn-some w l first ∙ ap (turn_at w l.number l.session.unread) bound
 
 pub next-serves : (w : View) (l : Line) (tenant : ℕ) (wait : Option Wait) → first_able w.lines ≡ Some l → l.session.stage ≡ BoundTo tenant wait
-    → NextGivesBatches w (first_able w.lines) → ServesBatches w l.number l.session × AllWakeWithBatches (after_request w l)
+    → NextGivesBatches w (first_able w.lines) → ServesBatches w tenant l.number l.session × AllWakeWithBatches (after_request w tenant l)
 next-serves w l tenant wait first bound gives = subst (TurnGivesBatches w l) bound (subst (NextGivesBatches w) first gives)
 
 pub serves-next : (w : View) (l : Line) (tenant : ℕ) (wait : Option Wait) → first_able w.lines ≡ Some l → l.session.stage ≡ BoundTo tenant wait
-    → ServesBatches w l.number l.session × AllWakeWithBatches (after_request w l) → NextGivesBatches w (first_able w.lines)
+    → ServesBatches w tenant l.number l.session × AllWakeWithBatches (after_request w tenant l) → NextGivesBatches w (first_able w.lines)
 serves-next w l tenant wait first bound both = subst (NextGivesBatches w) (sym first) (subst (TurnGivesBatches w l) (sym bound) both)
 
 -- 2. The deadline of a fetch

@@ -13,7 +13,7 @@ use Rattle.kb_tenant.specs.Replies.{Replies, Waits, Silent, Shuts, framed, reply
 use Rattle.kb_tenant_api.specs.Replies.{Reaction, Plain, Rebalances}
 use Rattle.kb_isolation_spec.specs.Tenant.{Wait, Records, Group, answer}
 use Rattle.kb_isolation_spec.specs.Session.{Greeting, Stage, Greets, BoundTo, Session, fed, shut_down, without_wait, waiting, can, is_turn, room, replied, throttled, unanswerable}
-use Rattle.kb_isolation_spec.specs.Greeting.{Setup, greeted}
+use Rattle.kb_isolation_spec.specs.Greeting.{Setup, for_tenant, greeted}
 use Rattle.kb_isolation_spec.specs.Machine.{Happening, Opens, Comes, Closes, Moment, Line, View, plainly, after_reaction, served_by, served_at, after_turn, put, each, on, those, first_able, all_woken, turn_at, turn, turns, again}
 use Rattle.kb_isolation_spec.specs.Owners.{greet_turn, greet_turn_at, heard, destiny, whose, Fits, Owns, Pairwise}
 use Rattle.kb_isolation_spec.proofs.Laws.{those-each, first-those, turn-some, turns-turn, greeted-less, greeted-still}
@@ -226,9 +226,9 @@ view-greeting mine w all l h true m f g e =
 
 -- a turn for the tenant itself is the machine's turn
 pub view-served : (mine : ℕ → Bool) (w : View) (all : List Line) (l : Line) (t : ℕ) (wait : Option Wait) → first_able all ≡ Some l → l.session.stage ≡ BoundTo t wait → w.lines ≡ those mine all → mine l.number ≡ true →
-    turns (all_woken (record w { kept = put w.setup w.kept w.clock l.number l.session.unread; lines = those mine (each (on l.number (after_turn w.setup w.kept w.clock l.number)) all) })) ≡ turns w
+    turns (all_woken (record w { kept = put (for_tenant w.setup t) w.kept w.clock l.number l.session.unread; lines = those mine (each (on l.number (after_turn (for_tenant w.setup t) w.kept w.clock l.number)) all) })) ≡ turns w
 view-served mine w all l t wait f g e m =
     let able : first_able w.lines ≡ Some l = ap first_able e ∙ first-those mine all l f m in
-    let lines : those mine (each (on l.number (after_turn w.setup w.kept w.clock l.number)) all) ≡ each (on l.number (after_turn w.setup w.kept w.clock l.number)) w.lines = those-each mine (on l.number (after_turn w.setup w.kept w.clock l.number)) all ∙ ap (each (on l.number (after_turn w.setup w.kept w.clock l.number))) (sym e) in
+    let lines : those mine (each (on l.number (after_turn (for_tenant w.setup t) w.kept w.clock l.number)) all) ≡ each (on l.number (after_turn (for_tenant w.setup t) w.kept w.clock l.number)) w.lines = those-each mine (on l.number (after_turn (for_tenant w.setup t) w.kept w.clock l.number)) all ∙ ap (each (on l.number (after_turn (for_tenant w.setup t) w.kept w.clock l.number))) (sym e) in
     let taken : turn w ≡ turn_at w l.number l.session.unread (BoundTo t wait) = turn-some w l able ∙ ap (turn_at w l.number l.session.unread) g in
-    ap (λ ls. turns (all_woken (record w { kept = put w.setup w.kept w.clock l.number l.session.unread; lines = ls }))) lines ∙ (ap turns (sym taken) ∙ turns-turn w)
+    ap (λ ls. turns (all_woken (record w { kept = put (for_tenant w.setup t) w.kept w.clock l.number l.session.unread; lines = ls }))) lines ∙ (ap turns (sym taken) ∙ turns-turn w)

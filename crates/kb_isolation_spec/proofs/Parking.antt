@@ -18,6 +18,7 @@ use Rattle.kb_groups.specs.declared.reply.SyncAnswer.TheVariants as sync
 use Rattle.kb_tenant_state.specs.World.{World}
 use Rattle.kb_tenant_state.specs.declared.topic_partition.TopicPartition.{TopicPartition}
 use Rattle.kb_tenant.specs.CreateTopics.{checked_all, created_all, creations_in, made_of}
+use Rattle.kb_tenant.specs.Entries.{commit_entries, describe_groups_entries, within}
 use Rattle.kb_tenant.specs.Fetch.{asked_fetch, deadline_of, fetch_answer, places_of, fetched_in}
 use Rattle.kb_tenant.specs.Produce.{produced, is_due}
 use Rattle.kb_tenant.specs.Replies.{Reaction, Replies, Waits, Silent}
@@ -68,7 +69,7 @@ fetch-parks w clock version body r read = by (fetch_answer w clock r (deadline_o
 plain-parks : (node : Node) (w : World) (clock n : ℕ) (key version : ℤ) (body : List ℕ) → ParksPlain version body clock (tenant.plainly_served node w clock n key version body)
 plain-parks node w clock n key version body =
     by_request (ParksPlain version body clock) node w clock n key version body (record {
-      produce = λ r read. produce-parks version body clock (produced w [] r).0.world (produced w [] r).0.touched (produce_reply.written (produced w [] r).1) (is_due r.acks);
+      produce = λ r read. produce-parks version body clock (produced node.limits.bytes w [] r).0.world (produced node.limits.bytes w [] r).0.touched (produce_reply.written (produced node.limits.bytes w [] r).1) (is_due r.acks);
       fetch = λ r read. fetch-parks w clock version body r read;
       list_offsets = λ r read deadline places e. absurd (cc);
       metadata = λ r read deadline places e. absurd (cc);
@@ -76,8 +77,8 @@ plain-parks node w clock n key version body =
       offset_fetch = λ r read deadline places e. absurd (cc);
       find_coordinator = λ r read deadline places e. absurd (cc);
       create_topics = λ r read.
-          let made = created_all w (made_of r) in
-          plain-either version body clock r.validate_only (stays w (Replies (creations_in version (checked_all w r.topics)))) (record { world = made.0; touched = []; reaction = Replies (creations_in version made.1) })
+          let made = created_all node.limits w (made_of r) in
+          plain-either version body clock r.validate_only (stays w (Replies (creations_in version (checked_all node.limits w r.topics)))) (record { world = made.0; touched = []; reaction = Replies (creations_in version made.1) })
           (λ deadline places e. absurd (cc)) (λ deadline places e. absurd (cc));
       delete_topics = λ r read deadline places e. absurd (cc);
       delete_records = λ r read deadline places e. absurd (cc);
@@ -116,23 +117,23 @@ unfolding served
 parks node w clock gs n key version body =
     let others : Outcome = of_topics gs (tenant.plainly_served node w clock n key version body) in
     let lists : Outcome = if_read w gs (whole list_groups_request body) (of_list w gs) in
-    let describes : Outcome = if_read w gs (whole describe_groups_request body) (of_describe w gs) in
+    let describes : Outcome = if_read w gs (within node.limits.request_entries describe_groups_entries (whole describe_groups_request body)) (of_describe w gs) in
     let syncs : Outcome = if_read w gs (whole sync_group_request body) (of_sync w clock n gs) in
     let leaves : Outcome = if_read w gs (whole leave_group_request body) (of_leave w clock gs) in
     let beats : Outcome = if_read w gs (whole heartbeat_request body) (of_heartbeat w clock gs) in
     let joins : Outcome = if_read w gs (whole join_group_request body) (of_join w clock n gs) in
-    let commits : Outcome = if_read w gs (whole offset_commit_request body) (of_offset_commit w clock gs) in
+    let commits : Outcome = if_read w gs (within node.limits.request_entries commit_entries (whole offset_commit_request body)) (of_offset_commit node.limits w clock gs) in
     let from_list : Outcome = if int_eq key LIST_GROUPS then lists else others in
     let from_describe : Outcome = if int_eq key DESCRIBE_GROUPS then describes else from_list in
     let from_sync : Outcome = if int_eq key SYNC_GROUP then syncs else from_describe in
     let from_leave : Outcome = if int_eq key LEAVE_GROUP then leaves else from_sync in
     let from_heartbeat : Outcome = if int_eq key HEARTBEAT then beats else from_leave in
     let from_join : Outcome = if int_eq key JOIN_GROUP then joins else from_heartbeat in
-    either version body clock (int_eq key OFFSET_COMMIT) commits from_join (read-parks version body clock w gs (whole offset_commit_request body) (of_offset_commit w clock gs) (λ r deadline places e. absurd (cc)))
+    either version body clock (int_eq key OFFSET_COMMIT) commits from_join (read-parks version body clock w gs (within node.limits.request_entries commit_entries (whole offset_commit_request body)) (of_offset_commit node.limits w clock gs) (λ r deadline places e. absurd (cc)))
     (either version body clock (int_eq key JOIN_GROUP) joins from_heartbeat (read-parks version body clock w gs (whole join_group_request body) (of_join w clock n gs) (λ r. join-parks version body clock w (of_join w clock n gs r).groups (is_accepted (join_code n r gs)) _))
     (either version body clock (int_eq key HEARTBEAT) beats from_leave (read-parks version body clock w gs (whole heartbeat_request body) (of_heartbeat w clock gs) (λ r deadline places e. absurd (cc)))
     (either version body clock (int_eq key LEAVE_GROUP) leaves from_sync (read-parks version body clock w gs (whole leave_group_request body) (of_leave w clock gs) (λ r deadline places e. absurd (cc)))
     (either version body clock (int_eq key SYNC_GROUP) syncs from_describe (read-parks version body clock w gs (whole sync_group_request body) (of_sync w clock n gs) (λ r. sync-parks version body clock w (of_sync w clock n gs r).groups (sync_answer clock n r gs)))
-    (either version body clock (int_eq key DESCRIBE_GROUPS) describes from_list (read-parks version body clock w gs (whole describe_groups_request body) (of_describe w gs) (λ r deadline places e. absurd (cc)))
+    (either version body clock (int_eq key DESCRIBE_GROUPS) describes from_list (read-parks version body clock w gs (within node.limits.request_entries describe_groups_entries (whole describe_groups_request body)) (of_describe w gs) (λ r deadline places e. absurd (cc)))
     (either version body clock (int_eq key LIST_GROUPS) lists others (read-parks version body clock w gs (whole list_groups_request body) (of_list w gs) (λ r deadline places e. absurd (cc)))
     (topics-parks node w clock gs n key version body)))))))

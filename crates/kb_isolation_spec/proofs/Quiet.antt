@@ -29,7 +29,7 @@ use Rattle.kb_tenant.proofs.Asked.{before_end, waits_until}
 use Rattle.kb_tenant_api.proofs.Laws.{served_again, served_waits}
 use Rattle.kb_isolation_spec.specs.declared.head.Head.{Head}
 use Rattle.kb_isolation_spec.specs.Tenant.{Wait, Awaited, Records, Group, ready, ready_for, asked, asked_in, asked_for, kept_after, answer}
-use Rattle.kb_isolation_spec.specs.Greeting.{Setup}
+use Rattle.kb_isolation_spec.specs.Greeting.{Setup, for_tenant}
 use Rattle.kb_isolation_spec.specs.Requests.{Asked, Versions, OtherVersions, Handshake, Authenticate, Another, Malformed}
 use Rattle.kb_isolation_spec.specs.Requests as requests
 use Rattle.kb_isolation_spec.specs.Session.{Stage, Greets, BoundTo, Session, waiting, without_wait, is_free}
@@ -202,18 +202,18 @@ module _ (b : BrokerState) (i u : ℕ) (l m : Line) (us : List TenantState) (H :
 
   -- what the connection itself waits for then is not ready, where the turn answered nobody who waited for a group
   pub own-turn : IsAt b.lines i l → is_free l.session.stage ≡ true → without_wait l.session.stage ≡ BoundTo u None → m.number ≡ l.number → without_wait m.session.stage ≡ without_wait l.session.stage
-      → m.session ≡ after_turn b.setup (kept_of b u) b.clock l.number l.session → hosted.kept_of us u ≡ put b.setup (kept_of b u) b.clock l.number l.session.unread → has_released (hosted.kept_of us u).groups ≡ false
+      → m.session ≡ after_turn (for_tenant b.setup u) (kept_of b u) b.clock l.number l.session → hosted.kept_of us u ≡ put (for_tenant b.setup u) (kept_of b u) b.clock l.number l.session.unread → has_released (hosted.kept_of us u).groups ≡ false
       → IsUnready AnyWait (changed b i m us b.unbound_refusals) m.number m.session.stage
   own-turn at free bound number same is after none =
-      let kept = put b.setup (kept_of b u) b.clock l.number l.session.unread in
-      let there : IsIdle b.clock kept l.number (after_turn b.setup (kept_of b u) b.clock l.number l.session).stage =
-      served-idle b.setup (kept_of b u) b.clock l.number l.session free (subst (λ (k : Kept). has_released k.groups ≡ false) after none) in
+      let kept = put (for_tenant b.setup u) (kept_of b u) b.clock l.number l.session.unread in
+      let there : IsIdle b.clock kept l.number (after_turn (for_tenant b.setup u) (kept_of b u) b.clock l.number l.session).stage =
+      served-idle (for_tenant b.setup u) (kept_of b u) b.clock l.number l.session free (subst (λ (k : Kept). has_released k.groups ≡ false) after none) in
       let idle : IsIdle b.clock (hosted.kept_of us u) l.number m.session.stage = subst (λ (k : Kept). IsIdle b.clock k l.number m.session.stage) (sym after) (subst (λ (s : Session). IsIdle b.clock kept l.number s.stage) (sym is) there) in
       own-unready m.number m.session.stage (same ∙ bound) (subst (λ n. IsIdle b.clock (hosted.kept_of us u) n m.session.stage) (sym number) idle)
 
   -- a turn that touched no partition and answered nobody leaves nothing ready, where nothing was before
   pub quiet-turn : AreUnready AnyWait b → IsAt b.lines i l → is_free l.session.stage ≡ true → without_wait l.session.stage ≡ BoundTo u None → m.number ≡ l.number → without_wait m.session.stage ≡ without_wait l.session.stage
-      → m.session ≡ after_turn b.setup (kept_of b u) b.clock l.number l.session → hosted.kept_of us u ≡ put b.setup (kept_of b u) b.clock l.number l.session.unread → has_released (hosted.kept_of us u).groups ≡ false
+      → m.session ≡ after_turn (for_tenant b.setup u) (kept_of b u) b.clock l.number l.session → hosted.kept_of us u ≡ put (for_tenant b.setup u) (kept_of b u) b.clock l.number l.session.unread → has_released (hosted.kept_of us u).groups ≡ false
       → ((n : ℕ) (w : Wait) → ready (kept_of b u) b.clock n w ≡ Silent → ready (hosted.kept_of us u) b.clock n w ≡ Silent) → AreUnready AnyWait (changed b i m us b.unbound_refusals)
   quiet-turn unready at free bound number same is after none quiet =
       let c = changed b i m us b.unbound_refusals in

@@ -15,7 +15,7 @@ use Rattle.kb_tenant_api.specs.Turns.{IsTurn}
 use Rattle.kb_tenant.specs.Replies.{Silent}
 use Rattle.kb_isolation_spec.specs.Tenant.{Wait, ready}
 use Rattle.kb_isolation_spec.specs.Session.{Greeting, Unshaken, Shaken, Bare, Stage, Session, Greets, BoundTo, shut_down, replied, throttled, without_wait, is_free, can, unanswerable}
-use Rattle.kb_isolation_spec.specs.Greeting.{Setup, login, logged_in, bare_login, greeting_after, shaken, greeted_by, greeted_frame, greeted_at, greeted}
+use Rattle.kb_isolation_spec.specs.Greeting.{Setup, for_tenant, login, logged_in, bare_login, greeting_after, shaken, greeted_by, greeted_frame, greeted_at, greeted}
 use Rattle.kb_isolation_spec.specs.Machine.{Happening, Line, after_turn, put, each, on, those, first_able, all_woken, turns, find_line}
 use Rattle.kb_isolation_spec.specs.Owners.{Owns, whose}
 use Rattle.kb_isolation_spec.specs.Broker.{BrokerState, IsSound, IsUnready, AreUnready, AnyWait, Grows, InRange, Mine, view_of, kept_of, refusals_of, bound_to, bound_as}
@@ -385,7 +385,7 @@ served-unready b i u m H ts turn honest q k =
 -- the turn of a bound connection, which is a call for its tenant: where nothing was refused to the tenant, it is the machine's
 pub served-bound : (scope : Scope) (b : BrokerState) (i u : ℕ) (l m : Line) (w : Option Wait) (H : Type 0) (ts : List TenantState) → IsSound b → AreStill scope b → IsAt b.lines i l → first_able b.lines ≡ Some l → can l.session ≡ true →
     l.session.stage ≡ BoundTo u w → m.number ≡ l.number → without_wait m.session.stage ≡ without_wait l.session.stage → IsTurn u H b.tenants ts → H →
-    (IsCalm (count b.tenants u) (count ts u) → (m.session ≡ after_turn b.setup (kept_of b u) b.clock l.number l.session) × (hosted.kept_of ts u ≡ put b.setup (kept_of b u) b.clock l.number l.session.unread)) →
+    (IsCalm (count b.tenants u) (count ts u) → (m.session ≡ after_turn (for_tenant b.setup u) (kept_of b u) b.clock l.number l.session) × (hosted.kept_of ts u ≡ put (for_tenant b.setup u) (kept_of b u) b.clock l.number l.session.unread)) →
     (NoneStranded b → NoneStranded (changed b i m ts b.unbound_refusals)) → Served u scope b (changed b i m ts b.unbound_refusals)
 served-bound scope b i u l m w H ts s still at able c g n same turn honest meets held =
     let p : IsBound u l.session = record { wait = w; is = g } in
@@ -407,8 +407,8 @@ served-bound scope b i u l m w H ts s still at able c g n same turn honest meets
       view = λ mine es k calm.
           let done = meets calm in
           let x = view_of u mine b in
-          let lines : set b.lines i m ≡ each (on l.number (after_turn b.setup (kept_of b u) b.clock l.number)) b.lines = set-on 0 b.last (after_turn b.setup (kept_of b u) b.clock l.number) b.lines i l m s.rising at n done.0 in
+          let lines : set b.lines i m ≡ each (on l.number (after_turn (for_tenant b.setup u) (kept_of b u) b.clock l.number)) b.lines = set-on 0 b.last (after_turn (for_tenant b.setup u) (kept_of b u) b.clock l.number) b.lines i l m s.rising at n done.0 in
           ap (λ z. turns (all_woken (record x { kept = hosted.kept_of ts u; lines = those mine z }))) lines
-          ∙ (ap (λ z. turns (all_woken (record x { kept = z; lines = those mine (each (on l.number (after_turn x.setup x.kept x.clock l.number)) b.lines) }))) done.1
+          ∙ (ap (λ z. turns (all_woken (record x { kept = z; lines = those mine (each (on l.number (after_turn (for_tenant x.setup u) x.kept x.clock l.number)) b.lines) }))) done.1
           ∙ view-served mine x b.lines l u w able g refl (shown b i u l at p mine es k));
     }

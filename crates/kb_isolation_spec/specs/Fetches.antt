@@ -12,6 +12,7 @@ use Rattle.kb_isolation_spec.specs.declared.head.Head.{Head}
 use Rattle.kb_isolation_spec.specs.Requests.{Another, request}
 use Rattle.kb_isolation_spec.specs.Tenant.{Records}
 use Rattle.kb_isolation_spec.specs.Session.{Stage, Greets, BoundTo, Session, fed, replied, without_wait}
+use Rattle.kb_isolation_spec.specs.Greeting.{for_tenant}
 use Rattle.kb_isolation_spec.specs.Machine.{Happening, Opens, Comes, Closes, Moment, Line, View, after_turn, put, woken, kept_fed, find_line, each}
 use Rattle.kb_isolation_spec.specs.Machine.{on, first_able, all_woken, turn, work, step}
 
@@ -22,13 +23,13 @@ GetsBatches world version fetch head old new =
 
 -- 1. One answer
 
--- where a fetch stands in front of a connection, of number n, that takes its turn, the connection gets such batches
-abbrev pub ServesBatches : View → ℕ → Session → Type 0
-ServesBatches w n s = (frame rest : List ℕ) (version : ℤ) (body : List ℕ) (fetch : FetchRequest)
+-- where a fetch stands in front of a tenant's connection, of number n, that takes its turn, the connection gets such batches
+abbrev pub ServesBatches : View → ℕ → ℕ → Session → Type 0
+ServesBatches w tenant n s = (frame rest : List ℕ) (version : ℤ) (body : List ℕ) (fetch : FetchRequest)
     → front s.unread ≡ Whole frame rest → (request w.setup.versions frame).asked ≡ Another FETCH version body
     → asked_fetch version body ≡ Ok fetch
     → GetsBatches w.kept.world version fetch (request w.setup.versions frame).head (record s { unread = rest })
-    (after_turn w.setup w.kept w.clock n s)
+    (after_turn (for_tenant w.setup tenant) w.kept w.clock n s)
 
 -- where a fetch waits on a connection, of number n, that is looked at, the connection gets such batches
 abbrev pub WakesWithBatches : View → ℕ → Session → Type 0
@@ -43,17 +44,17 @@ AllWakeWithBatches w = AllByRecursion (λ (l : Line). WakesWithBatches w l.numbe
 
 -- 2. A whole run
 
--- the world after the request of a bound connection, when those that wait are looked at
-abbrev pub after_request : View → Line → View
-after_request w l = record w {
-  kept = put w.setup w.kept w.clock l.number l.session.unread;
-  lines = each (on l.number (after_turn w.setup w.kept w.clock l.number)) w.lines;
+-- the world after the request of a tenant's connection, when those that wait are looked at
+abbrev pub after_request : View → ℕ → Line → View
+after_request w tenant l = record w {
+  kept = put (for_tenant w.setup tenant) w.kept w.clock l.number l.session.unread;
+  lines = each (on l.number (after_turn (for_tenant w.setup tenant) w.kept w.clock l.number)) w.lines;
 }
 
 -- a turn: its own connection, and then those that wait
 abbrev pub TurnGivesBatches : View → Line → Stage → Type 0
 TurnGivesBatches w l (Greets greeting) = ⊤
-TurnGivesBatches w l (BoundTo tenant wait) = ServesBatches w l.number l.session × AllWakeWithBatches (after_request w l)
+TurnGivesBatches w l (BoundTo tenant wait) = ServesBatches w tenant l.number l.session × AllWakeWithBatches (after_request w tenant l)
 
 abbrev pub NextGivesBatches : View → Option Line → Type 0
 NextGivesBatches w None = ⊤

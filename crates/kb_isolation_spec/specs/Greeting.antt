@@ -1,5 +1,5 @@
 -- The requests that need no tenant: ApiVersions, and the SASL greeting (Kafka protocol guide, "SASL Authentication Sequence"; RFC 4616).
-use Rattle.std.specs.Prelude.{ℕ, ℤ, pos, List, [], ◌∷◌, ◌++◌, Bool, true, false, ◌&&◌, if◌then◌else◌, Option, Some, None, codes}
+use Rattle.std.specs.Prelude.{ℕ, ℤ, pos, List, [], ◌∷◌, ◌++◌, get_or, Bool, true, false, ◌&&◌, if◌then◌else◌, Option, Some, None, codes}
 use Rattle.std.specs.Ordering.{int_eq}
 use Rattle.std.specs.Str.{bytes_eq}
 use Rattle.kb_api_group.specs.Plain.{plain}
@@ -22,11 +22,21 @@ pub record User : Type 0 where
   pub password : List ℕ
   pub tenant : ℕ
 
--- what is fixed while a broker runs: the versions that it lists, its users, and where clients are told to connect to
+-- what is fixed while a broker runs: the versions that it lists, its users, and by a tenant's place where its clients are told to connect
+-- to and what it may have; and the same where no tenant has that place
 pub record Setup : Type 0 where
   pub versions : List ApiVersion
   pub users : List User
+  pub nodes : List Node
   pub node : Node
+
+-- where a tenant's clients are told to connect to, and what it may have
+abbrev pub node_of : Setup → ℕ → Node
+node_of setup tenant = get_or setup.nodes tenant setup.node
+
+-- the same for a request of a tenant: its node is the only one
+abbrev pub for_tenant : Setup → ℕ → Setup
+for_tenant setup tenant = record setup { nodes = []; node = node_of setup tenant }
 
 -- the tenant of the first user of that name and password
 abbrev pub tenant_of : List User → List ℕ → List ℕ → Option ℕ

@@ -14,7 +14,7 @@ use Rattle.kb_isolation_spec.specs.Requests.{Asked, Versions, OtherVersions, Han
 use Rattle.kb_isolation_spec.specs.Tenant.{Records, Group, kept_after, answer, ready}
 use Rattle.kb_isolation_spec.specs.Session.{Stage, Greets, BoundTo, Session, fresh, without_wait, waiting, shut_down, overruns, fed, replied}
 use Rattle.kb_isolation_spec.specs.Session.{has_member, can, unanswerable}
-use Rattle.kb_isolation_spec.specs.Greeting.{Setup, greeted, versions_reply, handshake_reply, illegal_state}
+use Rattle.kb_isolation_spec.specs.Greeting.{Setup, for_tenant, greeted, versions_reply, handshake_reply, illegal_state}
 
 -- a connection: its number and what it has
 pub record Line : Type 0 where
@@ -135,11 +135,13 @@ first_able (l ∷ ls) = if can l.session then Some l else first_able ls
 abbrev pub all_woken : View → View
 all_woken w = record w { lines = each (λ k s. woken w.kept w.clock k s) w.lines }
 
--- a bound connection's request: what is kept changes, then all waits that became ready are answered
+-- a bound connection's request, which sees of all nodes its tenant's alone: what is kept changes, then all waits that became ready are
+-- answered
 abbrev pub turn_at : View → ℕ → List ℕ → Stage → View
 turn_at w n unread (Greets greeting) = record w { lines = each (on n (greeted w.setup greeting)) w.lines }
 turn_at w n unread (BoundTo tenant wait) =
-    all_woken (record w { kept = put w.setup w.kept w.clock n unread; lines = each (on n (after_turn w.setup w.kept w.clock n)) w.lines })
+    let setup = for_tenant w.setup tenant in
+    all_woken (record w { kept = put setup w.kept w.clock n unread; lines = each (on n (after_turn setup w.kept w.clock n)) w.lines })
 
 abbrev pub turn_of : View → Option Line → View
 turn_of w None = w

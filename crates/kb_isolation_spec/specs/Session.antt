@@ -65,7 +65,7 @@ fed piece s =
 abbrev pub throttled : Head → List ℕ → List ℕ
 throttled head body = if head.is_throttled then int32.written (pos 0) ++ body else body
 
--- a request of that head gets no reply: its body does not match its version, or the reply's size fits no INT32
+-- a request of that head gets no reply: its body does not match its version or names too much, or the reply's size fits no INT32
 abbrev pub unanswerable : Head → Shut
 unanswerable head = causes.Unanswerable head.api_key head.api_version
 

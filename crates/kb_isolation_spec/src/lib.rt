@@ -21,7 +21,7 @@ pub use head::Head;
 pub use promises::{
     alone_is_the_same, batches_are_of_each_turn, bound_for_good, fetches_end_at_their_deadline,
     fetches_get_batches_in_runs, fetches_get_whole_batches, first_event, members_wait_no_longer,
-    nothing_before_login, one_tenants_in_order, others_change_nothing,
+    nodes_are_a_tenants_own, nothing_before_login, one_tenants_in_order, others_change_nothing,
     own_events_are_of_own_connections, own_events_stay_own, owners_at_entry, room_is_kept,
     runs_go_on, strangers_are_greeted, throttle_times_stand_in_front, turns_end,
 };

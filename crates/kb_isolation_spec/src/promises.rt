@@ -19,7 +19,7 @@ ghost use Rattle.kb_tenant.specs.Replies.{Replies, framed};
 ghost use Rattle.kb_isolation_spec.specs.Versions.{base_of};
 ghost use Rattle.kb_coordinator.specs.Calls.{left};
 ghost use Rattle.kb_tenant_api.specs.Hosted.{Kept, passed};
-ghost use Rattle.kb_isolation_spec.specs.Greeting.{Setup, greeted, greeted_by, login};
+ghost use Rattle.kb_isolation_spec.specs.Greeting.{Setup, for_tenant, greeted, greeted_by, login, node_of};
 ghost use Rattle.kb_isolation_spec.specs.Machine.{View, Line, Happening, Opens, Comes, Closes, Moment, Sent, again, all_woken, each, on};
 ghost use Rattle.kb_isolation_spec.specs.Machine.{first_able, turn, turns, work, those, those_sent, find_line, after_turn, kept_fed, step};
 ghost use Rattle.kb_isolation_spec.specs.Machine.{stepped, leaving, run, by_number, woken};
@@ -134,8 +134,9 @@ pub fn batches_are_of_each_turn()
     ensures turns { (w : View) → (turns w ≡ again turn (work w.lines) w)
         × (AllTurnsGiveBatches w ↔ ((count : ℕ) → NextGivesBatches (again turn count w) (first_able (again turn count w).lines))) }
     ensures request { (w : View) (l : Line) (tenant : ℕ) (wait : Option Wait)
-        → first_able w.lines ≡ Some l → l.session.stage ≡ BoundTo tenant wait → (turn w ≡ all_woken (after_request w l))
-        × (NextGivesBatches w (first_able w.lines) ↔ (ServesBatches w l.number l.session × AllWakeWithBatches (after_request w l))) }
+        → first_able w.lines ≡ Some l → l.session.stage ≡ BoundTo tenant wait → (turn w ≡ all_woken (after_request w tenant l))
+        × (NextGivesBatches w (first_able w.lines)
+        ↔ (ServesBatches w tenant l.number l.session × AllWakeWithBatches (after_request w tenant l))) }
 {}
 
 /// A fetch that waits is answered at its deadline, whatever is kept: with what there then is of the partitions that it asks for. The
@@ -201,6 +202,13 @@ pub fn throttle_times_stand_in_front()
 pub fn bound_for_good()
     ensures { (setup : Setup) (kept : Kept) (clock n tenant : ℕ) (s : Session) → whose s.stage ≡ Some tenant
         → whose (after_turn setup kept clock n s).stage ≡ Some tenant }
+{}
+
+/// A request of a tenant sees of all nodes its tenant's alone: what is fixed is the same to it wherever this node is, whatever the nodes of
+/// other tenants are.
+pub fn nodes_are_a_tenants_own()
+    ensures { (a b : Setup) (tenant : ℕ) → a.versions ≡ b.versions → a.users ≡ b.users → node_of a tenant ≡ node_of b tenant
+        → for_tenant a tenant ≡ for_tenant b tenant }
 {}
 
 /// Turns come to an end: then no connection can take one.

@@ -14,7 +14,8 @@ pub enum Shut {
         /// The version.
         api_version: i16,
     },
-    /// The request's header or body does not match its version, or its reply's size fits no INT32.
+    /// The request's header or body does not match its version, it names more entries than its tenant may, or its reply's size fits
+    /// no INT32.
     Unanswerable {
         /// The API's key.
         api_key: i16,

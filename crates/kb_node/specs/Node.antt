@@ -1,7 +1,8 @@
 -- What a program of the broker writes.
-use Rattle.std.specs.Prelude.{◌≡◌, ◌⊎◌, ℕ, List, [], ◌∷◌, codes, Option, Result, Err}
+use Rattle.std.specs.Prelude.{◌≡◌, ◌⊎◌, ℕ, List, [], ◌∷◌, codes, Option, None, Result, Err}
 use Rattle.std.specs.Io.KnownBytes.{Keeps}
 use Rattle.kb_tenant_api.specs.Hosted.{new_tenant}
+use Rattle.kb_tenant.specs.declared.node.Node.{Node}
 use Rattle.kb_isolation_spec.specs.Broker.{BrokerState}
 use Rattle.kb_broker.specs.declared.script.ScriptFault.{ScriptFault}
 use Rattle.kb_broker.specs.Opening.{served_versions}
@@ -12,8 +13,15 @@ use Rattle.kb_node.specs.declared.fault.NodeFault.TheVariants as faults
 
 -- 1. The broker of the standard settings
 
--- the tenants a and b, which keep nothing, with a user each; clients are told localhost and port 9092; nobody is connected, and
--- no time has passed
+-- of every tenant clients are told localhost and port 9092, and there are no limits
+abbrev pub standard_node : Node
+standard_node = record {
+  host = codes "localhost";
+  port = 9092;
+  limits = record { topics = None; partitions = None; offsets = None; bytes = None; request_entries = None };
+}
+
+-- the tenants a and b, which keep nothing, with a user each; nobody is connected, and no time has passed
 abbrev pub standard_broker : BrokerState
 standard_broker = record {
   setup = record {
@@ -23,7 +31,8 @@ standard_broker = record {
       password = codes "pw2";
       tenant = 1;
     } ∷ [];
-    node = record { host = codes "localhost"; port = 9092 };
+    nodes = standard_node ∷ standard_node ∷ [];
+    node = standard_node;
   };
   tenants = new_tenant (codes "a") ∷ new_tenant (codes "b") ∷ [];
   unbound_refusals = 0;

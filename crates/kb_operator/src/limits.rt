@@ -1,17 +1,23 @@
 //! What is wrong with the limits of tenants in the settings.
 
 use crate::entries::{name_of, numbered, other_key, place_of, shown, text_reason};
+use kb_settings::is_endpoint;
 use std::alloc::{AllocError, Global};
 use toml::value::Array;
 use toml::{Table, Value};
 
 /// The keys of limits.
-const KEYS: [&str; 5] = [
+const KEYS: [&str; 10] = [
     "name",
     "connections",
     "reserved_connections",
     "groups",
     "group_bytes",
+    "topics",
+    "partitions",
+    "offsets",
+    "bytes",
+    "advertise",
 ];
 
 /// The most limits.
@@ -76,6 +82,9 @@ fn entry_reason(
     if let Some(wrong) = numbers_reason(alloc, connections, entry)? {
         return Ok(Some(wrong));
     }
+    if let Some(wrong) = address_reason(alloc, entry.get("advertise"))? {
+        return Ok(Some(wrong));
+    }
     match other_key(entry, &KEYS) {
         Some(key) => Ok(Some(format!(in alloc; "there is no such key: {key}")?)),
         None => Ok(None),
@@ -94,6 +103,10 @@ fn numbers_reason(
         ("reserved_connections", 0, most),
         ("groups", 0, 1000),
         ("group_bytes", 1_048_576, i64::MAX),
+        ("topics", 0, 1000),
+        ("partitions", 0, 64_000),
+        ("offsets", 0, 1_000_000),
+        ("bytes", 1_048_576, i64::MAX),
     ];
     for (key, low, high) in numbers {
         if let Some(wrong) = number_reason(alloc, entry.get(key), low, high)? {
@@ -101,6 +114,20 @@ fn numbers_reason(
         }
     }
     Ok(None)
+}
+
+/// What is wrong with the address that a tenant's clients are told, if anything.
+fn address_reason(alloc: Global, value: Option<&Value>) -> Result<Option<String>, AllocError> {
+    match value {
+        None => Ok(None),
+        Some(Value::String(text)) if is_endpoint(text) => Ok(None),
+        Some(value) => {
+            let shown = shown(alloc, value)?;
+            Ok(Some(format!(in alloc;
+                "advertise: {shown} is not HOST:PORT that clients can connect to, with an IPv6 address in brackets"
+            )?))
+        }
+    }
 }
 
 /// Whether a user is of the tenant of this name.

@@ -71,6 +71,7 @@ fn wanted(key: &str) -> Option<&str> {
         "strangers" => Some("a number from 1 to `connections`"),
         "idle_seconds" => Some("a number from 0 to 4294967"),
         "input_bytes" => Some("a number from 8388608 to 4294967295"),
+        "request_entries" => Some("a number from 1000 to 2097152"),
         "stock_clients" => Some("true or false"),
         "metrics" => Some("HOST:PORT of this machine, with an IPv6 address in brackets"),
         "data" => Some("a path"),

@@ -2,7 +2,7 @@
 
 use crate::address::address_text;
 use crate::fault::OperatorFault;
-use kb_settings::{Endpoint, Settings, TenantLimits, tenant_names};
+use kb_settings::{DataLimits, Endpoint, Settings, TenantLimits, tenant_names};
 use std::alloc::{AllocError, Global};
 use std::io;
 use std::io::Write;
@@ -90,6 +90,9 @@ fn write_edge<W: Write>(settings: &Settings, writer: &mut W) -> io::Result<()> {
     writeln!(writer, "request_seconds = {}", requests.request_seconds)?;
     writeln!(writer, "idle_seconds = {}", requests.idle_seconds)?;
     writeln!(writer, "input_bytes = {}", requests.input_bytes)?;
+    if let Some(entries) = settings.entries_for(settings.stock_clients) {
+        writeln!(writer, "request_entries = {entries}")?;
+    }
     writeln!(writer, "stock_clients = {}", settings.stock_clients)
 }
 
@@ -99,9 +102,39 @@ fn write_limits<W: Write>(limits: &TenantLimits, writer: &mut W) -> io::Result<(
     let reserved = limits.reserved_connections;
     let groups = limits.groups.groups;
     let bytes = limits.groups.bytes;
-    writeln!(
+    write!(
         writer,
         "tenant {:?}: connections = {most}, reserved_connections = {reserved}, groups = {groups}, group_bytes = {bytes}",
         limits.name
-    )
+    )?;
+    write_data_limits(&limits.data_limits, writer)?;
+    write_advertised(&limits.advertise, writer)?;
+    writeln!(writer)
+}
+
+/// What a tenant may have, as far as it has limits.
+fn write_data_limits<W: Write>(limits: &DataLimits, writer: &mut W) -> io::Result<()> {
+    let named = [
+        ("topics", limits.topics),
+        ("partitions", limits.partitions),
+        ("offsets", limits.offsets),
+        ("bytes", limits.bytes),
+    ];
+    for (key, limit) in named {
+        if let Some(limit) = limit {
+            write!(writer, ", {key} = {limit}")?;
+        }
+    }
+    Ok(())
+}
+
+/// What a tenant's clients are told, where it has an address of its own.
+fn write_advertised<W: Write>(advertised: &Option<Endpoint>, writer: &mut W) -> io::Result<()> {
+    match advertised {
+        Some(told) if told.host.contains(':') => {
+            write!(writer, ", advertise = \"[{}]:{}\"", told.host, told.port)
+        }
+        Some(told) => write!(writer, ", advertise = \"{}:{}\"", told.host, told.port),
+        None => Ok(()),
+    }
 }

@@ -13,6 +13,7 @@ use Rattle.kb_settings.specs.Metrics.{is_token, is_guarded}
 use Rattle.kb_settings.specs.Values.{Account, Metrics, Requests, Values}
 use Rattle.kb_settings.specs.declared.sync.Sync.{Sync}
 use Rattle.kb_settings.specs.declared.tenant_limits.GroupLimits.{GroupLimits}
+use Rattle.kb_settings.specs.declared.tenant_limits.DataLimits.{DataLimits}
 use Rattle.kb_settings.specs.declared.sync.Sync.TheVariants.{Always, Interval, Never}
 
 -- 1. What a value says: nothing where it is wrong
@@ -28,6 +29,10 @@ text_in fits value = option_and_then (fitting fits) (as_str value)
 abbrev pub number_in : ℕ → ℕ → Data → Option ℕ
 number_in low high (integer (pos n)) = if is_within low high n then Some n else None
 number_in low high _ = None
+
+-- a limit that may be missing, both ends included
+abbrev pub limit_in : ℕ → ℕ → Data → Option (Option ℕ)
+limit_in low high value = option_map Some (number_in low high value)
 
 -- a folder: any text
 abbrev pub folder_in : Data → Option (Option (List ℕ))
@@ -124,13 +129,22 @@ said_or standard says (Some value) = says value
 
 abbrev pub tenant_keys : List (List ℕ)
 tenant_keys =
-    codes "name" ∷ codes "connections" ∷ codes "reserved_connections" ∷ codes "groups" ∷ codes "group_bytes" ∷ []
+    codes "name" ∷ codes "connections" ∷ codes "reserved_connections" ∷ codes "groups" ∷ codes "group_bytes"
+    ∷ codes "topics" ∷ codes "partitions" ∷ codes "offsets" ∷ codes "bytes" ∷ codes "advertise" ∷ []
 
 -- limits of this name and these numbers, where all are right, and there is no other key
-abbrev pub limits_with : Option (List ℕ) → Option ℕ → Option ℕ → Option GroupLimits → Option (List ℕ) → Option Limits
-limits_with (Some name) (Some connections) (Some reserved) (Some groups) None =
-    Some (record { name = name; connections = connections; reserved_connections = reserved; groups = groups })
-limits_with name connections reserved groups other = None
+abbrev pub limits_with : Option (List ℕ) → Option ℕ → Option ℕ → Option GroupLimits → Option DataLimits → Option (Option (List ℕ × ℕ))
+    → Option (List ℕ) → Option Limits
+limits_with (Some name) (Some connections) (Some reserved) (Some groups) (Some data_limits) (Some advertise) None =
+    Some (record {
+      name = name;
+      connections = connections;
+      reserved_connections = reserved;
+      groups = groups;
+      data_limits = data_limits;
+      advertise = advertise;
+    })
+limits_with name connections reserved groups data_limits advertise other = None
 
 -- how many are reserved: none where it is not said, and no more than there may be at most
 abbrev pub reserved_of : Members → Option ℕ → Option ℕ
@@ -152,11 +166,29 @@ groups_of entry =
     groups_with (said_or standard_groups.groups (number_in 0 1000) (get_member (codes "groups") entry))
     (said_or standard_groups.bytes (number_in 1048576 9223372036854775807) (get_member (codes "group_bytes") entry))
 
+abbrev pub data_with : Option (Option ℕ) → Option (Option ℕ) → Option (Option ℕ) → Option (Option ℕ) → Option DataLimits
+data_with (Some topics) (Some partitions) (Some offsets) (Some bytes) =
+    Some (record { topics = topics; partitions = partitions; offsets = offsets; bytes = bytes })
+data_with topics partitions offsets bytes = None
+
+-- what an entry's tenant may have
+abbrev pub data_of : Members → Option DataLimits
+data_of entry =
+    data_with (said_or None (limit_in 0 1000) (get_member (codes "topics") entry))
+    (said_or None (limit_in 0 64000) (get_member (codes "partitions") entry))
+    (said_or None (limit_in 0 1000000) (get_member (codes "offsets") entry))
+    (said_or None (limit_in 1048576 9223372036854775807) (get_member (codes "bytes") entry))
+
+-- the host and the port that an entry's tenant has of its own, where it has some
+abbrev pub advertise_of : Members → Option (Option (List ℕ × ℕ))
+advertise_of entry = said_or None advertise_in (get_member (codes "advertise") entry)
+
 -- an entry of `tenant`
 abbrev pub entry_limits : ℕ → Data → Option Limits
 entry_limits standard (table entry) =
     limits_with (text_of is_tenant (codes "name") entry) (connections_of standard entry)
-    (reserved_of entry (connections_of standard entry)) (groups_of entry) (other_key tenant_keys entry)
+    (reserved_of entry (connections_of standard entry)) (groups_of entry) (data_of entry) (advertise_of entry)
+    (other_key tenant_keys entry)
 entry_limits standard _ = None
 
 abbrev pub limits_before : Option Limits → Option (List Limits) → Option (List Limits)
@@ -183,8 +215,8 @@ abbrev pub settings_keys : List (List ℕ)
 settings_keys =
     codes "host" ∷ codes "port" ∷ codes "advertise" ∷ codes "segment_bytes" ∷ codes "cache_batches" ∷ codes "cache_bytes"
     ∷ codes "connections" ∷ codes "output_bytes" ∷ codes "sync" ∷ codes "sync_ms" ∷ codes "login_seconds" ∷ codes "reply_seconds"
-    ∷ codes "strangers" ∷ codes "request_seconds" ∷ codes "idle_seconds" ∷ codes "input_bytes" ∷ codes "stock_clients"
-    ∷ codes "metrics" ∷ codes "metrics_token" ∷ codes "data" ∷ codes "user" ∷ codes "tenant" ∷ []
+    ∷ codes "strangers" ∷ codes "request_seconds" ∷ codes "idle_seconds" ∷ codes "input_bytes" ∷ codes "request_entries"
+    ∷ codes "stock_clients" ∷ codes "metrics" ∷ codes "metrics_token" ∷ codes "data" ∷ codes "user" ∷ codes "tenant" ∷ []
 
 -- goes on with what is said at a key, or names the key where it is wrong
 abbrev pub go_on : {A B : Type 0} → List ℕ → Option A → (A → Result B (List ℕ)) → Result B (List ℕ)
@@ -234,7 +266,13 @@ requests_in document =
     read_key document (codes "request_seconds") 30 (number_in 1 3600) λ request_seconds.
     read_key document (codes "idle_seconds") 600 (number_in 0 4294967) λ idle_seconds.
     read_key document (codes "input_bytes") 268435456 (number_in 8388608 4294967295) λ input_bytes.
-    Ok (record { request_seconds = request_seconds; idle_seconds = idle_seconds; input_bytes = input_bytes })
+    read_key document (codes "request_entries") None (limit_in 1000 2097152) λ request_entries.
+    Ok (record {
+      request_seconds = request_seconds;
+      idle_seconds = idle_seconds;
+      input_bytes = input_bytes;
+      request_entries = request_entries;
+    })
 
 -- a token, where one is said
 abbrev pub token_in : Data → Option (Option (List ℕ))

@@ -1,6 +1,7 @@
 pub mod Names
 pub mod Settings
 pub mod Address
+pub mod Endpoint
 pub mod Limits
 pub mod Metrics
 pub mod Values

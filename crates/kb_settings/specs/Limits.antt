@@ -1,21 +1,30 @@
--- The limits of tenants' connections and groups.
-use Rattle.std.specs.Prelude.{ℕ, List, map, length, Bool, not, ◌&&◌, nat_lt, string_bytes}
+-- The limits of tenants: their connections, their groups and their data; and what their clients are told.
+use Rattle.std.specs.Prelude.{ℕ, List, map, length, Bool, not, ◌&&◌, nat_lt, Option, None, option_map, string_bytes}
 use Rattle.std.specs.List.{list_all, list_any, sum_by}
 use Rattle.std.specs.Str.{bytes_eq}
 use Rattle.kb_settings.specs.Settings.{is_within, are_different}
+use Rattle.kb_settings.specs.Endpoint.{host_and_port}
 use Rattle.kb_settings.specs.declared.tenant_limits.GroupLimits.{GroupLimits}
+use Rattle.kb_settings.specs.declared.tenant_limits.DataLimits.{DataLimits}
 use Rattle.kb_settings.specs.declared.tenant_limits.TenantLimits.{TenantLimits}
 
 -- what a tenant's groups may take, where it is not said
 abbrev pub standard_groups : GroupLimits
 standard_groups = record { groups = 1000; bytes = 67108864 }
 
--- a tenant's connections: how many at most, and how many are kept free for it; and what its groups may take
+-- what a tenant may have, where it is not said: there is no limit
+abbrev pub no_limits : DataLimits
+no_limits = record { topics = None; partitions = None; offsets = None; bytes = None }
+
+-- a tenant's connections: how many at most, and how many are kept free for it; what its groups may take, and what it may have; and
+-- the host and the port that its clients are told, where they are others than the broker's
 pub record Limits : Type 0 where
   pub name : List ℕ
   pub connections : ℕ
   pub reserved_connections : ℕ
   pub groups : GroupLimits
+  pub data_limits : DataLimits
+  pub advertise : Option (List ℕ × ℕ)
 
 abbrev pub limits_in : TenantLimits → Limits
 limits_in t = record {
@@ -23,6 +32,8 @@ limits_in t = record {
   connections = t.connections;
   reserved_connections = t.reserved_connections;
   groups = t.groups;
+  data_limits = t.data_limits;
+  advertise = option_map host_and_port t.advertise;
 }
 
 -- limits of a tenant that a user names, to no more than all connections

@@ -1,10 +1,11 @@
 -- The settings as bytes and numbers, and the standard ones.
-use Rattle.std.specs.Prelude.{ℕ, List, [], ◌∷◌, ◌++◌, map, Bool, false, Option, None, Some, option_map, unwrap_or, string_bytes, codes}
+use Rattle.std.specs.Prelude.{ℕ, List, [], ◌∷◌, ◌++◌, map, Bool, false, if◌then◌else◌}
+use Rattle.std.specs.Prelude.{Option, None, Some, option_map, unwrap_or, string_bytes, codes}
 use Rattle.std.specs.List.{find}
 use Rattle.std.specs.Str.{bytes_eq}
-use Rattle.kb_settings.specs.Limits.{Limits, limits_in, standard_groups}
+use Rattle.kb_settings.specs.Endpoint.{host_and_port}
+use Rattle.kb_settings.specs.Limits.{Limits, limits_in, standard_groups, no_limits}
 use Rattle.kb_settings.specs.declared.settings.User.{User}
-use Rattle.kb_settings.specs.declared.endpoint.Endpoint.{Endpoint}
 use Rattle.kb_settings.specs.declared.settings.Settings.{Settings}
 use Rattle.kb_settings.specs.declared.requests.RequestLimits.{RequestLimits}
 use Rattle.kb_settings.specs.declared.metrics.MetricsSettings.{MetricsSettings}
@@ -12,17 +13,19 @@ use Rattle.kb_settings.specs.declared.sync.Sync.{Sync}
 use Rattle.kb_settings.specs.declared.sync.Sync.TheVariants.{Interval}
 use Rattle.kb_settings.specs.declared.tenant_limits.ConnectionLimits.{ConnectionLimits}
 use Rattle.kb_settings.specs.declared.tenant_limits.GroupLimits.{GroupLimits}
+use Rattle.kb_settings.specs.declared.tenant_limits.DataLimits.{DataLimits}
 
 pub record Account : Type 0 where
   pub name : List ℕ
   pub password : List ℕ
   pub tenant : List ℕ
 
--- by when a request is whole and a socket is used, and the bytes of all begun requests
+-- by when a request is whole and a socket is used, the bytes of all begun requests, and how many entries one may name, where it is said
 pub record Requests : Type 0 where
   pub request_seconds : ℕ
   pub idle_seconds : ℕ
   pub input_bytes : ℕ
+  pub request_entries : Option ℕ
 
 -- where metrics are served, and the token that who asks has to name
 pub record Metrics : Type 0 where
@@ -53,11 +56,13 @@ pub record Values : Type 0 where
 abbrev pub account_of : User → Account
 account_of u = record { name = string_bytes u.name; password = string_bytes u.password; tenant = string_bytes u.tenant }
 
-abbrev pub host_and_port : Endpoint → List ℕ × ℕ
-host_and_port e = (string_bytes e.host, e.port)
-
 abbrev pub requests_of : RequestLimits → Requests
-requests_of r = record { request_seconds = r.request_seconds; idle_seconds = r.idle_seconds; input_bytes = r.input_bytes }
+requests_of r = record {
+  request_seconds = r.request_seconds;
+  idle_seconds = r.idle_seconds;
+  input_bytes = r.input_bytes;
+  request_entries = r.request_entries;
+}
 
 abbrev pub metrics_of : MetricsSettings → Metrics
 metrics_of m = record { address = option_map host_and_port m.address; token = option_map string_bytes m.token }
@@ -105,6 +110,30 @@ groups_or (Some t) = t.groups
 abbrev pub groups_of : List ℕ → Values → GroupLimits
 groups_of name v = groups_or (find (λ t. bytes_eq t.name name) v.tenants)
 
+abbrev pub data_or : Option Limits → DataLimits
+data_or None = no_limits
+data_or (Some t) = t.data_limits
+
+-- what a tenant may have: no limit, where no limits name it
+abbrev pub data_of : List ℕ → Values → DataLimits
+data_of name v = data_or (find (λ t. bytes_eq t.name name) v.tenants)
+
+abbrev pub told_or : List ℕ × ℕ → Option Limits → List ℕ × ℕ
+told_or broker None = broker
+told_or broker (Some t) = unwrap_or t.advertise broker
+
+-- the host and the port that a tenant's clients are told: the broker's, where the tenant has none of its own
+abbrev pub told_to : List ℕ → Values → List ℕ × ℕ
+told_to name v = told_or (told v) (find (λ t. bytes_eq t.name name) v.tenants)
+
+abbrev pub entries_or : Bool → Option ℕ → Option ℕ
+entries_or stock_clients (Some entries) = Some entries
+entries_or stock_clients None = if stock_clients then Some 65536 else None
+
+-- how many entries a request may name: where it is not said, 65,536 where stock clients are served, and else any number
+abbrev pub entries_for : Bool → Values → Option ℕ
+entries_for stock_clients v = entries_or stock_clients v.requests.request_entries
+
 abbrev pub ann : Account
 ann = record { name = codes "ann"; password = codes "pw1"; tenant = codes "a" }
 
@@ -112,7 +141,7 @@ abbrev pub bob : Account
 bob = record { name = codes "bob"; password = codes "pw2"; tenant = codes "b" }
 
 abbrev pub standard_requests : Requests
-standard_requests = record { request_seconds = 30; idle_seconds = 600; input_bytes = 268435456 }
+standard_requests = record { request_seconds = 30; idle_seconds = 600; input_bytes = 268435456; request_entries = None }
 
 -- the standard settings
 abbrev pub standard : Values

@@ -1,6 +1,6 @@
 //! A host, and `HOST:PORT`, as texts.
 
-ghost use Rattle.std.specs.Prelude.{◌≡◌, ◌≤◌, ◌<◌, option_map, option_and_then, IfSome, IsTrue, false};
+ghost use Rattle.std.specs.Prelude.{◌≡◌, ◌≤◌, ◌<◌, is_some, option_map, option_and_then, IfSome, IsTrue, false};
 ghost use Rattle.std.specs.List.{list_all};
 ghost use Rattle.kb_settings.specs.Address.{behind, around, is_wildcard, is_listened, bare, is_digit, are_digits, port_in, bracketed, parts, endpoint_in};
 ghost use Rattle.kb_settings.specs.Metrics.{is_dotted, is_guarded, is_in_127, is_loopback};
@@ -80,6 +80,13 @@ pub fn endpoint(text: &str) -> Option<(&str, u16)>
     } else {
         None
     }
+}
+
+/// Whether a text is `HOST:PORT`, where clients can be told the host: without brackets it has no colon, and the port is from 1.
+pub fn is_endpoint(text: &str) -> bool
+    ensures { result ≡ is_some (endpoint_in text.now) }
+{
+    endpoint(text).is_some()
 }
 
 /// A host and what stands behind its colon.

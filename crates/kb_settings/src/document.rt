@@ -9,7 +9,7 @@ ghost use Rattle.kb_settings.specs.Settings.{is_credential, is_tenant};
 ghost use Rattle.kb_settings.specs.Address.{is_listened, endpoint_in};
 ghost use Rattle.kb_settings.specs.Metrics.{is_token};
 ghost use Rattle.kb_settings.specs.Document.{text_in, number_in, host_in, is_told, advertise_in, folder_in, sync_in, said_or, text_of};
-ghost use Rattle.kb_settings.specs.Document.{token_in};
+ghost use Rattle.kb_settings.specs.Document.{limit_in, token_in};
 ghost use Rattle.kb_settings.specs.Document.{other_key};
 ghost use Rattle.kb_settings.specs.declared.sync.Sync.TheVariants.{Interval};
 
@@ -125,6 +125,18 @@ fn size_in(value: &Value, low: u64, high: u64) -> Option<u64>
     match u64::try_from(*integer) {
         Ok(bytes) if low <= bytes && bytes <= high => Some(bytes),
         _ => None,
+    }
+}
+
+/// A limit at a key, both ends included, where it is there.
+pub fn limit(document: &Table, key: &str, low: u64, high: u64) -> Option<Option<u64>>
+    ensures says { result ≡ said_or None (limit_in low high) (get_member key.now (table_view document.now)) }
+    ensures low { IfSome result (λ limit. IfSome limit (λ n. low ≤ n)) }
+    ensures high { IfSome result (λ limit. IfSome limit (λ n. n ≤ high)) }
+{
+    match at(document, key) {
+        None => Some(None),
+        Some(value) => Some(Some(size_in(value, low, high)?)),
     }
 }
 

@@ -17,7 +17,7 @@ pub struct Endpoint {
 }
 
 impl Endpoint {
-    ghost use Rattle.kb_settings.specs.Values.{host_and_port};
+    ghost use Rattle.kb_settings.specs.Endpoint.{host_and_port};
 
     /// A copy of a host and a port, where there are some.
     pub fn copied(alloc: Global, told: Option<(&str, u16)>) -> Result<Option<Endpoint>, AllocError>

@@ -20,6 +20,7 @@ mod tenant_limits;
 mod tenants;
 mod users;
 
+pub use address::is_endpoint;
 pub use endpoint::Endpoint;
 pub use fault::SettingsFault;
 pub use metrics::MetricsSettings;
@@ -27,4 +28,4 @@ pub use names::tenant_names;
 pub use requests::RequestLimits;
 pub use settings::{Settings, User};
 pub use sync::Sync;
-pub use tenant_limits::{ConnectionLimits, GroupLimits, TenantLimits};
+pub use tenant_limits::{ConnectionLimits, DataLimits, GroupLimits, TenantLimits};

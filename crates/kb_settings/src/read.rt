@@ -3,14 +3,15 @@
 ghost use Rattle.std.specs.Prelude.{◌≡◌, Some, None, Ok, Err, IfOk, IfErr, IfSome, IsTrue, ◌≤◌, false, is_some, option_map, string_bytes};
 ghost use Rattle.toml.specs.Data.{get_member};
 ghost use Rattle.toml.specs.View.{table_view};
-ghost use Rattle.kb_settings.specs.Values.{values_of, requests_of, metrics_of, host_and_port};
+ghost use Rattle.kb_settings.specs.Endpoint.{host_and_port};
+ghost use Rattle.kb_settings.specs.Values.{values_of, requests_of, metrics_of};
 ghost use Rattle.kb_settings.specs.Address.{is_listened};
 ghost use Rattle.kb_settings.specs.Document.{said_or, number_in, cache_in, room_in, syncs_in, seconds_in};
 ghost use Rattle.kb_settings.specs.Document.{requests_in, metrics_in, settings_in};
 ghost use Rattle.kb_settings.specs.Reading.{settings_of, IsFaultOf, IsFaultAt, IsFaultIn};
 
 use crate::address::is_guarded;
-use crate::document::{address, flag, folder, host, number, other_key, size, sync, token};
+use crate::document::{address, flag, folder, host, limit, number, other_key, size, sync, token};
 use crate::endpoint::Endpoint;
 use crate::fault::SettingsFault;
 use crate::metrics::MetricsSettings;
@@ -26,7 +27,7 @@ use toml::Table;
 const MIB: u32 = 1_048_576;
 
 /// The keys that there are.
-const KEYS: [&str; 22] = [
+const KEYS: [&str; 23] = [
     "host",
     "port",
     "advertise",
@@ -43,6 +44,7 @@ const KEYS: [&str; 22] = [
     "request_seconds",
     "idle_seconds",
     "input_bytes",
+    "request_entries",
     "stock_clients",
     "metrics",
     "metrics_token",
@@ -54,11 +56,12 @@ const KEYS: [&str; 22] = [
 impl Settings {
     /// The settings of a TOML text: `host`, `port`, `advertise`, `segment_bytes`, `cache_batches`, `cache_bytes`, `connections`,
     /// `output_bytes`, `sync`, `sync_ms`, `login_seconds`, `reply_seconds`, `strangers`, `request_seconds`, `idle_seconds`,
-    /// `input_bytes`, `stock_clients`, `metrics`, `metrics_token` and `data`, each as in [`Settings::standard`] where it is missing,
-    /// but `strangers` as `connections`. Then an array of tables `user` with `name`, `password` and `tenant`, and one of tables
-    /// `tenant` with `name`, `connections` and `reserved_connections`, which may be missing, both but the name. `advertise` and
-    /// `metrics` are `HOST:PORT`, where an IPv6 address stands in brackets; around `host` they may be left out. `metrics_token` may be
-    /// missing where `metrics` is this machine alone.
+    /// `input_bytes`, `request_entries`, `stock_clients`, `metrics`, `metrics_token` and `data`, each as in [`Settings::standard`]
+    /// where it is missing, but `strangers` as `connections`. Then an array of tables `user` with `name`, `password` and `tenant`,
+    /// and one of tables `tenant` with `name`, `connections`, `reserved_connections`, `groups`, `group_bytes`, `topics`,
+    /// `partitions`, `offsets`, `bytes` and `advertise`, which may be missing, all but the name. `advertise` and `metrics` are
+    /// `HOST:PORT`, where an IPv6 address stands in brackets; around `host` they may be left out. `metrics_token` may be missing
+    /// where `metrics` is this machine alone.
     ///
     /// `Text` comes only where the text is no TOML document. `Field` names the first key that is wrong, in this order; keys
     /// that there are not come last, in byte order. Anything wrong with a user, or with the users together, is wrong with
@@ -186,6 +189,11 @@ fn requests(alloc: Global, document: &Table) -> Result<RequestLimits, SettingsFa
         request_seconds: limited(alloc, document, "request_seconds", 30, 1, 3600)?,
         idle_seconds: limited(alloc, document, "idle_seconds", 600, 0, 4_294_967)?,
         input_bytes: limited(alloc, document, "input_bytes", 256 * MIB, 8 * MIB, u32::MAX)?,
+        request_entries: said(
+            alloc,
+            "request_entries",
+            limit(document, "request_entries", 1000, 2_097_152),
+        )?,
     })
 }
 

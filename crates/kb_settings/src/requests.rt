@@ -1,8 +1,9 @@
-//! What begun requests and idle sockets may take.
+//! What begun requests and idle sockets may take, and what a request may name.
 
-ghost use Rattle.std.specs.Prelude.{◌≤◌};
+ghost use Rattle.std.specs.Prelude.{◌≤◌, IfSome};
+ghost use Rattle.std.proofs.Props.{props};
 
-/// By when a request is whole and a socket is used, and how many bytes begun requests take.
+/// By when a request is whole and a socket is used, how many bytes begun requests take, and how many entries one names.
 #[derive(Clone, Copy, Debug, PartialEq, Eq)]
 pub struct RequestLimits {
     /// By how many seconds after its first byte a request is whole: 1 to 3,600.
@@ -11,7 +12,10 @@ pub struct RequestLimits {
     pub idle_seconds: u32,
     /// How many bytes the begun requests of all connections take at most: 8,388,608 to 4,294,967,295.
     pub input_bytes: u32,
+    /// How many entries a request may name, where it is said: 1,000 to 2,097,152.
+    pub request_entries: Option<u64>,
     pub ghost request_seconds_fit: { (1 ≤ request_seconds) × (request_seconds ≤ 3600) },
     pub ghost idle_seconds_fit: { idle_seconds ≤ 4294967 },
     pub ghost input_bytes_fit: { 8388608 ≤ input_bytes },
+    pub ghost request_entries_fit: { IfSome request_entries (λ n. (1000 ≤ n) × (n ≤ 2097152)) } by { Prim.hlevel props },
 }

@@ -10,7 +10,7 @@ use crate::endpoint::Endpoint;
 use crate::metrics::MetricsSettings;
 use crate::requests::RequestLimits;
 use crate::sync::Sync;
-use crate::tenant_limits::{ConnectionLimits, GroupLimits, TenantLimits};
+use crate::tenant_limits::{ConnectionLimits, DataLimits, GroupLimits, TenantLimits};
 use crate::tenants::limits_of;
 use std::alloc::{AllocError, Global};
 
@@ -76,7 +76,7 @@ pub struct Settings {
     pub reply_seconds: u32,
     /// How many sockets there are at most at a time before their login: 1 to `connections`.
     pub strangers: u32,
-    /// By when a request is whole and a socket is used, and how many bytes begun requests take.
+    /// By when a request is whole and a socket is used, how many bytes begun requests take, and how many entries one names.
     pub requests: RequestLimits,
     /// Whether a client that speaks another version of the protocol may be served, as with the flag `--stock-clients`.
     pub stock_clients: bool,
@@ -108,7 +108,8 @@ pub struct Settings {
 
 impl Settings {
     ghost use Rattle.std.specs.Prelude.{Some, Ok};
-    ghost use Rattle.kb_settings.specs.Values.{values_of, told, limits_of, groups_of, standard, standard_text};
+    ghost use Rattle.kb_settings.specs.Values.{values_of, told, limits_of, groups_of, data_of, told_to, entries_for};
+    ghost use Rattle.kb_settings.specs.Values.{standard, standard_text};
     ghost use Rattle.kb_settings.specs.Reading.{settings_of};
 
     /// The settings of a text that names two users alone: `ann` with password `pw1` of tenant `a`, and `bob` with password
@@ -142,6 +143,7 @@ impl Settings {
                 request_seconds: 30,
                 idle_seconds: 600,
                 input_bytes: 268_435_456,
+                request_entries: None,
             },
             stock_clients: false,
             metrics: MetricsSettings {
@@ -194,6 +196,42 @@ impl Settings {
         match limits_of(&self.tenants, tenant) {
             Some(limits) => limits.groups,
             None => GroupLimits::standard(),
+        }
+    }
+
+    /// What the tenant of this name may have: [`DataLimits::none`], where no limits name it.
+    pub fn data_of(&self, tenant: &str) -> DataLimits
+        ensures { result ≡ data_of tenant.now (values_of self.now) }
+    {
+        match limits_of(&self.tenants, tenant) {
+            Some(limits) => limits.data_limits,
+            None => DataLimits::none(),
+        }
+    }
+
+    /// The host and the port that clients of the tenant of this name are told: its own, or else those of [`Settings::told`].
+    pub fn told_to(&self, tenant: &str) -> (&str, u16)
+        ensures says { (result.0.now, result.1) ≡ told_to tenant.now (values_of self.now) }
+        ensures host { IsTrue (is_listened false result.0.now) }
+        ensures port { 1 ≤ result.1 }
+    {
+        let Some(limits) = limits_of(&self.tenants, tenant) else {
+            return self.told();
+        };
+        match &limits.advertise {
+            Some(own) => (own.host.as_str(), own.port),
+            None => self.told(),
+        }
+    }
+
+    /// How many entries a request may name. Where it is not said it is 65,536 where stock clients are served, and else any number.
+    pub fn entries_for(&self, stock_clients: bool) -> Option<u64>
+        ensures { result ≡ entries_for stock_clients (values_of self.now) }
+    {
+        match self.requests.request_entries {
+            Some(entries) => Some(entries),
+            None if stock_clients => Some(65_536),
+            None => None,
         }
     }
 }

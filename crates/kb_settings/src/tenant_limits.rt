@@ -1,8 +1,10 @@
-//! How many connections a tenant may have, and what its groups may take.
+//! How many connections a tenant may have, what its groups may take, what it may have, and what its clients are told.
 
-ghost use Rattle.std.specs.Prelude.{◌≡◌, ◌≤◌, IfOk, IsTrue, string_bytes};
+ghost use Rattle.std.specs.Prelude.{◌≡◌, ◌≤◌, IfOk, IfSome, IsTrue, false, string_bytes};
+ghost use Rattle.std.proofs.Props.{props};
 ghost use Rattle.kb_settings.specs.Settings.{is_tenant};
 
+use crate::endpoint::Endpoint;
 use std::alloc::{AllocError, Global};
 
 /// What a tenant's groups may take.
@@ -28,7 +30,36 @@ impl GroupLimits {
     }
 }
 
-/// What the settings say of a tenant's connections and groups.
+/// What a tenant may have. None is no limit.
+#[derive(Clone, Copy, Debug, PartialEq, Eq)]
+pub struct DataLimits {
+    /// At most so many topics: up to 1,000.
+    pub topics: Option<u64>,
+    /// At most so many partitions of all its topics: up to 64,000.
+    pub partitions: Option<u64>,
+    /// At most so many committed offsets: up to 1,000,000.
+    pub offsets: Option<u64>,
+    /// So many bytes of its logs: 1,048,576 to 9,223,372,036,854,775,807.
+    pub bytes: Option<u64>,
+}
+
+impl DataLimits {
+    ghost use Rattle.kb_settings.specs.Limits.{no_limits};
+
+    /// Those of a tenant that no limits name: none.
+    pub fn none() -> DataLimits
+        ensures { result ≡ no_limits }
+    {
+        DataLimits {
+            topics: None,
+            partitions: None,
+            offsets: None,
+            bytes: None,
+        }
+    }
+}
+
+/// What the settings say of a tenant.
 #[derive(Drop)]
 pub struct TenantLimits {
     /// The tenant's name: 1 to 64 of the characters `a-z A-Z 0-9 . _ -`. A user names it, and no other limits do.
@@ -39,39 +70,19 @@ pub struct TenantLimits {
     pub reserved_connections: u32,
     /// What its groups may take.
     pub groups: GroupLimits,
+    /// What it may have.
+    pub data_limits: DataLimits,
+    /// What its clients are told to connect to, where it is another host or port than the broker's.
+    pub advertise: Option<Endpoint>,
     pub ghost name_fits: { IsTrue (is_tenant (string_bytes name)) },
     pub ghost connections_fit: { (1 ≤ connections) × (connections ≤ 1000000) },
     pub ghost reserved_fit: { reserved_connections ≤ connections },
     pub ghost groups_fit: { groups.groups ≤ 1000 },
     pub ghost group_bytes_fit: { (1048576 ≤ groups.bytes) × (groups.bytes ≤ 9223372036854775807) },
-}
-
-impl TenantLimits {
-    /// Limits of this name and these numbers.
-    pub fn new(
-        alloc: Global,
-        name: &str,
-        connections: u32,
-        reserved_connections: u32,
-        groups: GroupLimits,
-    ) -> Result<TenantLimits, AllocError>
-        requires name { IsTrue (is_tenant name.now) }
-        requires connections { (1 ≤ connections) × (connections ≤ 1000000) }
-        requires reserved { reserved_connections ≤ connections }
-        requires groups { groups.groups ≤ 1000 }
-        requires group_bytes { (1048576 ≤ groups.bytes) × (groups.bytes ≤ 9223372036854775807) }
-        ensures name { IfOk result (λ limits. string_bytes limits.name ≡ name.now) }
-        ensures connections { IfOk result (λ limits. limits.connections ≡ connections) }
-        ensures reserved { IfOk result (λ limits. limits.reserved_connections ≡ reserved_connections) }
-        ensures groups { IfOk result (λ limits. limits.groups ≡ groups) }
-    {
-        Ok(TenantLimits {
-            name: String::from_str(alloc, name)?,
-            connections,
-            reserved_connections,
-            groups,
-        })
-    }
+    pub ghost topics_fit: { IfSome data_limits.topics (λ n. n ≤ 1000) } by { Prim.hlevel props },
+    pub ghost partitions_fit: { IfSome data_limits.partitions (λ n. n ≤ 64000) } by { Prim.hlevel props },
+    pub ghost offsets_fit: { IfSome data_limits.offsets (λ n. n ≤ 1000000) } by { Prim.hlevel props },
+    pub ghost bytes_fit: { IfSome data_limits.bytes (λ n. (1048576 ≤ n) × (n ≤ 9223372036854775807)) } by { Prim.hlevel props },
 }
 
 /// How many connections a tenant may have.

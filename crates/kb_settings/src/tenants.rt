@@ -1,4 +1,4 @@
-//! What a settings document says of the tenants' connections and groups.
+//! What a settings document says of the tenants.
 
 ghost use Rattle.std.specs.Prelude.{◌≡◌, ◌≤◌, ◌<◌, [], IfOk, IfSome, IsTrue, map, nat_lt, option_map, option_and_then, codes, string_bytes};
 ghost use Rattle.std.specs.List.{find, list_all, list_any, sum_by};
@@ -8,22 +8,28 @@ ghost use Rattle.toml.specs.View.{view, items_view, table_view};
 ghost use Rattle.kb_settings.specs.Settings.{are_different};
 ghost use Rattle.kb_settings.specs.Limits.{limits_in, is_allowed, are_limits};
 ghost use Rattle.kb_settings.specs.Values.{account_of};
-ghost use Rattle.kb_settings.specs.Document.{said_or, entry_limits, groups_of, all_limits, checked_limits, tenants_in};
+ghost use Rattle.kb_settings.specs.Document.{said_or, entry_limits, groups_of, data_of, all_limits, checked_limits, tenants_in};
 
-use crate::document::{at, number, other_key, size, tenant};
+use crate::document::{address, at, limit, number, other_key, size, tenant};
+use crate::endpoint::Endpoint;
 use crate::names::limited_names;
 use crate::settings::User;
-use crate::tenant_limits::{GroupLimits, TenantLimits};
+use crate::tenant_limits::{DataLimits, GroupLimits, TenantLimits};
 use std::alloc::{AllocError, Global};
 use toml::{Table, Value};
 
 /// The keys of an entry of `tenant`.
-const KEYS: [&str; 5] = [
+const KEYS: [&str; 10] = [
     "name",
     "connections",
     "reserved_connections",
     "groups",
     "group_bytes",
+    "topics",
+    "partitions",
+    "offsets",
+    "bytes",
+    "advertise",
 ];
 
 /// The limits that are of the tenant of this name, where there are some.
@@ -125,10 +131,23 @@ fn limits_in(
     let Some(groups) = groups_of(entry) else {
         return Ok(None);
     };
+    let Some(data_limits) = data_of(entry) else {
+        return Ok(None);
+    };
+    let Some(advertise) = address(entry, "advertise") else {
+        return Ok(None);
+    };
     if other_key(entry, &KEYS).is_some() {
         return Ok(None);
     }
-    Ok(Some(TenantLimits::new(alloc, name, most, reserved, groups)?))
+    Ok(Some(TenantLimits {
+        name: String::from_str(alloc, name)?,
+        connections: most,
+        reserved_connections: reserved,
+        groups,
+        data_limits,
+        advertise: Endpoint::copied(alloc, advertise)?,
+    }))
 }
 
 /// What the groups of an entry's tenant may take, unless a number is wrong.
@@ -146,6 +165,22 @@ fn groups_of(entry: &Table) -> Option<GroupLimits>
         9_223_372_036_854_775_807,
     )?;
     Some(GroupLimits { groups, bytes })
+}
+
+/// What an entry's tenant may have, unless a number is wrong.
+fn data_of(entry: &Table) -> Option<DataLimits>
+    ensures says { result ≡ data_of (table_view entry.now) }
+    ensures topics { IfSome result (λ limits. IfSome limits.topics (λ n. n ≤ 1000)) }
+    ensures partitions { IfSome result (λ limits. IfSome limits.partitions (λ n. n ≤ 64000)) }
+    ensures offsets { IfSome result (λ limits. IfSome limits.offsets (λ n. n ≤ 1000000)) }
+    ensures bytes { IfSome result (λ limits. IfSome limits.bytes (λ n. (1048576 ≤ n) × (n ≤ 9223372036854775807))) }
+{
+    Some(DataLimits {
+        topics: limit(entry, "topics", 0, 1000)?,
+        partitions: limit(entry, "partitions", 0, 64_000)?,
+        offsets: limit(entry, "offsets", 0, 1_000_000)?,
+        bytes: limit(entry, "bytes", 1_048_576, 9_223_372_036_854_775_807)?,
+    })
 }
 
 /// Whether these are limits of at most 256 tenants, each once, that users name, within so many connections, with fewer of them

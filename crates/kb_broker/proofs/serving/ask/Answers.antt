@@ -1,3 +1,4 @@
+use Rattle.kb_isolation_spec.specs.Greeting.{node_of}
 use Rattle.std.proofs.Common.{subst, sym, ◌∙◌}
 use Rattle.kb_tenant_api.specs.Hosted.{kept_of}
 use Rattle.kb_tenant_api.specs.Serve.{IsOutcome, served}
@@ -15,7 +16,7 @@ returns-then-released-clause-meets g c = λ honest calm.
     let k = kept_of (tenants_in g.L.PartitionLog.log g.S.Store.disk a.tenants.now) a.tenant in
     let l = kept_of (tenants_in g.L.PartitionLog.log g.S.Store.disk c.serve-answer.new.self) a.tenant in
     let r = c.serve-answer.result in
-    answered-now a.setup.now.node k l a.clock q.connection q.correlation_id q.api_key q.api_version q.body.now r.touched.items r.answer
+    answered-now (node_of a.setup.now a.tenant) k l a.clock q.connection q.correlation_id q.api_key q.api_version q.body.now r.touched.items r.answer
     (subst (λ n. IsOutcome q.correlation_id (served n k.world a.clock k.groups q.connection q.api_key q.api_version q.body.now) l.world l.groups r.touched.items r.answer) c.node-node.ensures.node (c.serve-answer.ensures.meets honest calm))
 
 pub returns-then-released-clause-asked : goal.returns-then-released-clause-asked
@@ -40,7 +41,7 @@ returns-else-released-clause-meets g c = λ honest calm.
     let k = kept_of (tenants_in g.L.PartitionLog.log g.S.Store.disk a.tenants.now) a.tenant in
     let l = kept_of (tenants_in g.L.PartitionLog.log g.S.Store.disk c.serve-answer.new.self) a.tenant in
     let r = c.serve-answer.result in
-    answered-now a.setup.now.node k l a.clock q.connection q.correlation_id q.api_key q.api_version q.body.now r.touched.items r.answer
+    answered-now (node_of a.setup.now a.tenant) k l a.clock q.connection q.correlation_id q.api_key q.api_version q.body.now r.touched.items r.answer
     (subst (λ n. IsOutcome q.correlation_id (served n k.world a.clock k.groups q.connection q.api_key q.api_version q.body.now) l.world l.groups r.touched.items r.answer) c.node-node.ensures.node (c.serve-answer.ensures.meets honest calm))
 
 pub returns-else-released-clause-asked : goal.returns-else-released-clause-asked
@@ -65,7 +66,7 @@ returns-then-refused-clause-meets g c = λ honest calm.
     let k = kept_of (tenants_in g.L.PartitionLog.log g.S.Store.disk a.tenants.now) a.tenant in
     let l = kept_of (tenants_in g.L.PartitionLog.log g.S.Store.disk c.serve-answer.new.self) a.tenant in
     let r = c.serve-answer.result in
-    answered-now a.setup.now.node k l a.clock q.connection q.correlation_id q.api_key q.api_version q.body.now r.touched.items r.answer
+    answered-now (node_of a.setup.now a.tenant) k l a.clock q.connection q.correlation_id q.api_key q.api_version q.body.now r.touched.items r.answer
     (subst (λ n. IsOutcome q.correlation_id (served n k.world a.clock k.groups q.connection q.api_key q.api_version q.body.now) l.world l.groups r.touched.items r.answer) c.node-node.ensures.node (c.serve-answer.ensures.meets honest calm))
 
 pub returns-then-refused-clause-asked : goal.returns-then-refused-clause-asked

@@ -1,3 +1,4 @@
+use Rattle.kb_isolation_spec.specs.Greeting.{node_of}
 use Rattle.std.proofs.Common.{arith, inl, inr, refl, sym, true, ◌≡◌, ap, subst}
 use Rattle.std.specs.Prelude.{IfNone, IfSome}
 use Rattle.std.specs.FinMap as fin
@@ -23,7 +24,7 @@ pub returns-in_err-serve-in-Ok-None-clause-spent : goal.returns-in_err-serve-in-
 returns-in_err-serve-in-Ok-None-clause-spent g c = spent-shut c.args.connection.now c.serve.new.self c.requires.able c.in_err-serve-in-Ok-None.ensures.err
 
 pub returns-in-Ok-None-clause-number : goal.returns-in-Ok-None-clause-number
-returns-in-Ok-None-clause-number g c = ap (λ (x : Line). x.number) (c.in_ok-serve-in-Ok-None.ensures.ok nothing 0 0)
+returns-in-Ok-None-clause-number g c = ap (λ (x : Line). x.number) (c.in_ok-serve-in-Ok-None.ensures.ok 0 nothing 0 0)
 
 pub returns-in-Ok-None-clause-spent : goal.returns-in-Ok-None-clause-spent
 returns-in-Ok-None-clause-spent g c = spent-served c.serve.result c.args.setup.now c.args.connection.now c.serve.new.self c.requires.able c.serve.ensures.ok c.serve.ensures.err
@@ -71,11 +72,11 @@ returns-clause-ok g c = λ honest calm.
     let numbered : q.correlation_id ≡ h.correlation_id = subst (λ found. IfSome found (λ (r : Request). r.correlation_id ≡ h.correlation_id)) c.in-Ok-Some.field-0-is c.in-Ok-Some.ensures.numbered in
     let same : q.connection ≡ a.connection.now.number = subst (λ found. IfSome found (λ (r : Request). r.connection ≡ a.connection.now.number)) c.in-Ok-Some.field-0-is c.in-Ok-Some.ensures.number in
     let meets = subst (λ n. IsMet a.tenant (shelf_is_honest g.S.Store.disk c.ask.new.tenants) (tenants_in g.L.PartitionLog.log g.S.Store.disk a.tenants.now) (tenants_in g.L.PartitionLog.log g.S.Store.disk c.ask.new.tenants)
-    (λ k l. (l ≡ kept_after a.setup.now.node k a.clock n q.api_key q.api_version q.body.now) × IsAnswer h.correlation_id (answer a.setup.now.node k a.clock n q.api_key q.api_version q.body.now) c.ask.result.0)) same
+    (λ k l. (l ≡ kept_after (node_of a.setup.now a.tenant) k a.clock n q.api_key q.api_version q.body.now) × IsAnswer h.correlation_id (answer (node_of a.setup.now a.tenant) k a.clock n q.api_key q.api_version q.body.now) c.ask.result.0)) same
     (subst (λ id. IsMet a.tenant (shelf_is_honest g.S.Store.disk c.ask.new.tenants) (tenants_in g.L.PartitionLog.log g.S.Store.disk a.tenants.now) (tenants_in g.L.PartitionLog.log g.S.Store.disk c.ask.new.tenants)
-    (λ k l. (l ≡ kept_after a.setup.now.node k a.clock q.connection q.api_key q.api_version q.body.now) × IsAnswer id (answer a.setup.now.node k a.clock q.connection q.api_key q.api_version q.body.now) c.ask.result.0)) numbered c.ask.ensures.meets) in
+    (λ k l. (l ≡ kept_after (node_of a.setup.now a.tenant) k a.clock q.connection q.api_key q.api_version q.body.now) × IsAnswer id (answer (node_of a.setup.now a.tenant) k a.clock q.connection q.api_key q.api_version q.body.now) c.ask.result.0)) numbered c.ask.ensures.meets) in
     let done = meets honest calm in
-    asked-now a.setup.now a.clock a.connection.now.number (kept_of (tenants_in g.L.PartitionLog.log g.S.Store.disk a.tenants.now) a.tenant) (kept_of (tenants_in g.L.PartitionLog.log g.S.Store.disk c.ask.new.tenants) a.tenant) a.connection.now c.hand_over.new.connection q.api_key q.api_version h q.body.now c.ask.result.0 asked done.0 done.1 c.in_ok-hand_over.ensures.ok
+    asked-now a.setup.now a.tenant a.clock a.connection.now.number (kept_of (tenants_in g.L.PartitionLog.log g.S.Store.disk a.tenants.now) a.tenant) (kept_of (tenants_in g.L.PartitionLog.log g.S.Store.disk c.ask.new.tenants) a.tenant) a.connection.now c.hand_over.new.connection q.api_key q.api_version h q.body.now c.ask.result.0 asked done.0 done.1 c.in_ok-hand_over.ensures.ok
 
 pub returns-clause-keyed : goal.returns-clause-keyed
 returns-clause-keyed g c = λ honest.
@@ -87,9 +88,9 @@ returns-clause-keyed g c = λ honest.
     let numbered : q.correlation_id ≡ h.correlation_id = subst (λ found. IfSome found (λ (r : Request). r.correlation_id ≡ h.correlation_id)) c.in-Ok-Some.field-0-is c.in-Ok-Some.ensures.numbered in
     let same : q.connection ≡ a.connection.now.number = subst (λ found. IfSome found (λ (r : Request). r.connection ≡ a.connection.now.number)) c.in-Ok-Some.field-0-is c.in-Ok-Some.ensures.number in
     let meets = subst (λ n. IsMet a.tenant (shelf_is_honest g.S.Store.disk c.ask.new.tenants) (tenants_in g.L.PartitionLog.log g.S.Store.disk a.tenants.now) (tenants_in g.L.PartitionLog.log g.S.Store.disk c.ask.new.tenants)
-    (λ k l. (l ≡ kept_after a.setup.now.node k a.clock n q.api_key q.api_version q.body.now) × IsAnswer h.correlation_id (answer a.setup.now.node k a.clock n q.api_key q.api_version q.body.now) c.ask.result.0)) same
+    (λ k l. (l ≡ kept_after (node_of a.setup.now a.tenant) k a.clock n q.api_key q.api_version q.body.now) × IsAnswer h.correlation_id (answer (node_of a.setup.now a.tenant) k a.clock n q.api_key q.api_version q.body.now) c.ask.result.0)) same
     (subst (λ id. IsMet a.tenant (shelf_is_honest g.S.Store.disk c.ask.new.tenants) (tenants_in g.L.PartitionLog.log g.S.Store.disk a.tenants.now) (tenants_in g.L.PartitionLog.log g.S.Store.disk c.ask.new.tenants)
-    (λ k l. (l ≡ kept_after a.setup.now.node k a.clock q.connection q.api_key q.api_version q.body.now) × IsAnswer id (answer a.setup.now.node k a.clock q.connection q.api_key q.api_version q.body.now) c.ask.result.0)) numbered c.ask.ensures.meets) in
+    (λ k l. (l ≡ kept_after (node_of a.setup.now a.tenant) k a.clock q.connection q.api_key q.api_version q.body.now) × IsAnswer id (answer (node_of a.setup.now a.tenant) k a.clock q.connection q.api_key q.api_version q.body.now) c.ask.result.0)) numbered c.ask.ensures.meets) in
     keyed-answered (shelf_is_honest g.S.Store.disk c.ask.new.tenants) honest a.setup.now a.tenant a.clock a.connection.now.number (tenants_in g.L.PartitionLog.log g.S.Store.disk a.tenants.now) (tenants_in g.L.PartitionLog.log g.S.Store.disk c.ask.new.tenants) a.connection.now c.hand_over.new.connection q.api_key q.api_version h q.body.now c.ask.result.0 (fin.get c.hand_over.new.parking a.connection.now.number) c.requires.bound c.hand_over.ensures.spent asked c.ask.ensures.turn meets c.in_ok-hand_over.ensures.ok c.in_ok-hand_over.ensures.keyed
 
 pub returns-clause-touched : goal.returns-clause-touched
@@ -162,7 +163,7 @@ returns-in-Ok-None-clause-told g c = λ honest.
     c.in-Ok-None.ensures.none in
     told-own (FailedBy failures failures us.shelf.next) (IsCatalogFull g.L.PartitionLog.log us) a.setup.now a.clock
     a.connection.now.number a.tenant ts a.connection.now c.serve.new.self own
-    (c.in_ok-serve-in-Ok-None.ensures.ok (kept_of ts a.tenant) a.clock a.connection.now.number)
+    (c.in_ok-serve-in-Ok-None.ensures.ok a.tenant (kept_of ts a.tenant) a.clock a.connection.now.number)
 
 pub returns-in-Err-clause-told : goal.returns-in-Err-clause-told
 returns-in-Err-clause-told g c = λ honest.
@@ -188,8 +189,8 @@ returns-clause-told g c = λ honest.
     let numbered : q.correlation_id ≡ h.correlation_id = subst (λ found. IfSome found (λ (r : Request). r.correlation_id ≡ h.correlation_id)) c.in-Ok-Some.field-0-is c.in-Ok-Some.ensures.numbered in
     let same : q.connection ≡ a.connection.now.number = subst (λ found. IfSome found (λ (r : Request). r.connection ≡ a.connection.now.number)) c.in-Ok-Some.field-0-is c.in-Ok-Some.ensures.number in
     let truth = c.ask.ensures.truthful honest in
-    let truthful = subst (λ n. IsTrueAnswer failed (IsCatalogFull log us t) a.setup.now.node a.clock n q.api_key q.api_version h.correlation_id q.body.now (kept_of ts t) (kept_of (tenants_in log disk us) t) truth.0 c.ask.result.0) same
-    (subst (λ id. IsTrueAnswer failed (IsCatalogFull log us t) a.setup.now.node a.clock q.connection q.api_key q.api_version id q.body.now (kept_of ts t) (kept_of (tenants_in log disk us) t) truth.0 c.ask.result.0) numbered truth.1) in
+    let truthful = subst (λ n. IsTrueAnswer failed (IsCatalogFull log us t) (node_of a.setup.now a.tenant) a.clock n q.api_key q.api_version h.correlation_id q.body.now (kept_of ts t) (kept_of (tenants_in log disk us) t) truth.0 c.ask.result.0) same
+    (subst (λ id. IsTrueAnswer failed (IsCatalogFull log us t) (node_of a.setup.now a.tenant) a.clock q.connection q.api_key q.api_version id q.body.now (kept_of ts t) (kept_of (tenants_in log disk us) t) truth.0 c.ask.result.0) numbered truth.1) in
     told-asked failed (IsCatalogFull log us) a.setup.now a.clock a.connection.now.number t ts (tenants_in log disk us) s c.hand_over.new.connection.session q.api_key q.api_version h q.body.now truth.0 c.ask.result.0 asked truthful (c.hand_over.ensures.output q.api_key q.api_version h q.body.now asked)
 
 pub returns-in_err-hand_over-clause-told : goal.returns-in_err-hand_over-clause-told
@@ -208,6 +209,6 @@ returns-in_err-hand_over-clause-told g c = λ honest.
     let numbered : q.correlation_id ≡ h.correlation_id = subst (λ found. IfSome found (λ (r : Request). r.correlation_id ≡ h.correlation_id)) c.in-Ok-Some.field-0-is c.in-Ok-Some.ensures.numbered in
     let same : q.connection ≡ a.connection.now.number = subst (λ found. IfSome found (λ (r : Request). r.connection ≡ a.connection.now.number)) c.in-Ok-Some.field-0-is c.in-Ok-Some.ensures.number in
     let truth = c.ask.ensures.truthful honest in
-    let truthful = subst (λ n. IsTrueAnswer failed (IsCatalogFull log us t) a.setup.now.node a.clock n q.api_key q.api_version h.correlation_id q.body.now (kept_of ts t) (kept_of (tenants_in log disk us) t) truth.0 c.ask.result.0) same
-    (subst (λ id. IsTrueAnswer failed (IsCatalogFull log us t) a.setup.now.node a.clock q.connection q.api_key q.api_version id q.body.now (kept_of ts t) (kept_of (tenants_in log disk us) t) truth.0 c.ask.result.0) numbered truth.1) in
+    let truthful = subst (λ n. IsTrueAnswer failed (IsCatalogFull log us t) (node_of a.setup.now a.tenant) a.clock n q.api_key q.api_version h.correlation_id q.body.now (kept_of ts t) (kept_of (tenants_in log disk us) t) truth.0 c.ask.result.0) same
+    (subst (λ id. IsTrueAnswer failed (IsCatalogFull log us t) (node_of a.setup.now a.tenant) a.clock q.connection q.api_key q.api_version id q.body.now (kept_of ts t) (kept_of (tenants_in log disk us) t) truth.0 c.ask.result.0) numbered truth.1) in
     told-asked failed (IsCatalogFull log us) a.setup.now a.clock a.connection.now.number t ts (tenants_in log disk us) s c.hand_over.new.connection.session q.api_key q.api_version h q.body.now truth.0 c.ask.result.0 asked truthful (c.hand_over.ensures.output q.api_key q.api_version h q.body.now asked)

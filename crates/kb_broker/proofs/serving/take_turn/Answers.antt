@@ -1,3 +1,4 @@
+use Rattle.kb_isolation_spec.specs.Greeting.{for_tenant}
 use Rattle.std.proofs.Common.{◌≡◌, None, inl, inr, subst, sym, ◌∙◌}
 use Rattle.std.specs.FinMap as fin
 use Rattle.kb_tenant.specs.Told.{FailedBy}
@@ -146,7 +147,7 @@ returns-in_ok-touched-in-Bound-clause-ok g c =
     let t = c.in-Bound.tenant in
     subst (λ st. IsTakenAt (shelf_is_honest disk vs) a.setup.now a.clock a.connection.now.number st (tenants_in log disk a.tenants.now) (tenants_in log disk vs) a.connection.now.session c.serve_bound.new.connection.session) (sym (sym (able-stage c.args.connection.now.session c.requires.able) ∙ sym c.in-Bound.ensures))
     (met-counted t (tenants_in log disk a.tenants.now) (tenants_in log disk us) (tenants_in log disk vs) w.turn w.stays (shelf_is_honest disk us) (shelf_is_honest disk vs)
-    (λ k l. (c.serve_bound.new.connection.session ≡ after_turn a.setup.now k a.clock a.connection.now.number a.connection.now.session) × (l ≡ put a.setup.now k a.clock a.connection.now.number a.connection.now.session.unread))
+    (λ k l. (c.serve_bound.new.connection.session ≡ after_turn (for_tenant a.setup.now t) k a.clock a.connection.now.number a.connection.now.session) × (l ≡ put (for_tenant a.setup.now t) k a.clock a.connection.now.number a.connection.now.session.unread))
     (λ honest. subst (λ shelf. (g.S.Store.disk shelf.store).honest) c.whom_it_concerns.ensures.shelf honest) (c.serve_bound.ensures.turn.grows t) c.in_ok-touched-in-Bound.ensures.ok)
 
 pub returns-in_ok-touched-in-Bound-clause-waits : goal.returns-in_ok-touched-in-Bound-clause-waits

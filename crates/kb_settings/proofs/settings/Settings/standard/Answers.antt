@@ -3,4 +3,4 @@ use Rattle.kb_settings.proofs.StandardText.{said}
 use Rattle.kb_settings.proofs.settings.Settings.standard.Goals as goal
 
 pub returns-clause-text : goal.returns-clause-text
-returns-clause-text c = said _ (search rules)
+returns-clause-text c = said _ _ _ (search rules) (search rules) (search rules)

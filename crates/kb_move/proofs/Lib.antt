@@ -1,5 +1,6 @@
 pub mod Alike
 pub mod Copies
 pub mod Disks
+pub mod Honest
 pub mod Joined
 pub mod Placed

@@ -1,8 +1,11 @@
 //! A copy of a tenant's files.
-ghost use Rattle.std.specs.Prelude.{◌≡◌, ◌<◌, ◌≤◌, ◌+◌, ◌^◌, ℕ, [], length, map, Err, None, IfOk, OnOk, OnErr};
+ghost use Rattle.std.specs.Prelude.{◌≡◌, ◌<◌, ◌≤◌, ◌+◌, ◌^◌, ℕ, List, [], length, map, false, bytes_eq, Err, None, IfOk, OnOk, OnErr};
 ghost use Rattle.std.specs.FinMap as finmap;
 ghost use Rattle.std.specs.List.{All};
 ghost use Rattle.kb_store.specs.Disk.{IsThere, Keeps, bytes_of, HasCause};
+ghost use Rattle.kb_tenant_state.specs.Logs.{Logs};
+ghost use Rattle.kb_topics.specs.Known.{Known};
+ghost use Rattle.kb_move.specs.Alike.{Opens};
 ghost use Rattle.kb_move.specs.Copied.{IsAlone, Spares, copied, first_number, owned, placed};
 
 use crate::fault::MoveFault;
@@ -43,6 +46,11 @@ pub fn copy_tenant<F: Store, T: Store>(
     ensures alone { OnOk result ((T.disk to.new).honest → owned tenant.now (T.disk to.old) ≡ []) }
     ensures unchanged { Keeps (F.disk from.old) (F.disk from.new) }
     ensures spared { Spares (T.disk to.old) (T.disk to.new) }
+    // The tenant opens there to what it opens to here, and each other tenant to what it had.
+    ensures opens { OnOk result ((F.disk from.new).honest → (T.disk to.new).honest → (k : Known) (logs : Logs)
+        → Opens (F.disk from.old).files tenant.now k logs → Opens (T.disk to.new).files tenant.now k logs) }
+    ensures beside { OnOk result ((F.disk from.new).honest → (T.disk to.new).honest → (other : List ℕ) (k : Known) (logs : Logs)
+        → bytes_eq tenant.now other ≡ false → Opens (T.disk to.old).files other k logs → Opens (T.disk to.new).files other k logs) }
 {
     let found = tenant_files(alloc, from, tenant)?;
     if found.numbers.is_empty() {

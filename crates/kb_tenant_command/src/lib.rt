@@ -5,13 +5,16 @@
 #![tactic(auto)]
 
 use clap::{Arg, ArgAction, ArgMatches, Command};
+use kb_folder::{FolderFault, FolderStore, HostFolder};
 use kb_move::{Copied, MoveFault, copy_tenant, tenant_files};
 use kb_operator::{
-    FolderJournal, OperatorFault, hold, is_folder, look_into, store_to_read, store_to_serve,
+    DataStore, FolderJournal, OperatorFault, hold, is_folder, look_into, store_to_read,
+    store_to_serve,
 };
 use kb_start::remove_files;
 use kb_store::{Store, StoreFault};
 use std::alloc::{AllocError, Global};
+use std::fs::File;
 use std::io;
 use thiserror::Error;
 
@@ -117,7 +120,7 @@ pub fn tenant(rt: &HostRuntime, found: &ArgMatches<'_>) -> Result<(), TenantFaul
         "import" => tell_copied(
             rt,
             name,
-            transfer(rt, name, found.get_str("from").unwrap_or(""), data)?,
+            import(rt, name, found.get_str("from").unwrap_or(""), data)?,
         ),
         _ => {
             let files = remove(rt, name, data, found.get_flag("yes"))?;
@@ -140,12 +143,51 @@ fn tell_copied(rt: &HostRuntime, tenant: &str, copied: Copied) -> io::Result<()>
     println!(rt; "tenant {tenant}: files {files}, bytes {bytes}, from number {first} on")
 }
 
-/// Takes a tenant's files from a data folder into a folder that is made.
+/// Takes a tenant's files from a data folder into a folder that is made. There is nothing but these files in it.
 fn export(rt: &HostRuntime, tenant: &str, from: &str, to: &str) -> Result<Copied, TenantFault> {
+    let alloc = rt.alloc();
     if is_folder(rt, to) {
-        return Err(TenantFault::IsThere(String::from_str(rt.alloc(), to)?));
+        return Err(TenantFault::IsThere(String::from_str(alloc, to)?));
     }
-    transfer(rt, tenant, from, to)
+    let mut source = Source::open(rt, tenant, from)?;
+    let _held = hold(rt, to)?;
+    let journal = FolderJournal::new(alloc, to, true)?;
+    let target = store_to_fill(rt, &journal)?;
+    source.copy_to(alloc, tenant, &journal, target)
+}
+
+/// Takes a tenant's files from a folder into a data folder, which is made where it is missing, and keeps a reserve as one that is served.
+fn import(rt: &HostRuntime, tenant: &str, from: &str, to: &str) -> Result<Copied, TenantFault> {
+    let alloc = rt.alloc();
+    let mut source = Source::open(rt, tenant, from)?;
+    let _held = hold(rt, to)?;
+    let journal = FolderJournal::new(alloc, to, true)?;
+    let target = store_to_serve(rt, &journal, true)?;
+    source.copy_to(alloc, tenant, &journal, target)
+}
+
+/// The store of the files in a folder that was made for them. What is written lasts once it is synced. It has no reserve: a broker that
+/// serves the folder makes one.
+fn store_to_fill(rt: &HostRuntime, journal: &FolderJournal) -> Result<DataStore, OperatorFault> {
+    let alloc = rt.alloc();
+    match filled(rt, alloc, journal) {
+        Ok(store) => Ok(store),
+        Err(fault) => Err(journal.of_folder(alloc, fault)),
+    }
+}
+
+/// The same, with the fault of the folder.
+fn filled(
+    rt: &HostRuntime,
+    alloc: Global,
+    journal: &FolderJournal,
+) -> Result<DataStore, FolderFault> {
+    let noted = journal.refusals().share()?;
+    let mut folder = HostFolder::new(*rt, journal.folder())?
+        .noting(noted)
+        .syncing();
+    folder.sync_found()?;
+    FolderStore::new(alloc, folder)
 }
 
 /// Removes a tenant's files from a data folder, where that was asked for, and answers how many there were.
@@ -180,32 +222,55 @@ fn removed<S: Store>(alloc: Global, store: &mut S, tenant: &str) -> Result<usize
     Ok(held.numbers.len())
 }
 
-/// Takes a tenant's files from one folder to another, which is made where it is missing. Both are held meanwhile.
-fn transfer(rt: &HostRuntime, tenant: &str, from: &str, to: &str) -> Result<Copied, TenantFault> {
-    let alloc = rt.alloc();
-    if !is_folder(rt, from) {
-        return Err(TenantFault::NoFolder(String::from_str(alloc, from)?));
-    }
-    let _looked_into = look_into(rt, from)?;
-    let journal = FolderJournal::new(alloc, from, true)?;
-    let mut source = store_to_read(rt, &journal)?;
-    let held = match tenant_files(alloc, &mut source, tenant) {
-        Ok(held) => held,
-        Err(fault) => return Err(TenantFault::Operator(journal.of_store(alloc, fault))),
-    };
-    if held.numbers.is_empty() {
-        return Err(files_fault(alloc, tenant, MoveFault::Absent, from)?);
-    }
-    let _held = hold(rt, to)?;
-    let journal_there = FolderJournal::new(alloc, to, true)?;
-    let mut target = store_to_serve(rt, &journal_there, true)?;
-    match copied(alloc, &mut source, tenant, &mut target) {
-        Ok(copied) => Ok(copied),
-        Err(MoveFault::Store(fault)) => {
-            let said = fault_of(alloc, &journal, &journal_there, fault);
-            Err(TenantFault::Operator(said))
+/// A folder from which a tenant's files are copied. It is held open meanwhile, so that no broker begins to serve it.
+#[derive(Drop)]
+struct Source {
+    journal: FolderJournal,
+    store: DataStore,
+    /// The handle that locks it, beside others that look into it.
+    lock: File,
+}
+
+impl Source {
+    /// The folder at a path, which has files of a tenant.
+    fn open(rt: &HostRuntime, tenant: &str, path: &str) -> Result<Source, TenantFault> {
+        let alloc = rt.alloc();
+        if !is_folder(rt, path) {
+            return Err(TenantFault::NoFolder(String::from_str(alloc, path)?));
         }
-        Err(fault) => Err(files_fault(alloc, tenant, fault, to)?),
+        let lock = look_into(rt, path)?;
+        let journal = FolderJournal::new(alloc, path, true)?;
+        let mut store = store_to_read(rt, &journal)?;
+        let held = match tenant_files(alloc, &mut store, tenant) {
+            Ok(held) => held,
+            Err(fault) => return Err(TenantFault::Operator(journal.of_store(alloc, fault))),
+        };
+        if held.numbers.is_empty() {
+            return Err(files_fault(alloc, tenant, MoveFault::Absent, path)?);
+        }
+        Ok(Source {
+            journal,
+            store,
+            lock,
+        })
+    }
+
+    /// Copies a tenant's files into the folder of another journal, whose store that is.
+    fn copy_to(
+        &mut self,
+        alloc: Global,
+        tenant: &str,
+        there: &FolderJournal,
+        mut target: DataStore,
+    ) -> Result<Copied, TenantFault> {
+        match copied(alloc, &mut self.store, tenant, &mut target) {
+            Ok(copied) => Ok(copied),
+            Err(MoveFault::Store(fault)) => {
+                let said = fault_of(alloc, &self.journal, there, fault);
+                Err(TenantFault::Operator(said))
+            }
+            Err(fault) => Err(files_fault(alloc, tenant, fault, there.folder())?),
+        }
     }
 }
 

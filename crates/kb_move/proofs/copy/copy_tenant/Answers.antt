@@ -1,11 +1,13 @@
-use Rattle.std.proofs.Common.{◌≡◌, ◌<◌, ◌∙◌, [], map, max, ap, sym, refl, arith}
+use Rattle.std.proofs.Common.{◌≡◌, ◌<◌, ◌∙◌, [], map, max, ap, sym, refl, subst, arith}
 use Rattle.std.specs.Prelude.{unwrap_or}
 use Rattle.std.specs.FinMap.{get, keys}
 use Rattle.kb_store.specs.Disk.{Files, bytes_of}
 use Rattle.kb_log.specs.Shelf.{next_number, one_above}
 use Rattle.kb_log.proofs.Numbers.{tidy}
+use Rattle.kb_move.specs.Alike.{Opens}
 use Rattle.kb_move.specs.Copied.{first_number, owned, placed}
 use Rattle.kb_move.proofs.Disks.{spares_behind}
+use Rattle.kb_move.proofs.Honest.{copy_opens, copy_spares, none_told}
 use Rattle.kb_move.proofs.copy.copy_tenant.Goals as goal
 
 pub copy_all-requires-clause-free : goal.copy_all-requires-clause-free
@@ -46,3 +48,21 @@ returns-clause-copied g c h k =
 
 pub returns-clause-spared : goal.returns-clause-spared
 returns-clause-spared g c = spares_behind _ _ _ c.in_ok-there.ensures.unchanged c.in_ok-bytes.ensures.spared
+
+pub returns-clause-opens : goal.returns-clause-opens
+returns-clause-opens g c h k known logs opens =
+    let from = g.F.Store.disk c.args.from.now in
+    let to = g.T.Store.disk c.args.to.now in
+    let here = c.in_ok-found.ensures.unchanged.honest (c.in_ok-bytes.ensures.unchanged.honest h) in
+    let there = c.in_ok-there.ensures.unchanged.honest (c.in_ok-bytes.ensures.spared.honest k) in
+    subst (λ f. Opens f c.args.tenant.now known logs) (sym (returns-clause-copied g c h k))
+    (copy_opens c.args.tenant.now from to (g.met.F.Store.lawful c.args.from.now) (g.met.T.Store.lawful c.args.to.now) here there (sym (c.in_ok-there.ensures.numbers (c.in_ok-bytes.ensures.spared.honest k)) ∙ none_told c.in_ok-there.there.numbers.items _ c.in_ok-there.there.numbers.ok.0 c.if-not-is_empty.ensures) known logs opens)
+
+pub returns-clause-beside : goal.returns-clause-beside
+returns-clause-beside g c h k other known logs apart opens =
+    let from = g.F.Store.disk c.args.from.now in
+    let to = g.T.Store.disk c.args.to.now in
+    let here = c.in_ok-found.ensures.unchanged.honest (c.in_ok-bytes.ensures.unchanged.honest h) in
+    let there = c.in_ok-there.ensures.unchanged.honest (c.in_ok-bytes.ensures.spared.honest k) in
+    subst (λ f. Opens f other known logs) (sym (returns-clause-copied g c h k))
+    (copy_spares c.args.tenant.now from to (g.met.F.Store.lawful c.args.from.now) (g.met.T.Store.lawful c.args.to.now) here there other apart known logs opens)

@@ -1,3 +1,4 @@
+pub mod Groups
 pub mod Lags
 pub mod Plain
 pub mod Reading

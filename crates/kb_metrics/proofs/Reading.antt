@@ -1,6 +1,6 @@
 -- A label's value is read back from its text.
-use Rattle.std.proofs.Common.{◌≡◌, ℕ, List, [], ◌∷◌, ◌++◌, Some, true, false, refl, sym, ap, ◌∙◌, ◌==◌, arith, append_assoc}
-use Rattle.kb_metrics.specs.Text.{escape, escaped, meant, value_read, with_front}
+use Rattle.std.proofs.Common.{◌≡◌, ℕ, List, [], ◌∷◌, ◌++◌, Some, false, refl, ap, ◌∙◌, arith, append_assoc}
+use Rattle.kb_metrics.specs.Text.{escape, escaped, value_read}
 
 -- a byte is read back from its text, where the rest is
 read_one : (b : ℕ) (rest value text : List ℕ) → value_read false rest ≡ Some (value, text) → value_read false (escape b ++ rest) ≡ Some (b ∷ value, text)

@@ -1,13 +1,12 @@
 -- What is said of tenants: each number is defined over what the tenant keeps, and over what is counted of its connections.
 use Rattle.std.specs.Prelude.{ℕ, ℤ, ◌-ℤ◌, ◌^◌, ◌-◌, List, [], ◌∷◌, ◌++◌, length, map, min, Option, None, Some, slice_get}
-use Rattle.std.specs.Option.{option_and_then}
 use Rattle.std.specs.List.{flat_map, range_with_len, sum_by}
 use Rattle.kb_batch.specs.Batch.{natural}
 use Rattle.kb_coordinator.specs.declared.groups.Entry.{Entry}
 use Rattle.kb_settings.specs.Names.{in_order}
 use Rattle.kb_topics.specs.ByName.{by_name}
-use Rattle.kb_topics.specs.Known.{CommittedOffset, PartitionState, TopicState, committed_at}
-use Rattle.kb_tenant_state.specs.Calls.{committed, end_of, known_at, numbered, start_of}
+use Rattle.kb_topics.specs.Known.{CommittedOffset, PartitionState, TopicState}
+use Rattle.kb_tenant_state.specs.Calls.{committed, end_of, numbered, start_of}
 use Rattle.kb_tenant_state.specs.World.{World}
 use Rattle.kb_tenant_state.specs.declared.topic_partition.TopicPartition.{TopicPartition}
 use Rattle.kb_metrics.specs.Families.{committed_text, families_text, offsets_text}

@@ -1,18 +1,15 @@
--- How many bytes come and go in a second.
-use Rattle.std.specs.Prelude.{ℕ, ◌+◌, ◌-◌, ◌^◌, List, [], ◌++◌, take, drop, replicate, length, min, Option, None, Some, slice_set, slice_index_or}
+-- How much comes in a second.
+use Rattle.std.specs.Prelude.{ℕ, ◌+◌, ◌-◌, ◌^◌, List, ◌++◌, drop, replicate, length, min, Option, None, Some, slice_set, slice_index_or}
+use Rattle.std.specs.List.{sum_by}
 use Rattle.kb_metrics.specs.declared.rates.Noted.{Noted}
 
--- Bytes of requests and of responses of the last 120 seconds, the oldest first, and what was noted last.
-pub record History : Type 0 where
-  pub requests : List ℕ
-  pub responses : List ℕ
+-- How much came in each of the last 120 seconds, the oldest first, and what was noted last.
+pub record Series : Type 0 where
+  pub samples : List ℕ
   pub noted : Option Noted
 
-abbrev pub no_samples : List ℕ
-no_samples = replicate 120 0
-
-abbrev pub no_history : History
-no_history = record { requests = no_samples; responses = no_samples; noted = None }
+abbrev pub none_noted : Series
+none_noted = record { samples = replicate 120 0; noted = None }
 
 -- so many seconds are gone where some begin
 abbrev pub gone : ℕ → List ℕ → ℕ
@@ -22,19 +19,41 @@ gone seconds xs = min seconds (length xs)
 abbrev pub begun : ℕ → List ℕ → List ℕ
 begun seconds xs = drop (gone seconds xs) xs ++ replicate (gone seconds xs) 0
 
--- more bytes in the newest second, as far as 64 bits go
+-- more in the newest second, as far as 64 bits go
 abbrev pub added : ℕ → List ℕ → List ℕ
-added bytes xs = slice_set xs 119 (min (slice_index_or xs 119 0 + bytes) (2 ^ 64 - 1))
+added more xs = slice_set xs 119 (min (slice_index_or xs 119 0 + more) (2 ^ 64 - 1))
 
--- Nothing is known of the bytes before the first note. Then the bytes that came since the last one are of the second that is noted now;
--- in a second without a note nothing came. A clock that goes back begins no second.
-abbrev pub noted_after : Option Noted → Noted → History → History
-noted_after None now h = record h { noted = Some now }
-noted_after (Some last) now h = record {
-  requests = added (now.request_bytes - last.request_bytes) (begun (now.second - last.second) h.requests);
-  responses = added (now.response_bytes - last.response_bytes) (begun (now.second - last.second) h.responses);
-  noted = Some now;
+-- Nothing is known of what came before the first note. Then what came since the last one is of the second that is noted now; in a second
+-- without a note nothing came. A clock that goes back begins no second.
+abbrev pub noted_after : Option Noted → Noted → List ℕ → List ℕ
+noted_after None now xs = xs
+noted_after (Some last) now xs = added (now.total - last.total) (begun (now.second - last.second) xs)
+
+abbrev pub noted : Noted → Series → Series
+noted now s = record { samples = noted_after s.noted now s.samples; noted = Some now }
+
+-- the samples of the last minute, so many seconds behind the last note
+abbrev pub minute_after : ℕ → List ℕ → List ℕ
+minute_after seconds xs = drop (60 + min seconds 60) xs
+
+-- what came in the minute up to a second, as far as 64 bits go
+abbrev pub in_minute_after : Option Noted → ℕ → List ℕ → ℕ
+in_minute_after None second xs = 0
+in_minute_after (Some last) second xs = min (sum_by (λ n. n) (minute_after (second - last.second) xs)) (2 ^ 64 - 1)
+
+abbrev pub in_minute : ℕ → Series → ℕ
+in_minute second s = in_minute_after s.noted second s.samples
+
+-- Bytes of requests and of responses.
+pub record History : Type 0 where
+  pub requests : Series
+  pub responses : Series
+
+abbrev pub no_history : History
+no_history = record { requests = none_noted; responses = none_noted }
+
+abbrev pub noted_both : ℕ → ℕ → ℕ → History → History
+noted_both second request_bytes response_bytes h = record {
+  requests = noted (record { second = second; total = request_bytes }) h.requests;
+  responses = noted (record { second = second; total = response_bytes }) h.responses;
 }
-
-abbrev pub noted : Noted → History → History
-noted now h = noted_after h.noted now h

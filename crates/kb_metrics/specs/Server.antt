@@ -1,25 +1,23 @@
 -- What is said of the server and of its process.
-use Rattle.std.specs.Prelude.{ℕ, List, [], ◌∷◌, ◌++◌, codes, Option, None, Some}
+use Rattle.std.specs.Prelude.{ℕ, List, [], ◌∷◌, ◌++◌, codes, Option, Some}
 use Rattle.std.specs.Option.{option_map}
 use Rattle.std.specs.List.{flat_map}
-use Rattle.kb_metrics.specs.Text.{FigureText, figure_text, head_text, sample_text}
+use Rattle.kb_metrics.specs.Text.{FigureText, HeadText, counter_head, figure_text, gauge_head, head_text, rows_text, sample_text}
 use Rattle.kb_metrics.specs.declared.server.Cause.{Cause}
 use Rattle.kb_metrics.specs.declared.server.Closed.{Closed}
 use Rattle.kb_metrics.specs.declared.server.ServerGauges.{ServerGauges}
 use Rattle.kb_metrics.specs.declared.server.ProcessGauges.{ProcessGauges}
-use Rattle.kb_metrics.specs.declared.text.Kind.TheVariants.{Counter, Gauge}
-use Rattle.kb_metrics.specs.declared.text.Value.{Value}
 use Rattle.kb_metrics.specs.declared.text.Value.TheVariants.{Whole, Thousandths, Millionths}
 
 abbrev pub gauge : List ℕ → List ℕ → ℕ → FigureText
-gauge name help n = record { name = name; help = help; kind = Gauge; value = Some (Whole n) }
+gauge name help n = record { head = gauge_head name help; value = Some (Whole n) }
 
 abbrev pub counter : List ℕ → List ℕ → ℕ → FigureText
-counter name help n = record { name = name; help = help; kind = Counter; value = Some (Whole n) }
+counter name help n = record { head = counter_head name help; value = Some (Whole n) }
 
 -- a gauge that may not be known
 abbrev pub known_gauge : List ℕ → List ℕ → Option ℕ → FigureText
-known_gauge name help n = record { name = name; help = help; kind = Gauge; value = option_map Whole n }
+known_gauge name help n = record { head = gauge_head name help; value = option_map Whole n }
 
 -- connections, sockets and their bytes
 unfoldable pub socket_figures : ServerGauges → List FigureText
@@ -39,9 +37,7 @@ trouble_figures s =
     ∷ counter (codes "kbroker_store_failures_total") (codes "Calls that the store refused.") s.store_failures
     ∷ known_gauge (codes "kbroker_stray_files") (codes "Files of the folder that are of no log and are left alone.") s.stray_files
     ∷ record {
-      name = codes "kbroker_turn_seconds_max";
-      help = codes "The longest turn since the last page.";
-      kind = Gauge;
+      head = gauge_head (codes "kbroker_turn_seconds_max") (codes "The longest turn since the last page.");
       value = Some (Millionths s.turn_micros_max);
     } ∷ []
 
@@ -57,30 +53,28 @@ causes c =
     (codes "no_place", c.no_place) ∷ (codes "no_login", c.no_login) ∷ (codes "unread_reply", c.unread_reply) ∷ (codes "idle", c.idle)
     ∷ (codes "slow_request", c.slow_request) ∷ (codes "limit", c.limit) ∷ []
 
--- a family with a sample for each cause
-abbrev pub causes_text : List ℕ → List ℕ → List (List ℕ × ℕ) → List ℕ
-causes_text name help cs = head_text name help Counter ++ flat_map (cause_text name) cs
+-- the sockets that were closed, with a sample for each cause
+abbrev pub closed_head : HeadText
+closed_head = counter_head (codes "kbroker_sockets_closed_total") (codes "Sockets that the broker closed, by cause.")
 
 abbrev pub closed_text : Closed → List ℕ
-closed_text c = causes_text (codes "kbroker_sockets_closed_total") (codes "Sockets that the broker closed, by cause.") (causes c)
+closed_text c = rows_text closed_head (cause_text closed_head.name) (causes c)
 
 -- all that is said of the server
 abbrev pub server_text : ServerGauges → List ℕ
 server_text s = flat_map figure_text (socket_figures s) ++ flat_map figure_text (trouble_figures s) ++ closed_text s.closed
 
 -- a family that tells a text, as a label of a sample that is 1
-abbrev pub info_text : List ℕ → List ℕ → List ℕ × List ℕ → List ℕ
-info_text name help label = head_text name help Gauge ++ sample_text name label [] 1
+abbrev pub info_text : HeadText → List ℕ × List ℕ → List ℕ
+info_text head label = head_text head ++ sample_text head.name label [] 1
 
 abbrev pub version_text : List ℕ → List ℕ
-version_text version = info_text (codes "kbroker_build_info") (codes "The version that runs.") (codes "version", version)
+version_text version = info_text (gauge_head (codes "kbroker_build_info") (codes "The version that runs.")) (codes "version", version)
 
 -- the time of processors, in milliseconds
 abbrev pub cpu_figure : Option ℕ → FigureText
 cpu_figure millis = record {
-  name = codes "process_cpu_seconds_total";
-  help = codes "Time of processors that the process took.";
-  kind = Counter;
+  head = counter_head (codes "process_cpu_seconds_total") (codes "Time of processors that the process took.");
   value = option_map Thousandths millis;
 }
 

@@ -1,7 +1,8 @@
--- Partitions of a topic as the code looks at them for lag.
-use Rattle.std.specs.Prelude.{ℕ, ℤ, ◌^◌, ◌-◌, List, min, Option, None, Some, option_copied}
+-- Partitions of a topic as the code looks at them for lag, and the groups that committed to them.
+use Rattle.std.specs.Prelude.{◌≡◌, ℕ, ℤ, ◌^◌, ◌-◌, List, min, Option, option_copied}
 use Rattle.std.specs.Option.{option_and_then}
-use Rattle.std.specs.List.{sum_by}
+use Rattle.std.specs.List.{list_any, sum_by}
+use Rattle.std.specs.Str.{bytes_eq}
 use Rattle.kb_topics.specs.Known.{PartitionState, committed_at}
 use Rattle.kb_tenant_state.specs.Calls.{end_of, known_at, numbered}
 use Rattle.kb_tenant_state.specs.World.{World}
@@ -24,3 +25,7 @@ lag_among group ss = min (sum_by (lag_in group) ss) (2 ^ 64 - 1)
 
 abbrev pub lag_row_among : List (Option ℤ × Option PartitionState) → List ℕ → List ℕ → Lag
 lag_row_among ss topic group = record { group = group; topic = topic; value = lag_among group ss }
+
+-- the same names stand in both, in whatever order and however often
+abbrev pub HaveSame : List (List ℕ) → List (List ℕ) → Type 0
+HaveSame xs ys = (q : List ℕ) → list_any (bytes_eq q) xs ≡ list_any (bytes_eq q) ys

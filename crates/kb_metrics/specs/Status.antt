@@ -1,5 +1,5 @@
 -- The status page, and the page of a tenant.
-use Rattle.std.specs.Prelude.{ℕ, ℤ, ◌^◌, ◌-◌, List, [], ◌∷◌, ◌++◌, length, map, min, codes, Option, None, Some, slice_get}
+use Rattle.std.specs.Prelude.{ℕ, ℤ, ◌^◌, ◌-◌, List, [], ◌∷◌, ◌++◌, length, min, codes, Option, None, Some, slice_get}
 use Rattle.std.specs.Option.{option_map}
 use Rattle.std.specs.List.{flat_map, range_with_len, sum_by}
 use Rattle.kb_metrics.specs.Markup.{cell, fact_text, line_text, link_cell, marked, name_cell, plot_cell, signed_cell, tag_text}
@@ -80,7 +80,7 @@ tenant_cells t =
 
 -- the bytes of a second, in and out
 unfoldable pub both_plots : History → List ℕ
-both_plots h = plot_cell (codes "In a second") h.requests ++ plot_cell (codes "Out a second") h.responses
+both_plots h = plot_cell (codes "In a second") h.requests.samples ++ plot_cell (codes "Out a second") h.responses.samples
 
 abbrev pub plots_text : Option History → List ℕ
 plots_text None = []

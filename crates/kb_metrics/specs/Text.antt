@@ -1,7 +1,7 @@
 -- The text format of Prometheus, 0.0.4, and how a label's value is read back.
-use Rattle.std.specs.Prelude.{ℕ, ℤ, ◌+◌, ◌/◌, ◌%◌, List, [], ◌∷◌, ◌++◌, Bool, true, false, ◌==◌, if◌then◌else◌, Option, None, Some, codes, decimal}
-use Rattle.std.specs.Fmt.{signed_decimal}
+use Rattle.std.specs.Prelude.{ℕ, ◌+◌, ◌/◌, ◌%◌, List, [], ◌∷◌, ◌++◌, Bool, true, false, ◌==◌, if◌then◌else◌, Option, None, Some, codes, decimal}
 use Rattle.std.specs.List.{flat_map}
+use Rattle.kb_metrics.specs.declared.text.Head.{Head}
 use Rattle.kb_metrics.specs.declared.text.Kind.{Kind}
 use Rattle.kb_metrics.specs.declared.text.Kind.TheVariants as kinds
 use Rattle.kb_metrics.specs.declared.text.Label.{Label}
@@ -25,30 +25,48 @@ label_text l = l.0 ++ 61 ∷ 34 ∷ escaped l.1 ++ 34 ∷ []
 abbrev pub more_text : List ℕ × List ℕ → List ℕ
 more_text l = 44 ∷ label_text l
 
--- `name{label,label}`
-abbrev pub labelled_text : List ℕ → List ℕ × List ℕ → List (List ℕ × List ℕ) → List ℕ
-labelled_text name first more = name ++ 123 ∷ label_text first ++ flat_map more_text more ++ 125 ∷ []
+-- `name{label`
+abbrev pub front_text : List ℕ → List ℕ × List ℕ → List ℕ
+front_text name label = name ++ 123 ∷ label_text label
 
 -- ` value`, and the end of the line
 abbrev pub end_text : List ℕ → List ℕ
 end_text value = 32 ∷ value ++ 10 ∷ []
 
+-- a sample behind its front: `,label,label} value`
+abbrev pub behind_text : List ℕ → List (List ℕ × List ℕ) → List ℕ → List ℕ
+behind_text front more value = front ++ flat_map more_text more ++ 125 ∷ end_text value
+
 -- `name{label,label} value`
 abbrev pub sample_text : List ℕ → List ℕ × List ℕ → List (List ℕ × List ℕ) → ℕ → List ℕ
-sample_text name first more value = labelled_text name first more ++ end_text (decimal value)
-
--- the same of a number that may be below 0
-abbrev pub signed_sample_text : List ℕ → List ℕ × List ℕ → List (List ℕ × List ℕ) → ℤ → List ℕ
-signed_sample_text name first more value = labelled_text name first more ++ end_text (signed_decimal value)
+sample_text name first more value = behind_text (front_text name first) more (decimal value)
 
 abbrev pub kind_text : Kind → List ℕ
 kind_text kinds.Counter = codes "counter"
 kind_text kinds.Gauge = codes "gauge"
 
+-- a family: its name, what it counts in words, and its kind
+pub record HeadText : Type 0 where
+  pub name : List ℕ
+  pub help : List ℕ
+  pub kind : Kind
+
+abbrev pub head_seen : Head → HeadText
+head_seen h = record { name = h.name.now; help = h.help.now; kind = h.kind }
+
+abbrev pub gauge_head : List ℕ → List ℕ → HeadText
+gauge_head name help = record { name = name; help = help; kind = kinds.Gauge }
+
+abbrev pub counter_head : List ℕ → List ℕ → HeadText
+counter_head name help = record { name = name; help = help; kind = kinds.Counter }
+
 -- what stands in front of the samples of a family
-abbrev pub head_text : List ℕ → List ℕ → Kind → List ℕ
-head_text name help kind =
-    codes "# HELP " ++ name ++ 32 ∷ help ++ codes "\n# TYPE " ++ name ++ 32 ∷ kind_text kind ++ 10 ∷ []
+abbrev pub head_text : HeadText → List ℕ
+head_text h = codes "# HELP " ++ h.name ++ 32 ∷ h.help ++ codes "\n# TYPE " ++ h.name ++ 32 ∷ kind_text h.kind ++ 10 ∷ []
+
+-- a family with what is said of each row
+abbrev pub rows_text : {X : Type 0} → HeadText → (X → List ℕ) → List X → List ℕ
+rows_text head said xs = head_text head ++ flat_map said xs
 
 abbrev pub label_of : Label → List ℕ × List ℕ
 label_of l = (l.name.now, l.value.now)
@@ -64,23 +82,21 @@ value_text (values.Thousandths n) = decimal (n / 1000) ++ 46 ∷ digit n 100 ∷
 value_text (values.Millionths n) =
     decimal (n / 1000000) ++ 46 ∷ digit n 100000 ∷ digit n 10000 ∷ digit n 1000 ∷ digit n 100 ∷ digit n 10 ∷ digit n 1 ∷ []
 
--- a family of one sample without labels: its name, what it counts in words, its kind, and the value where it is known
+-- a family of one sample without labels: its head, and the value where it is known
 pub record FigureText : Type 0 where
-  pub name : List ℕ
-  pub help : List ℕ
-  pub kind : Kind
+  pub head : HeadText
   pub value : Option Value
 
 abbrev pub figure_of : Figure → FigureText
-figure_of f = record { name = f.name.now; help = f.help.now; kind = f.kind; value = f.value }
+figure_of f = record { head = record { name = f.name.now; help = f.help.now; kind = f.kind }; value = f.value }
 
 -- nothing where the value is not known
-abbrev pub known_text : List ℕ → List ℕ → Kind → Option Value → List ℕ
-known_text name help kind None = []
-known_text name help kind (Some value) = head_text name help kind ++ name ++ end_text (value_text value)
+abbrev pub known_text : HeadText → Option Value → List ℕ
+known_text head None = []
+known_text head (Some value) = head_text head ++ head.name ++ end_text (value_text value)
 
 abbrev pub figure_text : FigureText → List ℕ
-figure_text f = known_text f.name f.help f.kind f.value
+figure_text f = known_text f.head f.value
 
 -- 2. Reading
 

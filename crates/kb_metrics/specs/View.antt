@@ -1,8 +1,6 @@
 -- A tenant that is looked at.
-use Rattle.std.specs.Prelude.{ℤ, Option}
 use Rattle.kb_store.specs.Disk.{Files}
 use Rattle.kb_log.specs.OnShelf.{Log}
-use Rattle.kb_topics.specs.Known.{PartitionState, committed_at}
 use Rattle.kb_tenant_state.specs.Parts.{world_of}
 use Rattle.kb_metrics.specs.Gauges.{Observed}
 use Rattle.kb_metrics.specs.declared.gauges.TenantGauges.{TenantGauges}

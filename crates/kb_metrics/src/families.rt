@@ -1,20 +1,21 @@
 //! What the text format says of tenants, and of a tenant's partitions.
 
-ghost use Rattle.std.specs.Prelude.{◌≡◌, ◌++◌, map, OnOk, Some, option_copied};
+ghost use Rattle.std.specs.Prelude.{◌≡◌, ◌++◌, IfOk, OnOk, Some, map, option_copied};
 ghost use Rattle.std.specs.List.{flat_map};
-ghost use Rattle.kb_metrics.specs.Families.{all_families, api_name, api_text, commit_text, commits_text, committed_text, counted_text};
-ghost use Rattle.kb_metrics.specs.Families.{end_text, ends_text, families_text, family_text, help_of, kind_of, lag_text, members_text};
-ghost use Rattle.kb_metrics.specs.Families.{name_of, number_text, offsets_text, requests_text};
+ghost use Rattle.kb_metrics.specs.Families.{all_families, api_name, api_text, commit_text, committed_text, counted_text};
+ghost use Rattle.kb_metrics.specs.Families.{end_text, ends_text, families_text, family_text, front_of, head_of};
+ghost use Rattle.kb_metrics.specs.Families.{lag_text, members_text, number_text, offset_text, offsets_text, requests_text};
 ghost use Rattle.kb_metrics.specs.Families.{said_of, start_text, starts_text, tenant_label};
 ghost use Rattle.kb_metrics.specs.Rows.{commit_row, group_row, lag_row, partition_row, tenant_row};
-ghost use Rattle.kb_metrics.specs.Text.{label_of};
+ghost use Rattle.kb_metrics.specs.Text.{counter_head, gauge_head, head_seen, label_of};
 
+use crate::row::{Row, push_rows};
 use crate::rows::{CommitRow, GroupRow, LagRow, PartitionRow, TenantRow};
-use crate::text::{Kind, Label, push_head, push_sample, push_signed_sample};
+use crate::text::{Head, Kind, Label, push_behind, push_family, push_front, push_sample};
 use itoa::Buffer;
 use std::alloc::AllocError;
 
-/// What is counted of a tenant.
+/// What is counted of a tenant, or of its partitions.
 #[derive(Clone, Copy, Debug, PartialEq, Eq)]
 pub enum Family {
     Connections,
@@ -27,58 +28,71 @@ pub enum Family {
     RequestBytes,
     ResponseBytes,
     Refusals,
+    Start,
+    End,
+    Committed,
 }
 
 impl Family {
-    fn name(self) -> &'static str
-        ensures { result.now ≡ name_of self }
+    fn head(self) -> Head
+        ensures { head_seen result ≡ head_of self }
     {
         match self {
-            Family::Connections => "kbroker_connections",
-            Family::Waiting => "kbroker_waiting_requests",
-            Family::Topics => "kbroker_topics",
-            Family::Partitions => "kbroker_partitions",
-            Family::Members => "kbroker_group_members",
-            Family::Lag => "kbroker_group_lag",
-            Family::Requests => "kbroker_requests_total",
-            Family::RequestBytes => "kbroker_request_bytes_total",
-            Family::ResponseBytes => "kbroker_response_bytes_total",
-            Family::Refusals => "kbroker_refusals_total",
+            Family::Connections => gauge(
+                "kbroker_connections",
+                "Open connections that are logged in.",
+            ),
+            Family::Waiting => gauge(
+                "kbroker_waiting_requests",
+                "Connections that wait for the answer to a request.",
+            ),
+            Family::Topics => gauge("kbroker_topics", "Topics."),
+            Family::Partitions => gauge("kbroker_partitions", "Partitions of all topics."),
+            Family::Members => gauge("kbroker_group_members", "Members of each group."),
+            Family::Lag => gauge(
+                "kbroker_group_lag",
+                "Records between the committed offsets and the ends of the partitions to which the group committed.",
+            ),
+            Family::Requests => counter("kbroker_requests_total", "Requests, by API."),
+            Family::RequestBytes => counter("kbroker_request_bytes_total", "Bytes of requests."),
+            Family::ResponseBytes => counter("kbroker_response_bytes_total", "Bytes of responses."),
+            Family::Refusals => counter(
+                "kbroker_refusals_total",
+                "Calls of memory and of the store that were refused.",
+            ),
+            Family::Start => gauge(
+                "kbroker_partition_start_offset",
+                "Offset of the first record.",
+            ),
+            Family::End => gauge(
+                "kbroker_partition_end_offset",
+                "Offset behind the last record.",
+            ),
+            Family::Committed => gauge(
+                "kbroker_group_committed_offset",
+                "Offset that a group committed.",
+            ),
         }
     }
+}
 
-    fn help(self) -> &'static str
-        ensures { result.now ≡ help_of self }
-    {
-        match self {
-            Family::Connections => "Open connections that are logged in.",
-            Family::Waiting => "Connections that wait for the answer to a request.",
-            Family::Topics => "Topics.",
-            Family::Partitions => "Partitions of all topics.",
-            Family::Members => "Members of each group.",
-            Family::Lag => {
-                "Records between the committed offsets and the ends of the partitions to which the group committed."
-            }
-            Family::Requests => "Requests, by API.",
-            Family::RequestBytes => "Bytes of requests.",
-            Family::ResponseBytes => "Bytes of responses.",
-            Family::Refusals => "Calls of memory and of the store that were refused.",
-        }
+fn gauge(name: &'static str, help: &'static str) -> Head
+    ensures { head_seen result ≡ gauge_head name.now help.now }
+{
+    Head {
+        name,
+        help,
+        kind: Kind::Gauge,
     }
+}
 
-    fn kind(self) -> Kind
-        ensures { result ≡ kind_of self }
-    {
-        match self {
-            Family::Requests | Family::RequestBytes | Family::ResponseBytes | Family::Refusals =>
-                Kind::Counter,
-            Family::Connections
-            | Family::Waiting
-            | Family::Topics
-            | Family::Partitions
-            | Family::Members
-            | Family::Lag => Kind::Gauge,
-        }
+fn counter(name: &'static str, help: &'static str) -> Head
+    ensures { head_seen result ≡ counter_head name.now help.now }
+{
+    Head {
+        name,
+        help,
+        kind: Kind::Counter,
     }
 }
 
@@ -139,50 +153,29 @@ fn push_each_family(
     ensures { OnOk result (out.new.items ≡ out.old.items ++ flat_map (family_text (map tenant_row tenants.now)) families.now) }
 {
     for family in families {
-        push_family(out, *family, tenants)?;
+        push_tenants(out, *family, tenants)?;
     }
     Ok(())
 }
 
 /// Writes a family of tenants.
-fn push_family(
+fn push_tenants(
     out: &mut Vec<u8>,
     family: Family,
     tenants: &[TenantRow<'_>],
 ) -> Result<(), AllocError>
     ensures { OnOk result (out.new.items ≡ out.old.items ++ family_text (map tenant_row tenants.now) family) }
 {
-    push_head(out, family.name(), family.help(), family.kind())?;
-    push_each(out, family, tenants)
+    push_family(out, family.head(), family, tenants)
 }
 
-/// Writes what a family says of each tenant.
-fn push_each(out: &mut Vec<u8>, family: Family, tenants: &[TenantRow<'_>]) -> Result<(), AllocError>
-    ensures { OnOk result (out.new.items ≡ out.old.items ++ flat_map (said_of family) (map tenant_row tenants.now)) }
+/// What stands in front of each sample of a family: its name, and the label of its tenant.
+fn front(out: &Vec<u8>, family: Family, tenant: &str) -> Result<Vec<u8>, AllocError>
+    ensures { IfOk result (λ front. front.items ≡ front_of family tenant.now) }
 {
-    for tenant in tenants {
-        push_one(out, family, tenant)?;
-    }
-    Ok(())
-}
-
-/// Writes what a family says of a tenant.
-fn push_one(out: &mut Vec<u8>, family: Family, tenant: &TenantRow<'_>) -> Result<(), AllocError>
-    ensures { OnOk result (out.new.items ≡ out.old.items ++ said_of family (tenant_row tenant.now)) }
-{
-    let name = family.name();
-    match family {
-        Family::Connections => push_number(out, name, tenant.name, tenant.connections),
-        Family::Waiting => push_number(out, name, tenant.name, tenant.waiting),
-        Family::Topics => push_number(out, name, tenant.name, tenant.topics),
-        Family::Partitions => push_number(out, name, tenant.name, tenant.partitions),
-        Family::Members => push_members(out, name, tenant.name, &tenant.groups),
-        Family::Lag => push_lags(out, name, tenant.name, &tenant.lags),
-        Family::Requests => push_requests(out, name, tenant.name, tenant.requests),
-        Family::RequestBytes => push_number(out, name, tenant.name, tenant.request_bytes),
-        Family::ResponseBytes => push_number(out, name, tenant.name, tenant.response_bytes),
-        Family::Refusals => push_number(out, name, tenant.name, tenant.refusals),
-    }
+    let mut front = Vec::new(*out.allocator());
+    push_front(&mut front, family.head().name, tenant_label(tenant))?;
+    Ok(front)
 }
 
 fn tenant_label(tenant: &str) -> Label<'_>
@@ -194,123 +187,154 @@ fn tenant_label(tenant: &str) -> Label<'_>
     }
 }
 
+/// What a family says of a tenant.
+impl<'a> Row<Family> for TenantRow<'a> {
+    ghost use Rattle.kb_metrics.specs.Rows.{Tenant};
+
+    ghost Seen = { Tenant };
+
+    ghost seen = { tenant_row };
+
+    ghost text = { said_of };
+
+    fn push(&self, out: &mut Vec<u8>, family: Family) -> Result<(), AllocError> {
+        let tenant = self.name;
+        match family {
+            Family::Connections => push_number(out, family, tenant, self.connections),
+            Family::Waiting => push_number(out, family, tenant, self.waiting),
+            Family::Topics => push_number(out, family, tenant, self.topics),
+            Family::Partitions => push_number(out, family, tenant, self.partitions),
+            Family::Members => push_members(out, family, tenant, &self.groups),
+            Family::Lag => push_lags(out, family, tenant, &self.lags),
+            Family::Requests => push_requests(out, family, tenant, self.requests),
+            Family::RequestBytes => push_number(out, family, tenant, self.request_bytes),
+            Family::ResponseBytes => push_number(out, family, tenant, self.response_bytes),
+            Family::Refusals => push_number(out, family, tenant, self.refusals),
+            Family::Start | Family::End | Family::Committed => Ok(()),
+        }
+    }
+}
+
 /// Writes a number of a tenant.
-fn push_number(out: &mut Vec<u8>, family: &str, tenant: &str, value: u64) -> Result<(), AllocError>
-    ensures { OnOk result (out.new.items ≡ out.old.items ++ number_text family.now tenant.now value) }
+fn push_number(
+    out: &mut Vec<u8>,
+    family: Family,
+    tenant: &str,
+    value: u64,
+) -> Result<(), AllocError>
+    ensures { OnOk result (out.new.items ≡ out.old.items ++ number_text family tenant.now value) }
 {
-    push_sample(out, family, tenant_label(tenant), &[], value)
+    push_sample(out, family.head().name, tenant_label(tenant), &[], value)
 }
 
 /// Writes how many members each group has.
 fn push_members(
     out: &mut Vec<u8>,
-    family: &str,
+    family: Family,
     tenant: &str,
     groups: &[GroupRow<'_>],
 ) -> Result<(), AllocError>
     ensures { OnOk result (out.new.items
-        ≡ out.old.items ++ flat_map (members_text family.now tenant.now) (map group_row groups.now)) }
+        ≡ out.old.items ++ flat_map (members_text (front_of family tenant.now)) (map group_row groups.now)) }
 {
-    for group in groups {
-        push_group(out, family, tenant, group)?;
-    }
-    Ok(())
+    let front = front(out, family, tenant)?;
+    push_rows(out, front.as_slice(), groups)
 }
 
-/// Writes how many members a group has.
-fn push_group(
-    out: &mut Vec<u8>,
-    family: &str,
-    tenant: &str,
-    group: &GroupRow<'_>,
-) -> Result<(), AllocError>
-    ensures { OnOk result (out.new.items ≡ out.old.items ++ members_text family.now tenant.now (group_row group.now)) }
-{
-    let more = [Label {
-        name: "group",
-        value: group.id,
-    }];
-    push_sample(out, family, tenant_label(tenant), &more, group.members)
+/// How many members a group has.
+impl<'a, 'b> Row<&'b [u8]> for GroupRow<'a> {
+    ghost use Rattle.kb_metrics.specs.Rows.{Group};
+
+    ghost Seen = { Group };
+
+    ghost seen = { group_row };
+
+    ghost text = { λ front. members_text front.now };
+
+    fn push(&self, out: &mut Vec<u8>, front: &'b [u8]) -> Result<(), AllocError> {
+        let more = [Label {
+            name: "group",
+            value: self.id,
+        }];
+        push_behind(out, front, &more, self.members)
+    }
 }
 
 /// Writes how far each group is behind in each topic.
 fn push_lags(
     out: &mut Vec<u8>,
-    family: &str,
+    family: Family,
     tenant: &str,
     lags: &[LagRow<'_>],
 ) -> Result<(), AllocError>
     ensures { OnOk result (out.new.items
-        ≡ out.old.items ++ flat_map (lag_text family.now tenant.now) (map lag_row lags.now)) }
+        ≡ out.old.items ++ flat_map (lag_text (front_of family tenant.now)) (map lag_row lags.now)) }
 {
-    for lag in lags {
-        push_lag(out, family, tenant, lag)?;
-    }
-    Ok(())
+    let front = front(out, family, tenant)?;
+    push_rows(out, front.as_slice(), lags)
 }
 
-/// Writes how far a group is behind in a topic.
-fn push_lag(
-    out: &mut Vec<u8>,
-    family: &str,
-    tenant: &str,
-    lag: &LagRow<'_>,
-) -> Result<(), AllocError>
-    ensures { OnOk result (out.new.items ≡ out.old.items ++ lag_text family.now tenant.now (lag_row lag.now)) }
-{
-    let more = [
-        Label {
-            name: "group",
-            value: lag.group.as_bytes(),
-        },
-        Label {
-            name: "topic",
-            value: lag.topic.as_bytes(),
-        },
-    ];
-    push_sample(out, family, tenant_label(tenant), &more, lag.value)
+/// How far a group is behind in a topic.
+impl<'a, 'b> Row<&'b [u8]> for LagRow<'a> {
+    ghost use Rattle.kb_metrics.specs.Rows.{Lag};
+
+    ghost Seen = { Lag };
+
+    ghost seen = { lag_row };
+
+    ghost text = { λ front. lag_text front.now };
+
+    fn push(&self, out: &mut Vec<u8>, front: &'b [u8]) -> Result<(), AllocError> {
+        let more = [
+            Label {
+                name: "group",
+                value: self.group.as_bytes(),
+            },
+            Label {
+                name: "topic",
+                value: self.topic.as_bytes(),
+            },
+        ];
+        push_behind(out, front, &more, self.value)
+    }
 }
 
 /// Writes how many requests there were, by API.
 fn push_requests(
     out: &mut Vec<u8>,
-    family: &str,
+    family: Family,
     tenant: &str,
     requests: &[u64],
 ) -> Result<(), AllocError>
-    ensures { OnOk result (out.new.items ≡ out.old.items ++ requests_text family.now tenant.now requests.now) }
+    ensures { OnOk result (out.new.items ≡ out.old.items ++ requests_text (front_of family tenant.now) requests.now) }
+{
+    let front = front(out, family, tenant)?;
+    push_each_api(out, &front, requests)
+}
+
+/// Writes how many requests of each API there were.
+fn push_each_api(out: &mut Vec<u8>, front: &[u8], requests: &[u64]) -> Result<(), AllocError>
+    ensures { OnOk result (out.new.items ≡ out.old.items ++ requests_text front.now requests.now) }
 {
     for key in 0..requests.len() {
-        push_api(out, family, tenant, key, requests[key])?;
+        push_api(out, front, key, requests[key])?;
     }
     Ok(())
 }
 
 /// Writes how many requests of an API there were.
-fn push_api(
-    out: &mut Vec<u8>,
-    family: &str,
-    tenant: &str,
-    key: usize,
-    count: u64,
-) -> Result<(), AllocError>
-    ensures { OnOk result (out.new.items ≡ out.old.items ++ api_text family.now tenant.now (key, count)) }
+fn push_api(out: &mut Vec<u8>, front: &[u8], key: usize, count: u64) -> Result<(), AllocError>
+    ensures { OnOk result (out.new.items ≡ out.old.items ++ api_text front.now (key, count)) }
 {
     match api_name(key) {
-        Some(api) => push_counted(out, family, tenant, api, count),
+        Some(api) => push_counted(out, front, api, count),
         None => Ok(()),
     }
 }
 
 /// Writes how many requests of an API there were, where there were some.
-fn push_counted(
-    out: &mut Vec<u8>,
-    family: &str,
-    tenant: &str,
-    api: &str,
-    count: u64,
-) -> Result<(), AllocError>
-    ensures { OnOk result (out.new.items ≡ out.old.items ++ counted_text family.now tenant.now (Some api.now) count) }
+fn push_counted(out: &mut Vec<u8>, front: &[u8], api: &str, count: u64) -> Result<(), AllocError>
+    ensures { OnOk result (out.new.items ≡ out.old.items ++ counted_text front.now (Some api.now) count) }
 {
     if count == 0 {
         return Ok(());
@@ -319,7 +343,7 @@ fn push_counted(
         name: "api",
         value: api.as_bytes(),
     }];
-    push_sample(out, family, tenant_label(tenant), &more, count)
+    push_behind(out, front, &more, count)
 }
 
 /// Writes where partitions start and end.
@@ -330,16 +354,32 @@ pub(crate) fn push_offsets(
 ) -> Result<(), AllocError>
     ensures { OnOk result (out.new.items ≡ out.old.items ++ offsets_text tenant.now (map partition_row partitions.now)) }
 {
-    let start = "Offset of the first record.";
-    push_starts(
-        out,
-        "kbroker_partition_start_offset",
-        start,
-        tenant,
-        partitions,
-    )?;
-    let end = "Offset behind the last record.";
-    push_ends(out, "kbroker_partition_end_offset", end, tenant, partitions)
+    push_starts(out, tenant, partitions)?;
+    push_ends(out, tenant, partitions)
+}
+
+#[tactic(auto, unfolding(crate::specs::Families::starts_text))]
+fn push_starts(
+    out: &mut Vec<u8>,
+    tenant: &str,
+    partitions: &[PartitionRow<'_>],
+) -> Result<(), AllocError>
+    ensures { OnOk result (out.new.items ≡ out.old.items ++ starts_text tenant.now (map partition_row partitions.now)) }
+{
+    let front = front(out, Family::Start, tenant)?;
+    push_family(out, Family::Start.head(), Starts(&front), partitions)
+}
+
+#[tactic(auto, unfolding(crate::specs::Families::ends_text))]
+fn push_ends(
+    out: &mut Vec<u8>,
+    tenant: &str,
+    partitions: &[PartitionRow<'_>],
+) -> Result<(), AllocError>
+    ensures { OnOk result (out.new.items ≡ out.old.items ++ ends_text tenant.now (map partition_row partitions.now)) }
+{
+    let front = front(out, Family::End, tenant)?;
+    push_family(out, Family::End.head(), Ends(&front), partitions)
 }
 
 /// Writes what groups committed to partitions.
@@ -350,113 +390,55 @@ pub(crate) fn push_committed(
 ) -> Result<(), AllocError>
     ensures { OnOk result (out.new.items ≡ out.old.items ++ committed_text tenant.now (map commit_row commits.now)) }
 {
-    let help = "Offset that a group committed.";
-    push_commits(out, "kbroker_group_committed_offset", help, tenant, commits)
+    let front = front(out, Family::Committed, tenant)?;
+    push_family(out, Family::Committed.head(), front.as_slice(), commits)
 }
 
-/// Writes where each partition starts, under a head.
-#[tactic(auto, unfolding(crate::specs::Families::starts_text))]
-fn push_starts(
-    out: &mut Vec<u8>,
-    family: &str,
-    help: &str,
-    tenant: &str,
-    partitions: &[PartitionRow<'_>],
-) -> Result<(), AllocError>
-    ensures { OnOk result (out.new.items
-        ≡ out.old.items ++ starts_text family.now help.now tenant.now (map partition_row partitions.now)) }
-{
-    push_head(out, family, help, Kind::Gauge)?;
-    push_each_start(out, family, tenant, partitions)
-}
+/// The front of samples that tell where a partition starts.
+#[derive(Clone, Copy)]
+struct Starts<'a>(&'a [u8]);
 
-/// Writes where each partition starts.
-fn push_each_start(
-    out: &mut Vec<u8>,
-    family: &str,
-    tenant: &str,
-    partitions: &[PartitionRow<'_>],
-) -> Result<(), AllocError>
-    ensures { OnOk result (out.new.items
-        ≡ out.old.items ++ flat_map (start_text family.now tenant.now) (map partition_row partitions.now)) }
-{
-    for partition in partitions {
-        push_start(out, family, tenant, partition)?;
+impl<'a, 'b> Row<Starts<'b>> for PartitionRow<'a> {
+    ghost use Rattle.kb_metrics.specs.Rows.{Partition};
+
+    ghost Seen = { Partition };
+
+    ghost seen = { partition_row };
+
+    ghost text = { λ front. start_text front.0.now };
+
+    fn push(&self, out: &mut Vec<u8>, front: Starts<'b>) -> Result<(), AllocError> {
+        push_offset(out, front.0, self, self.start)
     }
-    Ok(())
 }
 
-/// Writes where each partition ends, under a head.
-#[tactic(auto, unfolding(crate::specs::Families::ends_text))]
-fn push_ends(
-    out: &mut Vec<u8>,
-    family: &str,
-    help: &str,
-    tenant: &str,
-    partitions: &[PartitionRow<'_>],
-) -> Result<(), AllocError>
-    ensures { OnOk result (out.new.items
-        ≡ out.old.items ++ ends_text family.now help.now tenant.now (map partition_row partitions.now)) }
-{
-    push_head(out, family, help, Kind::Gauge)?;
-    push_each_end(out, family, tenant, partitions)
-}
+/// The front of samples that tell where a partition ends.
+#[derive(Clone, Copy)]
+struct Ends<'a>(&'a [u8]);
 
-/// Writes where each partition ends.
-fn push_each_end(
-    out: &mut Vec<u8>,
-    family: &str,
-    tenant: &str,
-    partitions: &[PartitionRow<'_>],
-) -> Result<(), AllocError>
-    ensures { OnOk result (out.new.items
-        ≡ out.old.items ++ flat_map (end_text family.now tenant.now) (map partition_row partitions.now)) }
-{
-    for partition in partitions {
-        push_end(out, family, tenant, partition)?;
+impl<'a, 'b> Row<Ends<'b>> for PartitionRow<'a> {
+    ghost use Rattle.kb_metrics.specs.Rows.{Partition};
+
+    ghost Seen = { Partition };
+
+    ghost seen = { partition_row };
+
+    ghost text = { λ front. end_text front.0.now };
+
+    fn push(&self, out: &mut Vec<u8>, front: Ends<'b>) -> Result<(), AllocError> {
+        push_offset(out, front.0, self, self.end)
     }
-    Ok(())
 }
 
-/// Writes what each group committed, under a head.
-#[tactic(auto, unfolding(crate::specs::Families::commits_text))]
-fn push_commits(
+/// Writes an offset of a partition.
+fn push_offset(
     out: &mut Vec<u8>,
-    family: &str,
-    help: &str,
-    tenant: &str,
-    commits: &[CommitRow<'_>],
-) -> Result<(), AllocError>
-    ensures { OnOk result (out.new.items
-        ≡ out.old.items ++ commits_text family.now help.now tenant.now (map commit_row commits.now)) }
-{
-    push_head(out, family, help, Kind::Gauge)?;
-    push_each_commit(out, family, tenant, commits)
-}
-
-/// Writes what each group committed.
-fn push_each_commit(
-    out: &mut Vec<u8>,
-    family: &str,
-    tenant: &str,
-    commits: &[CommitRow<'_>],
-) -> Result<(), AllocError>
-    ensures { OnOk result (out.new.items
-        ≡ out.old.items ++ flat_map (commit_text family.now tenant.now) (map commit_row commits.now)) }
-{
-    for commit in commits {
-        push_commit(out, family, tenant, commit)?;
-    }
-    Ok(())
-}
-
-fn push_start(
-    out: &mut Vec<u8>,
-    family: &str,
-    tenant: &str,
+    front: &[u8],
     partition: &PartitionRow<'_>,
+    offset: i64,
 ) -> Result<(), AllocError>
-    ensures { OnOk result (out.new.items ≡ out.old.items ++ start_text family.now tenant.now (partition_row partition.now)) }
+    ensures { OnOk result (out.new.items
+        ≡ out.old.items ++ offset_text front.now (partition_row partition.now) offset) }
 {
     let mut buffer = Buffer::new();
     let more = [
@@ -469,53 +451,35 @@ fn push_start(
             value: buffer.format(partition.number).as_bytes(),
         },
     ];
-    push_signed_sample(out, family, tenant_label(tenant), &more, partition.start)
+    push_behind(out, front, &more, offset)
 }
 
-fn push_end(
-    out: &mut Vec<u8>,
-    family: &str,
-    tenant: &str,
-    partition: &PartitionRow<'_>,
-) -> Result<(), AllocError>
-    ensures { OnOk result (out.new.items ≡ out.old.items ++ end_text family.now tenant.now (partition_row partition.now)) }
-{
-    let mut buffer = Buffer::new();
-    let more = [
-        Label {
-            name: "topic",
-            value: partition.topic.as_bytes(),
-        },
-        Label {
-            name: "partition",
-            value: buffer.format(partition.number).as_bytes(),
-        },
-    ];
-    push_signed_sample(out, family, tenant_label(tenant), &more, partition.end)
-}
+/// What a group committed to a partition.
+impl<'a, 'b> Row<&'b [u8]> for CommitRow<'a> {
+    ghost use Rattle.kb_metrics.specs.Rows.{Commit};
 
-fn push_commit(
-    out: &mut Vec<u8>,
-    family: &str,
-    tenant: &str,
-    commit: &CommitRow<'_>,
-) -> Result<(), AllocError>
-    ensures { OnOk result (out.new.items ≡ out.old.items ++ commit_text family.now tenant.now (commit_row commit.now)) }
-{
-    let mut buffer = Buffer::new();
-    let more = [
-        Label {
-            name: "group",
-            value: commit.group.as_bytes(),
-        },
-        Label {
-            name: "topic",
-            value: commit.topic.as_bytes(),
-        },
-        Label {
-            name: "partition",
-            value: buffer.format(commit.number).as_bytes(),
-        },
-    ];
-    push_signed_sample(out, family, tenant_label(tenant), &more, commit.offset)
+    ghost Seen = { Commit };
+
+    ghost seen = { commit_row };
+
+    ghost text = { λ front. commit_text front.now };
+
+    fn push(&self, out: &mut Vec<u8>, front: &'b [u8]) -> Result<(), AllocError> {
+        let mut buffer = Buffer::new();
+        let more = [
+            Label {
+                name: "group",
+                value: self.group.as_bytes(),
+            },
+            Label {
+                name: "topic",
+                value: self.topic.as_bytes(),
+            },
+            Label {
+                name: "partition",
+                value: buffer.format(self.number).as_bytes(),
+            },
+        ];
+        push_behind(out, front, &more, self.offset)
+    }
 }

@@ -104,7 +104,7 @@ fn lag_rows<'a, L: PartitionLog>(
     Ok(rows)
 }
 
-/// Puts a row for each group that committed to a topic.
+/// Puts a row for each group that committed to a topic. Where there is none its partitions are not looked at.
 fn push_topic_lags<'a, L: PartitionLog>(
     alloc: Global,
     rows: &mut Vec<LagRow<'a>>,
@@ -116,6 +116,9 @@ fn push_topic_lags<'a, L: PartitionLog>(
         ≡ map lag_row rows.old.items ++ topic_lags (world_of L.log parts.now files) (instance, topic.now)) }
 {
     let groups = groups_in(alloc, topic)?;
+    if groups.is_empty() {
+        return Ok(());
+    }
     let slots = slots(alloc, parts, instance, topic.partitions().len())?;
     for group in &groups {
         push_lag(rows, &slots, group, topic.name())?;

@@ -1,14 +1,14 @@
 //! How far groups are behind.
 
-ghost use Rattle.std.specs.Prelude.{◌≡◌, ◌++◌, ◌-ℤ◌, IfOk, OnOk, map, option_copied, slice_get};
+ghost use Rattle.std.specs.Prelude.{◌≡◌, ◌++◌, ◌-ℤ◌, IfOk, OnOk, map, option_copied, slice_get, true};
 ghost use Rattle.std.specs.Option.{option_and_then};
-ghost use Rattle.std.specs.List.{range_with_len};
+ghost use Rattle.std.specs.List.{Contains, range_with_len};
 ghost use Rattle.kb_batch.specs.Batch.{natural};
 ghost use Rattle.kb_settings.specs.Names.{in_order};
 ghost use Rattle.kb_store.specs.Disk.{Files};
 ghost use Rattle.kb_tenant_state.specs.Parts.{world_of};
 ghost use Rattle.kb_metrics.specs.Gauges.{groups_at, groups_in};
-ghost use Rattle.kb_metrics.specs.Slots.{lag_among, lag_in, slot_at, slot_of};
+ghost use Rattle.kb_metrics.specs.Slots.{HaveSame, lag_among, lag_in, slot_at, slot_of};
 
 use kb_log::PartitionLog;
 use kb_tenant_state::{Parts, TopicPartition};
@@ -108,13 +108,28 @@ fn in_order<'a>(mut names: Vec<&'a str>) -> Vec<&'a str>
     names
 }
 
-/// Puts the groups that committed to a partition behind those.
+/// Puts the groups that committed to a partition behind those. One that stands at the same place already is not put again: mostly the
+/// same groups committed to all partitions of a topic, and then there is nothing to sort.
 fn push_groups<'a>(groups: &mut Vec<&'a str>, partition: &'a Partition) -> Result<(), AllocError>
-    ensures { OnOk result (map (λ group. group.now) groups.new.items
-        ≡ map (λ group. group.now) groups.old.items ++ groups_at partition.now) }
+    ensures { OnOk result (HaveSame (map (λ group. group.now) groups.new.items)
+        (map (λ group. group.now) groups.old.items ++ groups_at partition.now)) }
 {
+    let mut place: usize = 0;
     for (group, _) in partition.commits() {
-        groups.push(group.as_str())?;
+        if !is_at(groups, place, group.as_str()) {
+            groups.push(group.as_str())?;
+        }
+        place = place.saturating_add(1);
     }
     Ok(())
+}
+
+/// Whether a name stands at a place of names.
+fn is_at(names: &[&str], place: usize, name: &str) -> bool
+    ensures { result ≡ true → Contains (map (λ n. n.now) names.now) name.now }
+{
+    if place >= names.len() {
+        return false;
+    }
+    names[place] == name
 }

@@ -6,7 +6,7 @@
 //! [`push_tenant_status`] write HTML without scripts, in which no byte of a name begins a tag ([`names_begin_no_tag`]). [`Rates`] keeps the
 //! bytes of each of the last 120 seconds.
 //!
-//! Rows are gathered from the state first (`gather`), and then written.
+//! Rows are gathered from the state first (`gather`), and then written. What is written of a row stands in its `impl` of `Row`.
 #![tactic(auto)]
 
 mod families;
@@ -17,6 +17,7 @@ mod laws;
 mod markup;
 mod pages;
 mod rates;
+mod row;
 mod rows;
 mod server;
 mod status;
@@ -25,6 +26,6 @@ mod text;
 pub use gauges::{TenantGauges, Traffic, push_partitions, push_tenants};
 pub use laws::{label_values_are_read_back, names_begin_no_tag};
 pub use pages::{push_status, push_tenant_status};
-pub use rates::{Noted, Rates};
+pub use rates::{Noted, PerSecond, Rates};
 pub use server::{Closed, ProcessGauges, ServerGauges, push_process, push_server};
-pub use text::{Figure, Kind, Label, Value, push_figures, push_head, push_sample};
+pub use text::{Figure, Kind, Label, Value, push_figures, push_number, push_sample};

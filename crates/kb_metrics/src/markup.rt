@@ -1,13 +1,14 @@
 //! HTML: how names and numbers stand on a page.
 
-ghost use Rattle.std.specs.Prelude.{◌≡◌, ◌++◌, ◌<◌, map, length, decimal, OnOk};
+ghost use Rattle.std.specs.Prelude.{◌≡◌, ◌++◌, ◌<◌, map, length, decimal, OnOk, true};
 ghost use Rattle.std.specs.List.{flat_map, range_with_len};
 ghost use Rattle.kb_metrics.specs.Markup.{cell, cell_of, cell_start, entity, fact_of, fact_text, greatest, hex_digit, is_unreserved};
 ghost use Rattle.kb_metrics.specs.Markup.{known_line, line_text, link_cell, marked, name_cell, newest, plot_cell, point_text, points_text};
 ghost use Rattle.kb_metrics.specs.Markup.{query, query_byte, sample_at, signed_cell, tag_text};
 ghost use Rattle.kb_metrics.specs.Text.{value_text};
 
-use crate::text::{Value, push_decimal, push_signed, push_value};
+use crate::row::{Row, push_rows};
+use crate::text::{Value, push_number, push_value};
 use std::alloc::AllocError;
 
 /// A tag, with all that stands in it beside names and numbers.
@@ -70,8 +71,31 @@ pub(crate) fn push_tag(out: &mut Vec<u8>, tag: Tag) -> Result<(), AllocError>
     out.extend_from_slice(tag.text().as_bytes())
 }
 
-/// Writes a name.
+/// Writes a name, at once where none of its bytes is an entity.
 pub(crate) fn push_marked(out: &mut Vec<u8>, name: &[u8]) -> Result<(), AllocError>
+    ensures { OnOk result (out.new.items ≡ out.old.items ++ marked name.now) }
+{
+    if is_bare(name) {
+        out.extend_from_slice(name)
+    } else {
+        push_entities(out, name)
+    }
+}
+
+/// Whether a name is written as it is.
+fn is_bare(name: &[u8]) -> bool
+    ensures { result ≡ true → marked name.now ≡ name.now }
+{
+    for byte in name {
+        if matches!(*byte, b'&' | b'<' | b'>' | b'"' | b'\'') {
+            return false;
+        }
+    }
+    true
+}
+
+/// Writes a name, byte by byte.
+fn push_entities(out: &mut Vec<u8>, name: &[u8]) -> Result<(), AllocError>
     ensures { OnOk result (out.new.items ≡ out.old.items ++ marked name.now) }
 {
     for byte in name {
@@ -169,7 +193,7 @@ pub(crate) fn push_cell(out: &mut Vec<u8>, label: &str, value: u64) -> Result<()
     ensures { OnOk result (out.new.items ≡ out.old.items ++ cell (label.now, value)) }
 {
     push_cell_start(out, label)?;
-    push_decimal(out, value)?;
+    push_number(out, value)?;
     push_tag(out, Tag::CellEnd)
 }
 
@@ -179,7 +203,7 @@ pub(crate) fn push_signed_cell(out: &mut Vec<u8>, label: &str, value: i64) -> Re
     ensures { OnOk result (out.new.items ≡ out.old.items ++ signed_cell label.now value) }
 {
     push_cell_start(out, label)?;
-    push_signed(out, value)?;
+    push_number(out, value)?;
     push_tag(out, Tag::CellEnd)
 }
 
@@ -187,28 +211,45 @@ pub(crate) fn push_signed_cell(out: &mut Vec<u8>, label: &str, value: i64) -> Re
 pub(crate) fn push_cells(out: &mut Vec<u8>, cells: &[Cell]) -> Result<(), AllocError>
     ensures { OnOk result (out.new.items ≡ out.old.items ++ flat_map cell (map cell_of cells.now)) }
 {
-    for cell in cells {
-        push_cell(out, cell.label, cell.value)?;
+    push_rows(out, (), cells)
+}
+
+impl Row<()> for Cell {
+    ghost use Rattle.std.specs.Prelude.{List, ℕ};
+
+    ghost Seen = { List ℕ × ℕ };
+
+    ghost seen = { cell_of };
+
+    ghost text = { λ place. cell };
+
+    fn push(&self, out: &mut Vec<u8>, _place: ()) -> Result<(), AllocError> {
+        push_cell(out, self.label, self.value)
     }
-    Ok(())
 }
 
 /// Writes lines, those that are known.
 pub(crate) fn push_facts(out: &mut Vec<u8>, facts: &[Fact]) -> Result<(), AllocError>
     ensures { OnOk result (out.new.items ≡ out.old.items ++ flat_map fact_text (map fact_of facts.now)) }
 {
-    for fact in facts {
-        push_fact(out, fact)?;
-    }
-    Ok(())
+    push_rows(out, (), facts)
 }
 
-fn push_fact(out: &mut Vec<u8>, fact: &Fact) -> Result<(), AllocError>
-    ensures { OnOk result (out.new.items ≡ out.old.items ++ fact_text (fact_of fact.now)) }
-{
-    match fact.value {
-        None => Ok(()),
-        Some(value) => push_line(out, fact.label, value),
+impl Row<()> for Fact {
+    ghost use Rattle.std.specs.Prelude.{List, Option, ℕ};
+    ghost use Rattle.kb_metrics.specs.declared.text.Value.{Value};
+
+    ghost Seen = { List ℕ × Option Value };
+
+    ghost seen = { fact_of };
+
+    ghost text = { λ place. fact_text };
+
+    fn push(&self, out: &mut Vec<u8>, _place: ()) -> Result<(), AllocError> {
+        match self.value {
+            None => Ok(()),
+            Some(value) => push_line(out, self.label, value),
+        }
     }
 }
 
@@ -259,7 +300,7 @@ fn push_newest(out: &mut Vec<u8>, samples: &[u64]) -> Result<(), AllocError>
     requires { length samples.now ≡ 120 }
     ensures { OnOk result (out.new.items ≡ out.old.items ++ decimal (newest samples.now)) }
 {
-    push_decimal(out, samples[119])
+    push_number(out, samples[119])
 }
 
 /// Writes the points of a plot.
@@ -287,9 +328,9 @@ fn push_point(out: &mut Vec<u8>, step: u64, place: usize, sample: u64) -> Result
     requires { 0 < step }
     ensures { OnOk result (out.new.items ≡ out.old.items ++ point_text step (place, sample)) }
 {
-    push_decimal(out, place as u64)?;
+    push_number(out, place as u64)?;
     out.push(b',')?;
-    push_decimal(out, 24u64.saturating_sub(sample / step))?;
+    push_number(out, 24u64.saturating_sub(sample / step))?;
     out.push(b' ')?;
     Ok(())
 }

@@ -1,14 +1,16 @@
 //! What is said of the server and of its process.
 
 ghost use Rattle.std.specs.Prelude.{◌≡◌, ◌++◌, OnOk, map};
-ghost use Rattle.std.specs.List.{flat_map};
-ghost use Rattle.kb_metrics.specs.Server.{cause_of, cause_text, causes, causes_text, closed_text, counter, cpu_figure, gauge, info_text};
+ghost use Rattle.kb_metrics.specs.Server.{cause_of, cause_text, causes, closed_text, counter, cpu_figure, gauge, info_text};
 ghost use Rattle.kb_metrics.specs.Server.{known_gauge};
 ghost use Rattle.kb_metrics.specs.Server.{process_figures, process_text};
 ghost use Rattle.kb_metrics.specs.Server.{server_text, socket_figures, trouble_figures, version_text};
-ghost use Rattle.kb_metrics.specs.Text.{figure_of, label_of};
+ghost use Rattle.kb_metrics.specs.Text.{figure_of, head_seen, label_of};
 
-use crate::text::{Figure, Kind, Label, Value, push_figures, push_head, push_sample};
+use crate::row::Row;
+use crate::text::{
+    Figure, Head, Kind, Label, Value, push_family, push_figures, push_head, push_sample,
+};
 use std::alloc::AllocError;
 
 /// How many sockets the broker closed, by cause.
@@ -252,21 +254,12 @@ fn cpu_figure(millis: Option<u64>) -> Figure
 fn push_closed(out: &mut Vec<u8>, closed: &Closed) -> Result<(), AllocError>
     ensures { OnOk result (out.new.items ≡ out.old.items ++ closed_text closed.now) }
 {
-    let help = "Sockets that the broker closed, by cause.";
-    push_causes(out, "kbroker_sockets_closed_total", help, &causes(closed))
-}
-
-/// Writes a family with a sample for each cause.
-fn push_causes(
-    out: &mut Vec<u8>,
-    name: &str,
-    help: &str,
-    causes: &[Cause],
-) -> Result<(), AllocError>
-    ensures { OnOk result (out.new.items ≡ out.old.items ++ causes_text name.now help.now (map cause_of causes.now)) }
-{
-    push_head(out, name, help, Kind::Counter)?;
-    push_each(out, name, causes)
+    let head = Head {
+        name: "kbroker_sockets_closed_total",
+        help: "Sockets that the broker closed, by cause.",
+        kind: Kind::Counter,
+    };
+    push_family(out, head, head.name, &causes(closed))
 }
 
 #[tactic(auto, unfolding(crate::specs::Server::causes))]
@@ -289,25 +282,23 @@ fn closed_for(name: &'static str, count: u64) -> Cause
     Cause { name, count }
 }
 
-/// Writes a sample for each cause.
-fn push_each(out: &mut Vec<u8>, name: &str, causes: &[Cause]) -> Result<(), AllocError>
-    ensures { OnOk result (out.new.items ≡ out.old.items ++ flat_map (cause_text name.now) (map cause_of causes.now)) }
-{
-    for cause in causes {
-        push_cause(out, name, cause)?;
-    }
-    Ok(())
-}
+/// How many sockets were closed for a cause, in a family of that name.
+impl<'a> Row<&'a str> for Cause {
+    ghost use Rattle.std.specs.Prelude.{List, ℕ};
 
-/// Writes a sample for a cause.
-fn push_cause(out: &mut Vec<u8>, name: &str, cause: &Cause) -> Result<(), AllocError>
-    ensures { OnOk result (out.new.items ≡ out.old.items ++ cause_text name.now (cause_of cause.now)) }
-{
-    let why = Label {
-        name: "why",
-        value: cause.name.as_bytes(),
-    };
-    push_sample(out, name, why, &[], cause.count)
+    ghost Seen = { List ℕ × ℕ };
+
+    ghost seen = { cause_of };
+
+    ghost text = { λ name. cause_text name.now };
+
+    fn push(&self, out: &mut Vec<u8>, name: &'a str) -> Result<(), AllocError> {
+        let why = Label {
+            name: "why",
+            value: self.name.as_bytes(),
+        };
+        push_sample(out, name, why, &[], self.count)
+    }
 }
 
 /// Writes which version runs.
@@ -318,13 +309,18 @@ fn push_version(out: &mut Vec<u8>, version: &str) -> Result<(), AllocError>
         name: "version",
         value: version.as_bytes(),
     };
-    push_info(out, "kbroker_build_info", "The version that runs.", label)
+    let head = Head {
+        name: "kbroker_build_info",
+        help: "The version that runs.",
+        kind: Kind::Gauge,
+    };
+    push_info(out, head, label)
 }
 
 /// Writes a family that tells a text, as a label of a sample that is 1.
-fn push_info(out: &mut Vec<u8>, name: &str, help: &str, label: Label<'_>) -> Result<(), AllocError>
-    ensures { OnOk result (out.new.items ≡ out.old.items ++ info_text name.now help.now (label_of label.entry)) }
+fn push_info(out: &mut Vec<u8>, head: Head, label: Label<'_>) -> Result<(), AllocError>
+    ensures { OnOk result (out.new.items ≡ out.old.items ++ info_text (head_seen head) (label_of label.entry)) }
 {
-    push_head(out, name, help, Kind::Gauge)?;
-    push_sample(out, name, label, &[], 1)
+    push_head(out, head)?;
+    push_sample(out, head.name, label, &[], 1)
 }

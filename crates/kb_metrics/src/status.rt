@@ -18,6 +18,7 @@ use crate::markup::{
     push_plot_cell, push_signed_cell, push_tag, push_text_line,
 };
 use crate::rates::Rates;
+use crate::row::{Row, push_rows};
 use crate::rows::{GroupRow, LagRow, PartitionRow, TenantRow};
 use crate::server::{Closed, ProcessGauges, ServerGauges};
 use crate::text::Value;
@@ -87,7 +88,7 @@ pub(crate) fn push_status_page(
     push_begin(out, process)?;
     push_all_facts(out, server, process)?;
     push_piece(out, Piece::Tenants)?;
-    push_rows(out, tenants, rates)?;
+    push_tenants(out, tenants, rates)?;
     push_piece(out, Piece::End)
 }
 
@@ -102,11 +103,11 @@ pub(crate) fn push_tenant_page(
     push_piece(out, Piece::Head)?;
     push_title(out, tenant.name)?;
     push_piece(out, Piece::Partitions)?;
-    push_partition_lines(out, partitions)?;
+    push_rows(out, (), partitions)?;
     push_piece(out, Piece::Groups)?;
-    push_group_lines(out, &tenant.groups)?;
+    push_rows(out, (), tenant.groups.as_slice())?;
     push_piece(out, Piece::Lags)?;
-    push_lag_lines(out, &tenant.lags)?;
+    push_rows(out, (), tenant.lags.as_slice())?;
     push_piece(out, Piece::End)
 }
 
@@ -239,7 +240,7 @@ fn closed_facts(closed: &Closed) -> [Fact; 6]
 
 /// Writes a row for each tenant.
 #[tactic(auto, unfolding(crate::specs::Status::rows_text))]
-fn push_rows(
+fn push_tenants(
     out: &mut Vec<u8>,
     tenants: &[TenantRow<'_>],
     rates: &[Rates],
@@ -335,26 +336,23 @@ fn push_both_plots(out: &mut Vec<u8>, rates: &Rates) -> Result<(), AllocError>
     push_plot_cell(out, "Out a second", rates.responses())
 }
 
-fn push_partition_lines(
-    out: &mut Vec<u8>,
-    partitions: &[PartitionRow<'_>],
-) -> Result<(), AllocError>
-    ensures { OnOk result (out.new.items ≡ out.old.items ++ flat_map partition_line (map partition_row partitions.now)) }
-{
-    for partition in partitions {
-        push_partition_line(out, partition)?;
-    }
-    Ok(())
-}
+/// A partition, as a line.
+impl<'a> Row<()> for PartitionRow<'a> {
+    ghost use Rattle.kb_metrics.specs.Rows.{Partition};
 
-#[tactic(auto, unfolding(crate::specs::Status::partition_line))]
-fn push_partition_line(out: &mut Vec<u8>, partition: &PartitionRow<'_>) -> Result<(), AllocError>
-    ensures { OnOk result (out.new.items ≡ out.old.items ++ partition_line (partition_row partition.now)) }
-{
-    push_tag(out, Tag::Row)?;
-    push_place_cells(out, partition.topic, partition.number)?;
-    push_offset_cells(out, partition.start, partition.end)?;
-    push_tag(out, Tag::RowEnd)
+    ghost Seen = { Partition };
+
+    ghost seen = { partition_row };
+
+    ghost text = { λ place. partition_line };
+
+    #[tactic(auto, unfolding(crate::specs::Status::partition_line))]
+    fn push(&self, out: &mut Vec<u8>, _place: ()) -> Result<(), AllocError> {
+        push_tag(out, Tag::Row)?;
+        push_place_cells(out, self.topic, self.number)?;
+        push_offset_cells(out, self.start, self.end)?;
+        push_tag(out, Tag::RowEnd)
+    }
 }
 
 #[tactic(auto, unfolding(crate::specs::Status::place_cells))]
@@ -373,42 +371,42 @@ fn push_offset_cells(out: &mut Vec<u8>, start: i64, end: i64) -> Result<(), Allo
     push_signed_cell(out, "End", end)
 }
 
-fn push_group_lines(out: &mut Vec<u8>, groups: &[GroupRow<'_>]) -> Result<(), AllocError>
-    ensures { OnOk result (out.new.items ≡ out.old.items ++ flat_map group_line (map group_row groups.now)) }
-{
-    for group in groups {
-        push_group_line(out, group)?;
+/// A group, as a line.
+impl<'a> Row<()> for GroupRow<'a> {
+    ghost use Rattle.kb_metrics.specs.Rows.{Group};
+
+    ghost Seen = { Group };
+
+    ghost seen = { group_row };
+
+    ghost text = { λ place. group_line };
+
+    #[tactic(auto, unfolding(crate::specs::Status::group_line))]
+    fn push(&self, out: &mut Vec<u8>, _place: ()) -> Result<(), AllocError> {
+        push_tag(out, Tag::Row)?;
+        push_name_cell(out, "Group", self.id)?;
+        push_cell(out, "Members", self.members)?;
+        push_signed_cell(out, "Generation", self.generation as i64)?;
+        push_tag(out, Tag::RowEnd)
     }
-    Ok(())
 }
 
-#[tactic(auto, unfolding(crate::specs::Status::group_line))]
-fn push_group_line(out: &mut Vec<u8>, group: &GroupRow<'_>) -> Result<(), AllocError>
-    ensures { OnOk result (out.new.items ≡ out.old.items ++ group_line (group_row group.now)) }
-{
-    push_tag(out, Tag::Row)?;
-    push_name_cell(out, "Group", group.id)?;
-    push_cell(out, "Members", group.members)?;
-    push_signed_cell(out, "Generation", group.generation as i64)?;
-    push_tag(out, Tag::RowEnd)
-}
+/// How far a group is behind in a topic, as a line.
+impl<'a> Row<()> for LagRow<'a> {
+    ghost use Rattle.kb_metrics.specs.Rows.{Lag};
 
-fn push_lag_lines(out: &mut Vec<u8>, lags: &[LagRow<'_>]) -> Result<(), AllocError>
-    ensures { OnOk result (out.new.items ≡ out.old.items ++ flat_map lag_line (map lag_row lags.now)) }
-{
-    for lag in lags {
-        push_lag_line(out, lag)?;
+    ghost Seen = { Lag };
+
+    ghost seen = { lag_row };
+
+    ghost text = { λ place. lag_line };
+
+    #[tactic(auto, unfolding(crate::specs::Status::lag_line))]
+    fn push(&self, out: &mut Vec<u8>, _place: ()) -> Result<(), AllocError> {
+        push_tag(out, Tag::Row)?;
+        push_name_cell(out, "Group", self.group.as_bytes())?;
+        push_name_cell(out, "Topic", self.topic.as_bytes())?;
+        push_cell(out, "Lag", self.value)?;
+        push_tag(out, Tag::RowEnd)
     }
-    Ok(())
-}
-
-#[tactic(auto, unfolding(crate::specs::Status::lag_line))]
-fn push_lag_line(out: &mut Vec<u8>, lag: &LagRow<'_>) -> Result<(), AllocError>
-    ensures { OnOk result (out.new.items ≡ out.old.items ++ lag_line (lag_row lag.now)) }
-{
-    push_tag(out, Tag::Row)?;
-    push_name_cell(out, "Group", lag.group.as_bytes())?;
-    push_name_cell(out, "Topic", lag.topic.as_bytes())?;
-    push_cell(out, "Lag", lag.value)?;
-    push_tag(out, Tag::RowEnd)
 }

@@ -1,13 +1,12 @@
 //! The text format of Prometheus, 0.0.4.
 
-ghost use Rattle.std.specs.Prelude.{◌≡◌, ◌++◌, ◌∷◌, ◌/◌, ◌<◌, [], map, OnOk, decimal};
-ghost use Rattle.std.specs.Fmt.{signed_decimal};
+ghost use Rattle.std.specs.Prelude.{◌≡◌, ◌++◌, ◌∷◌, ◌/◌, ◌<◌, [], map, OnOk, decimal, true};
 ghost use Rattle.std.specs.List.{flat_map};
-ghost use Rattle.kb_metrics.specs.Text.{digit, end_text, escape, escaped, figure_of};
-ghost use Rattle.kb_metrics.specs.Text.{figure_text, head_text, kind_text, label_of, label_text};
-ghost use Rattle.kb_metrics.specs.Text.{known_text, labelled_text, more_text, sample_text, signed_sample_text, value_text};
+ghost use Rattle.kb_metrics.specs.Text.{behind_text, digit, end_text, escape, escaped, figure_of, figure_text, front_text, head_seen};
+ghost use Rattle.kb_metrics.specs.Text.{head_text, kind_text, label_of, label_text, more_text, rows_text, sample_text, value_text};
 
-use itoa::Buffer;
+use crate::row::{Row, push_rows};
+use itoa::{Buffer, Integer};
 use std::alloc::AllocError;
 
 /// What a family counts.
@@ -28,6 +27,15 @@ impl Kind {
             Kind::Gauge => "gauge",
         }
     }
+}
+
+/// What stands in front of the samples of a family.
+#[derive(Clone, Copy)]
+pub struct Head {
+    pub name: &'static str,
+    /// What it counts in words, on one line and without a backslash.
+    pub help: &'static str,
+    pub kind: Kind,
 }
 
 /// A label of a sample.
@@ -60,57 +68,81 @@ pub struct Figure {
     pub value: Option<Value>,
 }
 
-/// Writes what stands in front of the samples of a family: what it counts in words, and its kind. The words are on one line, without
-/// a backslash.
+/// Writes what stands in front of the samples of a family.
 ///
 /// Each of these functions puts its text behind what is there. After an `Err`, which is want of memory, some of it may be there.
-pub fn push_head(out: &mut Vec<u8>, name: &str, help: &str, kind: Kind) -> Result<(), AllocError>
-    ensures { OnOk result (out.new.items ≡ out.old.items ++ head_text name.now help.now kind) }
+pub(crate) fn push_head(out: &mut Vec<u8>, head: Head) -> Result<(), AllocError>
+    ensures { OnOk result (out.new.items ≡ out.old.items ++ head_text (head_seen head)) }
 {
     out.extend_from_slice(b"# HELP ")?;
-    out.extend_from_slice(name.as_bytes())?;
+    out.extend_from_slice(head.name.as_bytes())?;
     out.push(b' ')?;
-    out.extend_from_slice(help.as_bytes())?;
+    out.extend_from_slice(head.help.as_bytes())?;
     out.extend_from_slice(b"\n# TYPE ")?;
-    out.extend_from_slice(name.as_bytes())?;
+    out.extend_from_slice(head.name.as_bytes())?;
     out.push(b' ')?;
-    out.extend_from_slice(kind.text().as_bytes())?;
+    out.extend_from_slice(head.kind.text().as_bytes())?;
     out.push(b'\n')?;
     Ok(())
+}
+
+/// Writes a family: its head, and its rows.
+pub(crate) fn push_family<P: Copy, R: Row<P>>(
+    out: &mut Vec<u8>,
+    head: Head,
+    place: P,
+    rows: &[R],
+) -> Result<(), AllocError>
+    ensures { OnOk result (out.new.items ≡ out.old.items ++ rows_text (head_seen head) (R.text place) (map R.seen rows.now)) }
+{
+    push_head(out, head)?;
+    push_rows(out, place, rows)
 }
 
 /// Writes families of one sample each, those that are known.
 pub fn push_figures(out: &mut Vec<u8>, figures: &[Figure]) -> Result<(), AllocError>
     ensures { OnOk result (out.new.items ≡ out.old.items ++ flat_map figure_text (map figure_of figures.now)) }
 {
-    for figure in figures {
-        push_figure(out, figure)?;
-    }
-    Ok(())
+    push_rows(out, (), figures)
 }
 
-/// Writes a family of one sample, where it is known.
-fn push_figure(out: &mut Vec<u8>, figure: &Figure) -> Result<(), AllocError>
-    ensures { OnOk result (out.new.items ≡ out.old.items ++ figure_text (figure_of figure.now)) }
-{
-    match figure.value {
-        None => Ok(()),
-        Some(value) => push_known(out, figure.name, figure.help, figure.kind, value),
+/// A family of one sample, where it is known.
+impl Row<()> for Figure {
+    ghost use Rattle.kb_metrics.specs.Text.{FigureText, figure_of, figure_text};
+
+    ghost Seen = { FigureText };
+
+    ghost seen = { figure_of };
+
+    ghost text = { λ place. figure_text };
+
+    fn push(&self, out: &mut Vec<u8>, _place: ()) -> Result<(), AllocError> {
+        match self.value {
+            None => Ok(()),
+            Some(value) => push_known(out, self.head(), value),
+        }
+    }
+}
+
+impl Figure {
+    fn head(&self) -> Head
+        ensures { head_seen result ≡ (figure_of self.now).head }
+    {
+        Head {
+            name: self.name,
+            help: self.help,
+            kind: self.kind,
+        }
     }
 }
 
 /// Writes a family of one sample.
-fn push_known(
-    out: &mut Vec<u8>,
-    name: &str,
-    help: &str,
-    kind: Kind,
-    value: Value,
-) -> Result<(), AllocError>
-    ensures { OnOk result (out.new.items ≡ out.old.items ++ head_text name.now help.now kind ++ name.now ++ end_text (value_text value)) }
+fn push_known(out: &mut Vec<u8>, head: Head, value: Value) -> Result<(), AllocError>
+    ensures { OnOk result (out.new.items
+        ≡ out.old.items ++ head_text (head_seen head) ++ head.name.now ++ end_text (value_text value)) }
 {
-    push_head(out, name, help, kind)?;
-    out.extend_from_slice(name.as_bytes())?;
+    push_head(out, head)?;
+    out.extend_from_slice(head.name.as_bytes())?;
     out.push(b' ')?;
     push_value(out, value)?;
     out.push(b'\n')?;
@@ -122,7 +154,7 @@ pub(crate) fn push_value(out: &mut Vec<u8>, value: Value) -> Result<(), AllocErr
     ensures { OnOk result (out.new.items ≡ out.old.items ++ value_text value) }
 {
     match value {
-        Value::Whole(count) => push_decimal(out, count),
+        Value::Whole(count) => push_number(out, count),
         Value::Thousandths(count) => push_thousandths(out, count),
         Value::Millionths(count) => push_millionths(out, count),
     }
@@ -132,7 +164,7 @@ fn push_thousandths(out: &mut Vec<u8>, count: u64) -> Result<(), AllocError>
     ensures { OnOk result (out.new.items
         ≡ out.old.items ++ decimal (count / 1000) ++ 46 ∷ digit count 100 ∷ digit count 10 ∷ digit count 1 ∷ []) }
 {
-    push_decimal(out, count / 1000)?;
+    push_number(out, count / 1000)?;
     out.push(b'.')?;
     push_digits(out, count)
 }
@@ -141,7 +173,7 @@ fn push_millionths(out: &mut Vec<u8>, count: u64) -> Result<(), AllocError>
     ensures { OnOk result (out.new.items ≡ out.old.items ++ decimal (count / 1000000)
         ++ 46 ∷ digit count 100000 ∷ digit count 10000 ∷ digit count 1000 ∷ digit count 100 ∷ digit count 10 ∷ digit count 1 ∷ []) }
 {
-    push_decimal(out, count / 1_000_000)?;
+    push_number(out, count / 1_000_000)?;
     out.push(b'.')?;
     push_digit(out, count, 100_000)?;
     push_digit(out, count, 10_000)?;
@@ -169,16 +201,8 @@ fn push_digit(out: &mut Vec<u8>, count: u64, unit: u64) -> Result<(), AllocError
 }
 
 /// Writes a whole number.
-pub(crate) fn push_decimal(out: &mut Vec<u8>, value: u64) -> Result<(), AllocError>
-    ensures { OnOk result (out.new.items ≡ out.old.items ++ decimal value) }
-{
-    let mut buffer = Buffer::new();
-    out.extend_from_slice(buffer.format(value).as_bytes())
-}
-
-/// Writes a whole number that may be below 0.
-pub(crate) fn push_signed(out: &mut Vec<u8>, value: i64) -> Result<(), AllocError>
-    ensures { OnOk result (out.new.items ≡ out.old.items ++ signed_decimal value) }
+pub fn push_number<I: Integer>(out: &mut Vec<u8>, value: I) -> Result<(), AllocError>
+    ensures { OnOk result (out.new.items ≡ out.old.items ++ I.text value) }
 {
     let mut buffer = Buffer::new();
     out.extend_from_slice(buffer.format(value).as_bytes())
@@ -194,57 +218,61 @@ pub fn push_sample(
 ) -> Result<(), AllocError>
     ensures { OnOk result (out.new.items ≡ out.old.items ++ sample_text name.now (label_of first.entry) (map label_of more.now) value) }
 {
-    push_labelled(out, name, first, more)?;
-    out.push(b' ')?;
-    push_decimal(out, value)?;
+    push_front(out, name, first)?;
+    push_more(out, more)?;
+    push_number(out, value)?;
     out.push(b'\n')?;
     Ok(())
 }
 
-/// The same of a number that may be below 0.
-pub(crate) fn push_signed_sample(
-    out: &mut Vec<u8>,
-    name: &str,
-    first: Label<'_>,
-    more: &[Label<'_>],
-    value: i64,
-) -> Result<(), AllocError>
-    ensures { OnOk result (out.new.items
-        ≡ out.old.items ++ signed_sample_text name.now (label_of first.entry) (map label_of more.now) value) }
-{
-    push_labelled(out, name, first, more)?;
-    out.push(b' ')?;
-    push_signed(out, value)?;
-    out.push(b'\n')?;
-    Ok(())
-}
-
-/// Writes a name with labels.
-fn push_labelled(
-    out: &mut Vec<u8>,
-    name: &str,
-    first: Label<'_>,
-    more: &[Label<'_>],
-) -> Result<(), AllocError>
-    ensures { OnOk result (out.new.items ≡ out.old.items ++ labelled_text name.now (label_of first.entry) (map label_of more.now)) }
+/// Writes what stands in front of samples: a name, and the first label.
+pub(crate) fn push_front(out: &mut Vec<u8>, name: &str, first: Label<'_>) -> Result<(), AllocError>
+    ensures { OnOk result (out.new.items ≡ out.old.items ++ front_text name.now (label_of first.entry)) }
 {
     out.extend_from_slice(name.as_bytes())?;
     out.push(b'{')?;
-    push_label(out, first)?;
+    push_label(out, first)
+}
+
+/// Writes a sample behind its front.
+pub(crate) fn push_behind<I: Integer>(
+    out: &mut Vec<u8>,
+    front: &[u8],
+    more: &[Label<'_>],
+    value: I,
+) -> Result<(), AllocError>
+    ensures { OnOk result (out.new.items ≡ out.old.items ++ behind_text front.now (map label_of more.now) (I.text value)) }
+{
+    out.extend_from_slice(front)?;
     push_more(out, more)?;
-    out.push(b'}')?;
+    push_number(out, value)?;
+    out.push(b'\n')?;
     Ok(())
 }
 
-/// Writes labels, each behind a comma.
+/// Writes labels, each behind a comma, and the brace behind them.
 fn push_more(out: &mut Vec<u8>, labels: &[Label<'_>]) -> Result<(), AllocError>
-    ensures { OnOk result (out.new.items ≡ out.old.items ++ flat_map more_text (map label_of labels.now)) }
+    ensures { OnOk result (out.new.items ≡ out.old.items ++ flat_map more_text (map label_of labels.now) ++ 125 ∷ 32 ∷ []) }
 {
-    for label in labels {
+    push_rows(out, (), labels)?;
+    out.extend_from_slice(b"} ")
+}
+
+/// A label behind a comma.
+impl<'a> Row<()> for Label<'a> {
+    ghost use Rattle.std.specs.Prelude.{List, ℕ};
+    ghost use Rattle.kb_metrics.specs.Text.{label_of, more_text};
+
+    ghost Seen = { List ℕ × List ℕ };
+
+    ghost seen = { label_of };
+
+    ghost text = { λ place. more_text };
+
+    fn push(&self, out: &mut Vec<u8>, _place: ()) -> Result<(), AllocError> {
         out.push(b',')?;
-        push_label(out, *label)?;
+        push_label(out, *self)
     }
-    Ok(())
 }
 
 /// Writes a label.
@@ -252,15 +280,37 @@ fn push_label(out: &mut Vec<u8>, label: Label<'_>) -> Result<(), AllocError>
     ensures { OnOk result (out.new.items ≡ out.old.items ++ label_text (label_of label.entry)) }
 {
     out.extend_from_slice(label.name.as_bytes())?;
-    out.push(b'=')?;
-    out.push(b'"')?;
+    out.extend_from_slice(b"=\"")?;
     push_escaped(out, label.value)?;
     out.push(b'"')?;
     Ok(())
 }
 
-/// Writes a label's value.
+/// Writes a label's value, at once where none of its bytes stands behind a backslash.
 fn push_escaped(out: &mut Vec<u8>, value: &[u8]) -> Result<(), AllocError>
+    ensures { OnOk result (out.new.items ≡ out.old.items ++ escaped value.now) }
+{
+    if is_plain(value) {
+        out.extend_from_slice(value)
+    } else {
+        push_escapes(out, value)
+    }
+}
+
+/// Whether a label's value is written as it is.
+fn is_plain(value: &[u8]) -> bool
+    ensures { result ≡ true → escaped value.now ≡ value.now }
+{
+    for byte in value {
+        if matches!(*byte, b'\\' | b'"' | b'\n') {
+            return false;
+        }
+    }
+    true
+}
+
+/// Writes a label's value, byte by byte.
+fn push_escapes(out: &mut Vec<u8>, value: &[u8]) -> Result<(), AllocError>
     ensures { OnOk result (out.new.items ≡ out.old.items ++ escaped value.now) }
 {
     for byte in value {

@@ -10,6 +10,8 @@ use Rattle.http_server.specs.Response.{IsResponse}
 use Rattle.http_server.specs.declared.response.Response.{Response}
 use Rattle.kb_pages.specs.Route.{named_in, page_for}
 use Rattle.kb_pages.specs.declared.route.Page.{Page}
+use Rattle.kb_pages.specs.declared.site.Form.{Form}
+use Rattle.kb_pages.specs.declared.site.Form.TheVariants as forms
 use Rattle.kb_pages.specs.declared.route.Page.TheVariants.{Health, Ready, Metrics, Partitions, Status, Tenant, Unauthorized, NotFound, NotAllowed}
 
 -- 1. Fields
@@ -77,6 +79,21 @@ pub record Told : Type 1 where
   pub partitions : List ℕ → List ℕ → Type 0
   pub tenant : List ℕ → List ℕ → Type 0
   pub is_unknown : List ℕ → Type 0
+
+-- what is told of all in a form
+abbrev pub all_told : Told → Form → List ℕ → Type 0
+all_told t forms.Metrics = t.metrics
+all_told t forms.Status = t.status
+
+-- what is told of a tenant in a form
+abbrev pub tenant_told : Told → Form → List ℕ → List ℕ → Type 0
+tenant_told t forms.Metrics = t.partitions
+tenant_told t forms.Status = t.tenant
+
+-- a page in a form
+abbrev pub InForm : Form → List ℕ → Response → Type 0
+InForm forms.Metrics = IsText 200
+InForm forms.Status = IsHtml
 
 -- what a page is, of the tenant of that name
 abbrev pub IsPage : Told → List ℕ → Page → Response → Type 0

@@ -12,4 +12,4 @@ mod site;
 
 pub use pages::Pages;
 pub use route::Page;
-pub use site::{Site, Source};
+pub use site::{Form, Site, Source};

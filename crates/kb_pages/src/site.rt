@@ -2,17 +2,26 @@
 
 ghost use Rattle.std.specs.Prelude.{◌≡◌, [], ◌∷◌, OnOk, IfOk, codes, option_copied, option_map, true, false};
 ghost use Rattle.http_server.specs.Response.{IsBlank, IsResponse};
-ghost use Rattle.kb_pages.specs.Answer.{IsAnswer, IsHtml, IsNoMemory, IsOfTenant, IsPage, IsReadiness, IsText, IsTextWith, IsWhole, Told};
-ghost use Rattle.kb_pages.specs.Answer.{allow_field, close_field, page_of, text_field, token_field};
+ghost use Rattle.kb_pages.specs.Answer.{InForm, IsAnswer, IsHtml, IsNoMemory, IsOfTenant, IsPage, IsReadiness, IsTextWith, IsWhole, Told};
+ghost use Rattle.kb_pages.specs.Answer.{all_told, allow_field, close_field, page_of, tenant_told, text_field, token_field};
 ghost use Rattle.kb_pages.specs.Route.{named_in};
 
 use crate::route::{Page, name_in, page_for};
-use bytes::{BufMut, Bytes};
+use bytes::Bytes;
 use http::{HeaderValue, Request, StatusCode, header};
 use http_server::{Response, Service};
 use std::alloc::{AllocError, Global};
 use std::io;
 use std::os::fd::RawFd;
+
+/// The form in which something is told.
+#[derive(Clone, Copy, Debug, PartialEq, Eq)]
+pub enum Form {
+    /// Metrics, as text for Prometheus: those of all tenants, or those of the partitions of one.
+    Metrics,
+    /// A status page for a browser: that of the broker, or that of a tenant.
+    Status,
+}
 
 /// What the pages tell of, and by what they are woken. A page is written behind nothing, and after an `Err`, which is want of memory, some
 /// of it may be there.
@@ -20,41 +29,26 @@ pub trait Source {
     // What is said of it, and of its tenants.
     ghost told: { Self → Told };
 
-    /// Writes the metrics.
-    fn push_metrics(&self, alloc: Global, out: &mut Vec<u8>) -> Result<(), AllocError>
+    /// Writes what is told of all: the metrics, or the status page.
+    fn push_all(&self, alloc: Global, form: Form, out: &mut Vec<u8>) -> Result<(), AllocError>
         requires { out.old.items ≡ [] }
-        ensures { OnOk result ((told self.now).metrics out.new.items) };
+        ensures { OnOk result (all_told (told self.now) form out.new.items) };
 
     /// Writes a line for each cause why the broker is not ready.
     fn push_causes(&self, out: &mut Vec<u8>) -> Result<(), AllocError>
         requires { out.old.items ≡ [] }
         ensures { OnOk result ((told self.now).causes out.new.items) };
 
-    /// Writes the status page.
-    fn push_status(&self, alloc: Global, out: &mut Vec<u8>) -> Result<(), AllocError>
-        requires { out.old.items ≡ [] }
-        ensures { OnOk result ((told self.now).status out.new.items) };
-
-    /// Writes the partitions of the tenant of a name, and answers whether there is one.
-    fn push_partitions(
-        &self,
-        alloc: Global,
-        tenant: &[u8],
-        out: &mut Vec<u8>,
-    ) -> Result<bool, AllocError>
-        requires { out.old.items ≡ [] }
-        ensures known { IfOk result (λ is_known. is_known ≡ true → (told self.now).partitions tenant.now out.new.items) }
-        ensures unknown { IfOk result (λ is_known. is_known ≡ false → (told self.now).is_unknown tenant.now) };
-
-    /// Writes the status page of the tenant of a name, and answers whether there is one.
+    /// Writes what is told of the tenant of a name, and answers whether there is one.
     fn push_tenant(
         &self,
         alloc: Global,
+        form: Form,
         tenant: &[u8],
         out: &mut Vec<u8>,
     ) -> Result<bool, AllocError>
         requires { out.old.items ≡ [] }
-        ensures known { IfOk result (λ is_known. is_known ≡ true → (told self.now).tenant tenant.now out.new.items) }
+        ensures known { IfOk result (λ is_known. is_known ≡ true → tenant_told (told self.now) form tenant.now out.new.items) }
         ensures unknown { IfOk result (λ is_known. is_known ≡ false → (told self.now).is_unknown tenant.now) };
 
     /// The pages are to be turned once this file becomes ready.
@@ -120,10 +114,10 @@ fn fill_page<S: Source>(
     match page {
         Page::Health => fill(response, StatusCode::OK, b"ok\n"),
         Page::Ready => fill_ready(alloc, source, response),
-        Page::Metrics => fill_metrics(alloc, source, response),
-        Page::Partitions => fill_partitions(alloc, source, query, response),
-        Page::Status => fill_status(alloc, source, response),
-        Page::Tenant => fill_tenant(alloc, source, query, response),
+        Page::Metrics => fill_all(alloc, source, Form::Metrics, response),
+        Page::Partitions => fill_tenant(alloc, source, Form::Metrics, query, response),
+        Page::Status => fill_all(alloc, source, Form::Status, response),
+        Page::Tenant => fill_tenant(alloc, source, Form::Status, query, response),
         Page::Unauthorized => fill_unauthorized(response),
         Page::NotFound => fill(response, StatusCode::NOT_FOUND, b"no such page\n"),
         Page::NotAllowed => fill_not_allowed(response),
@@ -145,83 +139,60 @@ fn fill_ready<S: Source>(
     } else if causes.is_empty() {
         fill(response, StatusCode::OK, b"ready\n")
     } else {
-        fill(response, StatusCode::SERVICE_UNAVAILABLE, &causes)
+        let causes = Bytes::from_vec(causes)?;
+        fill_text(response, StatusCode::SERVICE_UNAVAILABLE, causes)
     }
 }
 
-/// The metrics. Where memory was refused for a page there is nothing of it, and the answer says so.
-fn fill_metrics<S: Source>(
+/// What is told of all. Where memory was refused for a page there is nothing of it, and the answer says so.
+fn fill_all<S: Source>(
     alloc: Global,
     source: &S,
+    form: Form,
     response: &mut Response,
 ) -> Result<(), AllocError>
     requires { IsBlank response.old }
-    ensures { OnOk result (IsWhole (IsText 200) (S.told source.now).metrics response.new) }
+    ensures { OnOk result (IsWhole (InForm form) (all_told (S.told source.now) form) response.new) }
 {
     let mut page = Vec::new(alloc);
-    match source.push_metrics(alloc, &mut page) {
-        Ok(()) => fill(response, StatusCode::OK, &page),
+    match source.push_all(alloc, form, &mut page) {
+        Ok(()) => fill_form(form, response, page),
         Err(_) => fill_no_memory(response),
     }
 }
 
-/// The status page.
-fn fill_status<S: Source>(
-    alloc: Global,
-    source: &S,
-    response: &mut Response,
-) -> Result<(), AllocError>
-    requires { IsBlank response.old }
-    ensures { OnOk result (IsWhole IsHtml (S.told source.now).status response.new) }
-{
-    let mut page = Vec::new(alloc);
-    match source.push_status(alloc, &mut page) {
-        Ok(()) => fill_html(response, &page),
-        Err(_) => fill_no_memory(response),
-    }
-}
-
-/// The partitions of the tenant that a query names.
-fn fill_partitions<S: Source>(
-    alloc: Global,
-    source: &S,
-    query: Option<&str>,
-    response: &mut Response,
-) -> Result<(), AllocError>
-    requires { IsBlank response.old }
-    ensures { let name = named_in (option_copied query.entry) in let told = S.told source.now in
-        OnOk result (IsOfTenant (IsText 200) (told.partitions name) (told.is_unknown name) response.new) }
-{
-    let mut page = Vec::new(alloc);
-    let Ok(name) = name_in(alloc, query) else {
-        return fill_no_memory(response);
-    };
-    match source.push_partitions(alloc, &name, &mut page) {
-        Ok(true) => fill(response, StatusCode::OK, &page),
-        Ok(false) => fill(response, StatusCode::NOT_FOUND, b"no such tenant\n"),
-        Err(_) => fill_no_memory(response),
-    }
-}
-
-/// The status page of the tenant that a query names.
+/// What is told of the tenant that a query names.
 fn fill_tenant<S: Source>(
     alloc: Global,
     source: &S,
+    form: Form,
     query: Option<&str>,
     response: &mut Response,
 ) -> Result<(), AllocError>
     requires { IsBlank response.old }
     ensures { let name = named_in (option_copied query.entry) in let told = S.told source.now in
-        OnOk result (IsOfTenant IsHtml (told.tenant name) (told.is_unknown name) response.new) }
+        OnOk result (IsOfTenant (InForm form) (tenant_told told form name) (told.is_unknown name) response.new) }
 {
     let mut page = Vec::new(alloc);
     let Ok(name) = name_in(alloc, query) else {
         return fill_no_memory(response);
     };
-    match source.push_tenant(alloc, &name, &mut page) {
-        Ok(true) => fill_html(response, &page),
+    match source.push_tenant(alloc, form, &name, &mut page) {
+        Ok(true) => fill_form(form, response, page),
         Ok(false) => fill(response, StatusCode::NOT_FOUND, b"no such tenant\n"),
         Err(_) => fill_no_memory(response),
+    }
+}
+
+/// A page in a form. It is not copied.
+fn fill_form(form: Form, response: &mut Response, page: Vec<u8>) -> Result<(), AllocError>
+    requires { IsBlank response.old }
+    ensures { OnOk result (InForm form page.items response.new) }
+{
+    let text = Bytes::from_vec(page)?;
+    match form {
+        Form::Metrics => fill_text(response, StatusCode::OK, text),
+        Form::Status => fill_html(response, text),
     }
 }
 
@@ -256,29 +227,35 @@ fn fill_not_allowed(response: &mut Response) -> Result<(), AllocError>
     response.add_header(header::ALLOW, HeaderValue::from_static("GET"))
 }
 
-/// A page of this status and this text, behind which the connection is closed.
-fn fill(response: &mut Response, status: StatusCode, text: &[u8]) -> Result<(), AllocError>
+/// A page of this status and a text that is always the same.
+fn fill(response: &mut Response, status: StatusCode, text: &'static [u8]) -> Result<(), AllocError>
     requires { IsBlank response.old }
     ensures { OnOk result (IsResponse status (close_field ∷ text_field ∷ []) text.now response.new) }
+{
+    fill_text(response, status, Bytes::from_static(text))
+}
+
+/// A page of this status and this text, behind which the connection is closed.
+fn fill_text(response: &mut Response, status: StatusCode, text: Bytes) -> Result<(), AllocError>
+    requires { IsBlank response.old }
+    ensures { OnOk result (IsResponse status (close_field ∷ text_field ∷ []) text response.new) }
 {
     response.status = status;
     response.add_header(header::CONNECTION, HeaderValue::from_static("close"))?;
     let kind = HeaderValue::from_static("text/plain; version=0.0.4; charset=utf-8");
     response.add_header(header::CONTENT_TYPE, kind)?;
-    response.body.put_slice(text)?;
-    Ok(())
+    response.body.push(text)
 }
 
 /// A page that a browser shows, and that loads and runs nothing else.
-fn fill_html(response: &mut Response, text: &[u8]) -> Result<(), AllocError>
+fn fill_html(response: &mut Response, text: Bytes) -> Result<(), AllocError>
     requires { IsBlank response.old }
-    ensures { OnOk result (IsHtml text.now response.new) }
+    ensures { OnOk result (IsHtml text response.new) }
 {
     response.add_header(header::CONNECTION, HeaderValue::from_static("close"))?;
     let kind = HeaderValue::from_static("text/html; charset=utf-8");
     response.add_header(header::CONTENT_TYPE, kind)?;
     let policy = HeaderValue::from_static("default-src 'none'; style-src 'unsafe-inline'");
     response.add_header(header::CONTENT_SECURITY_POLICY, policy)?;
-    response.body.put_slice(text)?;
-    Ok(())
+    response.body.push(text)
 }

@@ -1,13 +1,14 @@
 -- Why a broker is not ready.
-use Rattle.std.specs.Prelude.{ℕ, ◌+◌, ◌-◌, ◌^◌, ◌++◌, min, List, [], Bool, false, codes, nat_lt, if◌then◌else◌, Option, None, Some}
+use Rattle.std.specs.Prelude.{ℕ, ◌++◌, List, [], codes, decimal, nat_le, nat_lt, if◌then◌else◌}
 
--- the store refused something less than a minute ago, where it did so last at that moment; in milliseconds, as far as 64 bits go
-abbrev pub failed_lately : Option ℕ → ℕ → Bool
-failed_lately None now = false
-failed_lately (Some failed) now = nat_lt now (min (failed + 60000) (2 ^ 64 - 1))
+-- the store refused so many calls in the last minute
+abbrev pub refused_text : ℕ → List ℕ
+refused_text n = if nat_lt 0 n then codes "store refused " ++ decimal n ++ codes " calls in the last minute\n" else []
 
--- a line for each cause: the store refused something of late, and all sockets are open that may be
-abbrev pub causes_text : Bool → Bool → List ℕ
-causes_text failed full =
-    (if failed then codes "the store refused a call in the last minute\n" else [])
-    ++ (if full then codes "as many sockets are open as there may be\n" else [])
+-- so many sockets are open, and no more may be
+abbrev pub sockets_text : ℕ → ℕ → List ℕ
+sockets_text sockets limit = if nat_le limit sockets then codes "sockets " ++ decimal sockets ++ codes " of " ++ decimal limit ++ codes "\n" else []
+
+-- a line for each cause
+abbrev pub causes_text : ℕ → ℕ → ℕ → List ℕ
+causes_text refused sockets limit = refused_text refused ++ sockets_text sockets limit

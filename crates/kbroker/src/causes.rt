@@ -73,7 +73,7 @@ pub fn text_of(alloc: Global, cause: Shut) -> Result<String, AllocError> {
         } => {
             let api = name_of(alloc, api_key)?;
             format!(in alloc;
-                "the body of {api} {api_version} does not match, or there was no room for its reply"
+                "the body of {api} {api_version} does not match or names more than request_entries, or there was no room for its reply"
             )
         }
         Shut::NotLoggedIn {

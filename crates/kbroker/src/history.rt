@@ -1,18 +1,20 @@
 //! What the pages tell of the time since the broker began to serve.
 
-use crate::totals::Totals;
+use crate::totals::together;
 use kb_log::PartitionLog;
-use kb_metrics::Rates;
+use kb_metrics::{PerSecond, Rates};
 use kb_node::{Edge, Store, Turn};
 use kb_server_log::time_text;
 use std::alloc::{AllocError, Global};
 use std::cell::Cell;
 use std::net::Net;
 
-/// The turns together, and how many bytes tenants got and sent of late.
+/// The turns together, and what was refused and how many bytes tenants got and sent of late.
 #[derive(Drop)]
 pub struct History {
-    pub totals: Totals,
+    pub turns: Turn,
+    /// How many calls the store refused in each second.
+    pub refused: PerSecond,
     /// The rates of each tenant, by its place.
     pub rates: Vec<Rates>,
     /// When the broker began to serve, as a text.
@@ -22,6 +24,8 @@ pub struct History {
     /// Whether that was told.
     pub is_told: Cell<bool>,
     started: u64,
+    /// How many calls the store has refused.
+    failures: u64,
     /// The second in which the rates were noted last.
     second: u64,
 }
@@ -38,13 +42,17 @@ impl History {
         for _ in 0..tenants {
             rates.push(Rates::new(alloc)?)?;
         }
+        let mut refused = PerSecond::new(alloc)?;
+        refused.note(started / 1000, failures);
         Ok(History {
-            totals: Totals::new(failures),
+            turns: Turn::default(),
+            refused,
             rates,
             start_text: time_text(alloc, started / 1000 * 1000)?,
             longest: 0,
             is_told: Cell::new(false),
             started,
+            failures,
             second: 0,
         })
     }
@@ -54,7 +62,7 @@ impl History {
         self.started
     }
 
-    /// A turn at that moment, in milliseconds, which took so many microseconds. The rates are noted once a second.
+    /// A turn at that moment, in milliseconds, which took so many microseconds. The rates are noted once a second, refusals as they come.
     pub fn note<R: Net, S: Store, L: PartitionLog + Drop>(
         &mut self,
         edge: &Edge<R, S, L>,
@@ -62,10 +70,14 @@ impl History {
         micros: u64,
         now: u64,
     ) {
-        let failures = edge.broker().store().failures();
-        self.totals.add(turn, failures, now);
+        self.turns = together(&self.turns, turn);
         self.longest = self.longest.max(micros);
         let second = now / 1000;
+        let failures = edge.broker().store().failures();
+        if failures > self.failures {
+            self.failures = failures;
+            self.refused.note(second, failures);
+        }
         if second != self.second {
             self.second = second;
             self.note_rates(edge, second);

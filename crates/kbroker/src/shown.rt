@@ -1,11 +1,12 @@
 //! What is on the pages of a broker that serves.
 
-ghost use Rattle.std.specs.Prelude.{◌≡◌, ◌++◌, [], IfOk, OnOk, if◌then◌else◌, map, nat_le, option_map, slice_get, vec_len};
+ghost use Rattle.std.specs.Prelude.{◌≡◌, ◌++◌, ◌/◌, [], IfOk, OnOk, map, option_map, slice_get, vec_len};
 ghost use Rattle.kb_store.specs.Disk.{Files};
 ghost use Rattle.kb_metrics.specs.Gauges.{tenants_text};
 ghost use Rattle.kb_metrics.specs.View.{observed};
 ghost use Rattle.kbroker.specs.Observed.{BeginsWith, observed_at, observed_from, observed_slot};
-ghost use Rattle.kbroker.specs.Causes.{causes_text, failed_lately};
+ghost use Rattle.kbroker.specs.Causes.{causes_text, refused_text, sockets_text};
+ghost use Rattle.kb_metrics.specs.Rates.{in_minute};
 ghost use Rattle.kbroker.specs.Observed.{request_bytes_of, requests_of, response_bytes_of};
 
 use crate::history::History;
@@ -13,11 +14,11 @@ use crate::process::{cpu_millis, most_files, open_files, resident_bytes};
 use kb_broker::TenantView;
 use kb_log::PartitionLog;
 use kb_metrics::{
-    Closed, ProcessGauges, ServerGauges, TenantGauges, Traffic, push_partitions, push_process,
-    push_server, push_status, push_tenant_status, push_tenants,
+    Closed, ProcessGauges, ServerGauges, TenantGauges, Traffic, push_number, push_partitions,
+    push_process, push_server, push_status, push_tenant_status, push_tenants,
 };
 use kb_node::{Edge, Store};
-use kb_pages::Source;
+use kb_pages::{Form, Source};
 use kb_version::VERSION;
 use std::alloc::{AllocError, Global};
 use std::io;
@@ -38,57 +39,40 @@ impl<'a, R: Net, S: Store, L: PartitionLog + Drop> Source for Shown<'a, R, S, L>
     // Of the other pages nothing is said here: what is written there is `kb_metrics`'s contract.
     ghost told = { λ shown. record {
       metrics = BeginsWith (tenants_text (observed_from shown.edge.now.host.broker.state shown.edge.now.traffic.items));
-      causes = λ text. text ≡ causes_text (failed_lately shown.history.now.totals.failed shown.now)
-          (nat_le shown.edge.now.limit (vec_len shown.edge.now.sockets));
+      causes = λ text. text ≡ causes_text (in_minute (shown.now / 1000) shown.history.now.refused)
+          (vec_len shown.edge.now.sockets) shown.edge.now.limit;
       status = λ text. Unit {0};
       partitions = λ name. λ text. Unit {0};
       tenant = λ name. λ text. Unit {0};
       is_unknown = λ name. Unit {0};
     } };
 
-    fn push_metrics(&self, alloc: Global, out: &mut Vec<u8>) -> Result<(), AllocError> {
-        let tenants = tenants_of(alloc, self.edge)?;
-        let server = server_of(self.edge, self.history);
-        let process = process_of(self.rt, self.history);
-        self.history.is_told.set(true);
-        push_all(alloc, out, &tenants, &server, &process)
+    fn push_all(&self, alloc: Global, form: Form, out: &mut Vec<u8>) -> Result<(), AllocError> {
+        match form {
+            Form::Metrics => push_metrics(alloc, self, out),
+            Form::Status => push_status_page(alloc, self, out),
+        }
     }
 
     fn push_causes(&self, out: &mut Vec<u8>) -> Result<(), AllocError> {
-        let is_full = self.edge.sockets_len() >= self.edge.most_sockets();
-        push_causes(out, self.history.totals.failed_lately(self.now), is_full)
-    }
-
-    fn push_status(&self, alloc: Global, out: &mut Vec<u8>) -> Result<(), AllocError> {
-        let tenants = tenants_of(alloc, self.edge)?;
-        let server = server_of(self.edge, self.history);
-        let process = process_of(self.rt, self.history);
-        push_status(alloc, out, &server, &process, &tenants, &self.history.rates)
-    }
-
-    fn push_partitions(
-        &self,
-        alloc: Global,
-        tenant: &[u8],
-        out: &mut Vec<u8>,
-    ) -> Result<bool, AllocError> {
-        let Some(gauges) = gauges_named(self.edge, tenant) else {
-            return Ok(false);
-        };
-        push_partitions(alloc, out, &gauges)?;
-        Ok(true)
+        push_refused(out, self.history.refused.in_minute(self.now / 1000))?;
+        push_sockets(out, self.edge.sockets_len(), self.edge.most_sockets())
     }
 
     fn push_tenant(
         &self,
         alloc: Global,
+        form: Form,
         tenant: &[u8],
         out: &mut Vec<u8>,
     ) -> Result<bool, AllocError> {
         let Some(gauges) = gauges_named(self.edge, tenant) else {
             return Ok(false);
         };
-        push_tenant_status(alloc, out, &gauges)?;
+        match form {
+            Form::Metrics => push_partitions(alloc, out, &gauges)?,
+            Form::Status => push_tenant_status(alloc, out, &gauges)?,
+        }
         Ok(true)
     }
 
@@ -97,29 +81,69 @@ impl<'a, R: Net, S: Store, L: PartitionLog + Drop> Source for Shown<'a, R, S, L>
     }
 }
 
-/// Writes a line for each cause why the broker is not ready.
-fn push_causes(out: &mut Vec<u8>, has_failed: bool, is_full: bool) -> Result<(), AllocError>
-    ensures { OnOk result (out.new.items ≡ out.old.items ++ causes_text has_failed is_full) }
+/// Writes how many calls the store refused in the last minute, where it refused some.
+fn push_refused(out: &mut Vec<u8>, refused: u64) -> Result<(), AllocError>
+    ensures { OnOk result (out.new.items ≡ out.old.items ++ refused_text refused) }
 {
-    push_where(
-        out,
-        has_failed,
-        b"the store refused a call in the last minute\n",
-    )?;
-    push_where(out, is_full, b"as many sockets are open as there may be\n")
-}
-
-/// Writes a text where something holds.
-fn push_where(out: &mut Vec<u8>, holds: bool, text: &[u8]) -> Result<(), AllocError>
-    ensures { OnOk result (out.new.items ≡ out.old.items ++ (if holds then text.now else [])) }
-{
-    if holds {
-        out.extend_from_slice(text)?;
+    if refused > 0 {
+        out.extend_from_slice(b"store refused ")?;
+        push_number(out, refused)?;
+        out.extend_from_slice(b" calls in the last minute\n")?;
     }
     Ok(())
 }
 
-/// Writes the page of metrics: tenants first.
+/// Writes how many sockets are open and may be, where no further one may be.
+fn push_sockets(out: &mut Vec<u8>, sockets: usize, limit: usize) -> Result<(), AllocError>
+    ensures { OnOk result (out.new.items ≡ out.old.items ++ sockets_text sockets limit) }
+{
+    if sockets >= limit {
+        out.extend_from_slice(b"sockets ")?;
+        push_number(out, sockets)?;
+        out.extend_from_slice(b" of ")?;
+        push_number(out, limit)?;
+        out.extend_from_slice(b"\n")?;
+    }
+    Ok(())
+}
+
+/// Writes the page of metrics, which tells the longest turn.
+fn push_metrics<R: Net, S: Store, L: PartitionLog + Drop>(
+    alloc: Global,
+    shown: &Shown<'_, R, S, L>,
+    out: &mut Vec<u8>,
+) -> Result<(), AllocError>
+    requires { out.old.items ≡ [] }
+    ensures { OnOk result (BeginsWith
+        (tenants_text (observed_from shown.now.edge.now.host.broker.state shown.now.edge.now.traffic.items)) out.new.items) }
+{
+    let tenants = tenants_of(alloc, shown.edge)?;
+    let server = server_of(shown.edge, shown.history);
+    let process = process_of(shown.rt, shown.history);
+    shown.history.is_told.set(true);
+    push_all(alloc, out, &tenants, &server, &process)
+}
+
+/// Writes the status page.
+fn push_status_page<R: Net, S: Store, L: PartitionLog + Drop>(
+    alloc: Global,
+    shown: &Shown<'_, R, S, L>,
+    out: &mut Vec<u8>,
+) -> Result<(), AllocError> {
+    let tenants = tenants_of(alloc, shown.edge)?;
+    let server = server_of(shown.edge, shown.history);
+    let process = process_of(shown.rt, shown.history);
+    push_status(
+        alloc,
+        out,
+        &server,
+        &process,
+        &tenants,
+        &shown.history.rates,
+    )
+}
+
+/// Writes the metrics: tenants first.
 fn push_all<L: PartitionLog>(
     alloc: Global,
     out: &mut Vec<u8>,
@@ -236,7 +260,7 @@ fn server_of<R: Net, S: Store, L: PartitionLog + Drop>(
     history: &History,
 ) -> ServerGauges {
     let broker = edge.broker();
-    let turns = &history.totals.turns;
+    let turns = &history.turns;
     ServerGauges {
         strangers: broker.strangers() as u64,
         sockets: edge.sockets_len() as u64,

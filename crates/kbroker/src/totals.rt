@@ -1,56 +1,11 @@
-//! What happened since the broker began to serve.
+//! What turns did together.
 
 ghost use Rattle.std.specs.Prelude.{◌≡◌, ◌+◌, ◌-◌, ◌^◌, min};
-ghost use Rattle.kbroker.specs.Causes.{failed_lately};
 
 use kb_node::Turn;
 
-/// For how many milliseconds a refusal of the store is told.
-const MINUTE: u64 = 60_000;
-
-/// The turns together, and when the store refused something last.
-#[derive(Clone, Copy, Debug, PartialEq, Eq)]
-pub struct Totals {
-    /// What the turns did together.
-    pub turns: Turn,
-    /// How many calls the store has refused.
-    failures: u64,
-    /// When that number rose last, in milliseconds.
-    failed: Option<u64>,
-}
-
-impl Totals {
-    /// Nothing happened yet, and the store has refused so many calls.
-    pub fn new(failures: u64) -> Totals {
-        Totals {
-            turns: Turn::default(),
-            failures,
-            failed: None,
-        }
-    }
-
-    /// A turn at that moment, in milliseconds, behind which the store has refused so many calls.
-    pub fn add(&mut self, turn: &Turn, failures: u64, now: u64) {
-        self.turns = together(&self.turns, turn);
-        if failures > self.failures {
-            self.failures = failures;
-            self.failed = Some(now);
-        }
-    }
-
-    /// Whether the store refused something in the last minute.
-    pub fn failed_lately(&self, now: u64) -> bool
-        ensures { result ≡ failed_lately self.now.failed now }
-    {
-        match self.failed {
-            Some(failed) => now < failed.saturating_add(MINUTE),
-            None => false,
-        }
-    }
-}
-
 /// Two sums, number by number. None of them begins anew: it stays at the greatest number.
-fn together(sum: &Turn, turn: &Turn) -> Turn
+pub fn together(sum: &Turn, turn: &Turn) -> Turn
     ensures { result ≡ record {
       accepted = min (sum.now.accepted + turn.now.accepted) (2 ^ 64 - 1);
       read = min (sum.now.read + turn.now.read) (2 ^ 64 - 1);

@@ -1,5 +1,4 @@
-use Rattle.std.proofs.Common.{◌≡◌, ◌∙◌, ◌<◌, ◌≤◌, [], length, map, ap, arith}
-use Rattle.std.proofs.lemmas.List.{take_all}
+use Rattle.std.proofs.Common.{◌∙◌, ◌<◌, [], length, ap, arith}
 use Rattle.kb_metrics.specs.Gauges.{tenant_of}
 use Rattle.kb_metrics.specs.Rows.{tenant_row}
 use Rattle.kb_metrics.specs.View.{observed}

@@ -1,5 +1,4 @@
 use Rattle.std.proofs.Common.{◌≡◌, ◌++◌, take}
-use Rattle.std.specs.List.{flat_map}
 use Rattle.kb_metrics.specs.Markup.{query}
 use Rattle.kb_metrics.proofs.markup.push_query.Given as goal
 

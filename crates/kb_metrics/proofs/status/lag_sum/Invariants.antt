@@ -1,5 +1,4 @@
-use Rattle.std.proofs.Common.{◌≡◌, ◌^◌, ◌-◌, take, map, min}
-use Rattle.std.specs.List.{sum_by}
+use Rattle.std.proofs.Common.{◌≡◌, take, map}
 use Rattle.kb_metrics.specs.Rows.{lag_row}
 use Rattle.kb_metrics.specs.Status.{lag_sum}
 use Rattle.kb_metrics.proofs.status.lag_sum.Given as goal

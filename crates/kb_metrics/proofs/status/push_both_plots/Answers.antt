@@ -8,7 +8,7 @@ pub returns : goal.returns
 unfolding both_plots
 returns c =
     let out = c.args.out.now.items in
-    let into = plot_cell (codes "In a second") c.args.rates.now.requests in
+    let into = plot_cell (codes "In a second") c.args.rates.now.requests.samples in
     let front : c.push_plot_cell.new.out.items ≡ out ++ into
     = c.in_ok-push_plot_cell.ensures ∙ ap (λ s. out ++ plot_cell (codes "In a second") s) c.requests.ensures.value in
     on_ok c.push_plot_cell-2.result (λ h.

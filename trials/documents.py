@@ -1,5 +1,5 @@
 #!/usr/bin/env python3
-"""The commands of README.md, docs/OPERATING.md and docs/CLIENTS.md do what stands beside them, in a fresh clone.
+"""The commands of README.md, docs/OPERATING.md, docs/CLIENTS.md and docs/FLEET.md do what stands beside them, in a fresh clone.
 
     trials/documents.py KBROKER KCONSOLE
 
@@ -20,7 +20,7 @@ import tempfile
 import time
 
 TOP = os.path.join(os.path.dirname(os.path.realpath(__file__)), "..")
-DOCUMENTS = ["README.md", "docs/OPERATING.md", "docs/CLIENTS.md"]
+DOCUMENTS = ["README.md", "docs/OPERATING.md", "docs/CLIENTS.md", "docs/FLEET.md"]
 BLOCK = re.compile(r"```sh\n(.*?)```", re.S)
 # Blocks that are not run here, by a piece of them, and why.
 LEFT = {

@@ -1,0 +1,270 @@
+#!/usr/bin/env python3
+"""Three brokers and a proxy, each with an address of its own: a tenant moves under load, and a standby takes a broker's place.
+
+    trials/fleet.py KBROKER
+
+It wants root, `ip netns`, HAProxy and OpenSSL. Settings come from `examples/fleet/settings.py`. Six tenants produce through the proxy, each by
+the name of its own, which TLS tells (SNI), and commit offsets. Then one moves by the steps of FLEET, and later a broker is killed with its
+network, and a standby goes on with the last backup. What is looked at: each tenant is told its own address; each acknowledged record is
+where it was acknowledged, also after the move; groups go on from their offsets; on the standby all is there that was acknowledged before
+the backup began. It prints the longest pause of each tenant, and `N of M wrong`.
+"""
+
+import contextlib
+import os
+import shutil
+import signal
+import socket
+import ssl
+import struct
+import subprocess
+import sys
+import tempfile
+import threading
+import time
+import tomllib
+
+from wire import Client, batch, commit, committed, create, fetch, offset_at, text
+
+HERE = os.path.dirname(os.path.realpath(__file__))
+EXAMPLES = f"{HERE}/../examples"
+NET, PROXY, PORT = "kb-fleet", "10.77.0.1", 9093
+ADDRESS = {"one": "10.77.0.11", "two": "10.77.0.12", "three": "10.77.0.13", "standby": "10.77.0.14"}
+
+
+def run(*words, **more):
+    """Runs a command, which has to succeed, and answers what it printed."""
+    return subprocess.run(words, check=True, capture_output=True, text=True, **more).stdout
+
+
+def made_network():
+    """A namespace with a bridge, and one for each machine."""
+    run("ip", "netns", "add", NET)
+    inside = ["ip", "-n", NET]
+    for words in ("link set lo up", "link add bridge type bridge", "link set bridge up", f"addr add {PROXY}/24 dev bridge"):
+        run(*inside, *words.split())
+    for name, address in ADDRESS.items():
+        run("ip", "netns", "add", f"{NET}-{name}")
+        run(*inside, "link", "add", name, "type", "veth", "peer", "name", "eth0", "netns", f"{NET}-{name}")
+        run(*inside, *f"link set {name} master bridge up".split())
+        for words in ("link set lo up", f"addr add {address}/24 dev eth0", "link set eth0 up"):
+            run("ip", "-n", f"{NET}-{name}", *words.split())
+
+
+def without_network():
+    """Removes the namespaces that are there."""
+    for name in [NET, *(f"{NET}-{it}" for it in ADDRESS)]:
+        subprocess.run(["ip", "netns", "del", name], capture_output=True)
+
+
+class Machine:
+    """A machine with a broker on a data folder of its own."""
+
+    def __init__(self, program, room, name):
+        self.program, self.room, self.name = os.path.abspath(program), room, name
+        self.data, self.process = f"{room}/{name}-data", None
+
+    def start(self, settings):
+        """Starts the broker by that file, with this machine's folder."""
+        with open(settings, encoding="utf-8") as it:
+            words = "\n".join(f'data = "{self.data}"' if line.startswith("data = ") else line for line in it.read().split("\n"))
+        path = f"{self.room}/{self.name}.toml"
+        with open(path, "w", encoding="utf-8") as out:
+            out.write(words)
+        os.chmod(path, 0o600)
+        with open(f"{self.room}/{self.name}.log", "ab") as log:
+            self.process = subprocess.Popen(["ip", "netns", "exec", f"{NET}-{self.name}", self.program, "serve", "--config", path], stderr=log)
+
+    def stop(self, how=signal.SIGTERM):
+        self.process.send_signal(how)
+        self.process.wait()
+
+
+class Named(Client):
+    """A client that connects through the proxy by its tenant's name."""
+
+    def __init__(self, host, user, password, authority):
+        context = ssl.create_default_context(cafile=authority)
+        plain = socket.create_connection((PROXY, PORT), timeout=5)
+        self.socket = context.wrap_socket(plain, server_hostname=host)
+        self.ask(17, 1, text(b"PLAIN"))
+        words = b"\0" + user.encode() + b"\0" + password.encode()
+        self.ask(36, 0, struct.pack(">i", len(words)) + words)
+
+    def told(self):
+        """The address that Metadata tells."""
+        got = self.ask(3, 1, struct.pack(">i", 0))
+        size = struct.unpack_from(">h", got, 8)[0]
+        return got[10:10 + size].decode(), struct.unpack_from(">i", got, 10 + size)[0]
+
+
+class Customer(threading.Thread):
+    """A tenant's producer, which sends record after record, and commits an offset with each tenth."""
+
+    def __init__(self, name, table, authority):
+        super().__init__(daemon=True)
+        self.name, self.host = name, table["host"]
+        self.words = [self.host, *next(iter(table["users"].items())), authority]
+        self.acknowledged, self.commits, self.pause, self.ends = {}, [], 0.0, False
+
+    def client(self):
+        return Named(*self.words)
+
+    def run(self):
+        client, number, last = None, 0, time.monotonic()
+        while not self.ends:
+            number += 1
+            value = f"{self.name} {number}".encode()
+            try:
+                client = client or self.client()
+                code, offset = client.produce(b"orders", batch(value))
+                if code == 0:
+                    self.acknowledged[offset] = value
+                    self.pause, last = max(self.pause, time.monotonic() - last), time.monotonic()
+                if code == 0 and number % 10 == 0 and client.all([commit(b"readers", b"orders", b"", offset)])[0] == 0:
+                    self.commits.append(offset)
+            except (OSError, struct.error):
+                client = None
+                time.sleep(0.02)
+            time.sleep(0.005)
+
+    def kept(self, before=None):
+        """Whether what was acknowledged is where it was, and the group's offset is what it committed last."""
+        client = self.client()
+        expected = dict(list(self.acknowledged.items())[:before])
+        end, at, there = client.all([offset_at(b"orders", -1)])[0][1], 0, set()
+        while at < end:
+            code, _, data = client.fetch(b"orders", at)
+            if code or not data:
+                return False
+            while len(data) > 12:
+                base, size = struct.unpack_from(">qi", data)
+                there.add(base) if expected.get(base, b"") in data[:12 + size] else None
+                at, data = base + 1, data[12 + size:]
+        offset = client.all([committed(b"readers", b"orders")])[0]
+        return set(expected) <= there and (before is not None or offset == self.commits[-1])
+
+
+def settings_of(fleet, room):
+    """Makes all files of a fleet's table, with the certificate beside them."""
+    run(f"{EXAMPLES}/fleet/settings.py", fleet, f"{room}/fleet")
+
+
+def certificate(room):
+    """A certificate of all names of the fleet, by OpenSSL."""
+    folder = f"{room}/fleet"
+    os.makedirs(folder, exist_ok=True)
+    run("openssl", "req", "-x509", "-newkey", "rsa:2048", "-nodes", "-days", "2", "-subj", "/CN=logs.example", "-addext",
+        "subjectAltName=DNS:*.logs.example", "-keyout", f"{folder}/key.pem", "-out", f"{folder}/cert.pem")
+    with open(f"{folder}/both.pem", "wb") as out:
+        for name in ("cert.pem", "key.pem"):
+            with open(f"{folder}/{name}", "rb") as it:
+                shutil.copyfileobj(it, out)
+    return f"{folder}/cert.pem"
+
+
+def moved(program, room, fleet, machines, proxy):
+    """Moves the bakery from one to three, step by step; the seconds that each broker did not listen."""
+    with open(fleet, encoding="utf-8") as it:
+        words = it.read().replace('[tenants.bakery]\nbroker = "one"', '[tenants.bakery]\nbroker = "three"')
+    with open(fleet, "w", encoding="utf-8") as out:
+        out.write(words)
+    settings_of(fleet, room)
+    stood = {}
+    for name, step in (("one", "export"), ("three", "import")):
+        machine, began = machines[name], time.monotonic()
+        machine.stop()
+        print(run(program, "tenant", step, "--data", machine.data, "--tenant", "bakery", f"{room}/bakery-files").strip())
+        machine.start(f"{room}/fleet/{name}.toml")
+        stood[name] = time.monotonic() - began
+    proxy.send_signal(signal.SIGUSR2)
+    return stood
+
+
+def is_up(customers):
+    """Whether each customer has something acknowledged from now on, within twenty seconds."""
+    counts = [len(it.acknowledged) for it in customers]
+    for _ in range(400):
+        if all(len(it.acknowledged) > count for it, count in zip(customers, counts)):
+            return True
+        time.sleep(0.05)
+    return False
+
+
+def standby(room, machines, customers):
+    """Takes a backup, kills a broker with its network, and starts the standby on the backup under its address."""
+    machine, other = machines["two"], machines["standby"]
+    before = {it.name: len(it.acknowledged) for it in customers}
+    run(f"{EXAMPLES}/backup.sh", str(machine.process.pid), machine.data, other.data)
+    time.sleep(0.5)
+    machine.stop(signal.SIGKILL)
+    run("ip", "netns", "del", f"{NET}-two")
+    run("ip", "-n", f"{NET}-standby", "addr", "add", f'{ADDRESS["two"]}/24', "dev", "eth0")
+    other.start(f"{room}/fleet/two.toml")
+    return before
+
+
+def looked_at(program, room):
+    """What holds, by name."""
+    fleet, authority = f"{room}/fleet.toml", certificate(room)
+    shutil.copy(f"{EXAMPLES}/fleet/fleet.toml", fleet)
+    settings_of(fleet, room)
+    machines = {name: Machine(program, room, name) for name in ADDRESS}
+    for name in ("one", "two", "three"):
+        machines[name].start(f"{room}/fleet/{name}.toml")
+    time.sleep(0.5)
+    with open(fleet, "rb") as it:
+        table = tomllib.load(it)["tenants"]
+    proxy = subprocess.Popen(["haproxy", "-W", "-db", "-f", f"{room}/fleet/haproxy.cfg"], stderr=subprocess.DEVNULL)
+    customers = [Customer(name, it, authority) for name, it in table.items()]
+    time.sleep(0.5)
+    for it in customers:
+        client = it.client()
+        yield f"{it.name} is told its address", client.told() == (it.host, PORT)
+        client.create(b"orders")
+        it.start()
+    yield "all produce", is_up(customers)
+    stood = moved(program, room, fleet, machines, proxy)
+    yield "all produce after the move", is_up(customers)
+    pauses = {it.name: round(it.pause, 2) for it in customers}
+    print(f"brokers stood still for { {name: round(it, 2) for name, it in stood.items()} } s; the longest pause of each: {pauses}")
+    for it in customers:
+        it.pause = 0.0
+    before = standby(room, machines, [it for it in customers if table[it.name]["broker"] == "two"])
+    yield "all produce on the standby", is_up(customers)
+    print(f"the longest pause of each at the standby: { {it.name: round(it.pause, 2) for it in customers} }")
+    for it in customers:
+        it.ends = True
+        it.join()
+        yield f"{it.name} has what was acknowledged", it.kept(before.get(it.name))
+    for it in machines.values():
+        if it.process and it.process.poll() is None:
+            it.stop(signal.SIGKILL)
+    proxy.kill()
+
+
+def main(program):
+    """Whether a fleet does what its page says."""
+    if "KB_FLEET" not in os.environ:
+        without_network()
+        made_network()
+        with contextlib.suppress(KeyboardInterrupt):
+            words = ["ip", "netns", "exec", NET, sys.executable, os.path.realpath(__file__), program]
+            status = subprocess.run(words, env={**os.environ, "KB_FLEET": "1"}).returncode
+        without_network()
+        return status
+    wrong = count = 0
+    with tempfile.TemporaryDirectory() as room:
+        for name, holds in looked_at(program, room):
+            count += 1
+            if not holds:
+                wrong += 1
+                print(f"wrong: {name}", flush=True)
+    print(f"{wrong} of {count} wrong")
+    return 1 if wrong else 0
+
+
+if __name__ == "__main__":
+    if len(sys.argv) != 2:
+        sys.exit(__doc__)
+    sys.exit(main(sys.argv[1]))

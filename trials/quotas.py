@@ -1,0 +1,179 @@
+#!/usr/bin/env python3
+"""A tenant at its limits is told so, and goes on once it made room; no other tenant hears of it.
+
+    trials/quotas.py KBROKER
+
+The settings give one tenant 10,000,000 bytes of batches, 4 topics, 12 partitions and 5 committed offsets; another has no limits. A request
+may name 2,000 entries. What is looked at is what stands in OPERATING, "What happens at each limit": which request is answered 44
+(POLICY_VIOLATION), that nothing of it is kept, and that deletions make room, also after the broker was killed and started again. Then it is
+started with lower limits: nothing is dropped, and what grows is refused. It prints `N of M wrong`.
+"""
+
+import struct
+import sys
+import tempfile
+
+from wire import Broker, Client, batch, castagnoli, committed, offset_at, text, topics
+
+LIMITED = """request_entries = 2000
+
+[[tenant]]
+name = "a"
+bytes = 10000000
+topics = 4
+partitions = 12
+offsets = 5
+"""
+
+LOWER = """request_entries = 2000
+
+[[tenant]]
+name = "a"
+bytes = 1048576
+topics = 1
+partitions = 2
+offsets = 1
+"""
+
+VALUE = bytes(900_000)
+
+
+def creation(names, only_checked=False):
+    """Makes topics, each with so many partitions; their error codes."""
+    body = struct.pack(">i", len(names))
+    for name, partitions in names:
+        body += text(name) + struct.pack(">ihii", partitions, 1, 0, 0)
+
+    def read(got):
+        at, codes = 4, []
+        for name, _ in names:
+            codes.append(struct.unpack_from(">h", got, at + 2 + len(name))[0])
+            at += 4 + len(name) + 2
+        return codes
+
+    return 19, 1, body + struct.pack(">i?", 5000, only_checked), read
+
+
+def commits(group, topic, partitions):
+    """A group commits offsets of partitions; the error codes."""
+    body = text(group) + struct.pack(">i", -1) + text(b"") + struct.pack(">q", -1) + struct.pack(">i", 1) + text(topic)
+    body += struct.pack(">i", len(partitions))
+    for number in partitions:
+        body += struct.pack(">iq", number, 7) + text(b"")
+    at = 10 + len(topic)
+    return 8, 2, body, lambda got: [struct.unpack_from(">h", got, at + 4 + 6 * n)[0] for n in range(len(partitions))]
+
+
+def idempotent(sent, producer, sequence):
+    """The batch with the id of a producer, its epoch 0 and a sequence."""
+    body = sent[21:43] + struct.pack(">qhi", producer, 0, sequence) + sent[57:]
+    return sent[:17] + struct.pack(">I", castagnoli(body)) + body
+
+
+def many_names(count):
+    """A request of Metadata that names one topic so often."""
+    return 3, 1, struct.pack(">i", count) + text(b"one") * count
+
+
+def is_closed(client, request):
+    """Whether the broker closes the connection at a request."""
+    try:
+        client.ask(*request)
+    except ConnectionError:
+        return True
+    return False
+
+
+def at_limits(broker):
+    """What is wrong at each limit, by name."""
+    ann, bob = Client(broker.port), Client(broker.port, b"bob", b"pw2")
+    checked = ann.all([creation([(b"one", 3), (b"two", 3), (b"three", 3), (b"four", 4)], True)])[0]
+    made = ann.all([creation([(b"one", 3), (b"two", 3), (b"three", 3), (b"four", 4), (b"four", 3)])])[0]
+    yield "a check counts partitions", checked == [0, 0, 0, 44]
+    yield "a name that stands twice is no limit's", made[3] == made[4] == 42
+    yield "three topics are made, the fourth by itself", made[:3] == [0, 0, 0] and ann.all([creation([(b"four", 4)])])[0] == [44]
+    yield "the last partitions fit", ann.all([creation([(b"four", 3)])])[0] == [0]
+    yield "a topic too many", ann.all([creation([(b"five", 1)])])[0] == [44]
+    yield "another tenant's topics", bob.all([creation([(b"t%d" % n, 5) for n in range(20)])])[0] == [0] * 20
+    yield "only what was made is there", sorted(ann.all([topics()])[0]) == [b"four", b"one", b"three", b"two"]
+
+    sent = batch(VALUE)
+    codes = [ann.produce(b"one", sent) for _ in range(14)]
+    fit = 10_000_000 // len(sent)
+    yield "batches up to the limit", [code for code, _ in codes] == [0] * fit + [44] * (14 - fit) and codes[-1] == (44, -1)
+    yield "what was refused is not there", ann.all([offset_at(b"one", -1)])[0] == (0, fit)
+    yield "a smaller batch that fits", ann.produce(b"two", batch(b"x"))[0] == 0
+    yield "another tenant's batches", [bob.produce(b"t1", sent)[0] for _ in range(15)] == [0] * 15
+    yield "deletion of records makes room", ann.delete_records(b"one", 2) == 0 and ann.produce(b"one", sent) == (0, fit)
+
+    first = ann.all([commits(b"g", b"one", [0, 1, 2]), commits(b"h", b"two", [0, 1, 2])])
+    yield "offsets up to the limit", first == [[0, 0, 0], [0, 0, 44]]
+    yield "an offset that is there moves", ann.all([commits(b"g", b"one", [0, 1, 2])])[0] == [0, 0, 0]
+    yield "what was refused was not committed", ann.all([committed(b"k", b"one")])[0] == -1 and ann.commit(b"k", b"one", b"") == 44
+    yield "an unknown partition is told as that", ann.commit(b"k", b"none", b"") == 3
+    yield "another tenant's offsets", [bob.commit(b"g%d" % n, b"t1", b"") for n in range(20)] == [0] * 20
+
+    yield "2,000 entries are served", not is_closed(Client(broker.port), many_names(1_999))
+    yield "a request with more closes its connection", is_closed(Client(broker.port), many_names(2_001))
+    yield "the log names it", "Metadata" in broker.log()
+    yield "deleted topics make room", ann.delete(b"three") == 0 and ann.all([creation([(b"five", 3)])])[0] == [0]
+
+
+def repeats(broker):
+    """What is wrong with a repeat at the limit: it is answered as ever."""
+    ann = Client(broker.port)
+    producer = struct.unpack_from(">q", ann.ask(22, 0, struct.pack(">hi", -1, 5000)), 6)[0]
+    ann.delete_records(b"one", -1)
+    sent = idempotent(batch(VALUE), producer, 0)
+    code, offset = ann.produce(b"one", sent)
+    while ann.produce(b"two", batch(VALUE))[0] == 0:
+        pass
+    yield "a repeat at the limit", code == 0 and ann.produce(b"one", sent) == (0, offset)
+    yield "the next of that producer", ann.produce(b"one", idempotent(batch(VALUE), producer, 1)) == (44, -1)
+
+
+def started_again(broker):
+    """What is wrong after a kill: what was stored is counted."""
+    ann = Client(broker.port)
+    yield "bytes are counted after a start", ann.produce(b"two", batch(VALUE)) == (44, -1)
+    yield "topics are counted after a start", ann.all([creation([(b"six", 1)])])[0] == [44]
+    yield "offsets are counted after a start", ann.commit(b"k", b"one", b"") == 44
+
+
+def lowered(broker):
+    """What is wrong where the limits are below what is there: nothing is dropped."""
+    ann = Client(broker.port)
+    yield "topics stay", len(ann.all([topics()])[0]) == 4
+    yield "records stay", ann.all([offset_at(b"two", -1)])[0][1] > 1
+    yield "a batch is refused", ann.produce(b"two", batch(b"x")) == (44, -1)
+    yield "a committed offset moves", ann.commit(b"g", b"one", b"") == 0
+    yield "a new one does not come", ann.commit(b"k", b"one", b"") == 44
+    yield "deletions are never refused", [ann.delete(it) for it in (b"two", b"four", b"five")] == [0, 0, 0]
+    yield "what is below the limit is taken", ann.delete_records(b"one", -1) == 0 and ann.produce(b"one", batch(b"x"))[0] == 0
+
+
+def main(program):
+    """Whether each limit holds, and holds nobody else."""
+    wrong = count = 0
+    with tempfile.TemporaryDirectory() as room:
+        for more, looks in ((LIMITED, at_limits), (LIMITED, repeats), (LIMITED, started_again), (LOWER, lowered)):
+            broker = Broker(program, room, more)
+            try:
+                if not broker.listens():
+                    print(f"the broker does not listen: {broker.log()}")
+                    return 1
+                for name, is_well in looks(broker):
+                    count += 1
+                    if not is_well:
+                        wrong += 1
+                        print(f"wrong: {name}")
+            finally:
+                broker.stop()
+    print(f"{wrong} of {count} wrong")
+    return 1 if wrong else 0
+
+
+if __name__ == "__main__":
+    if len(sys.argv) != 2:
+        sys.exit(__doc__)
+    sys.exit(main(sys.argv[1]))

@@ -1,8 +1,0 @@
-use Rattle.std.proofs.Common.{◌≡◌, ◌++◌, map}
-use Rattle.std.specs.List.{flat_map, range_with_len}
-use Rattle.kb_metrics.specs.Families.{api_text, placed}
-use Rattle.kb_metrics.proofs.families.push_requests.Given as goal
-
--- the keys so far were written
-abbrev pub invariant-loop-key : goal.invariant-loop-key
-invariant-loop-key l = l.out.items ≡ l.fn.out.items ++ flat_map (api_text l.family l.tenant) (map (placed l.requests) (range_with_len 0 l.key))

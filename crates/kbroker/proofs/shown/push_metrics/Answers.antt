@@ -7,7 +7,7 @@ use Rattle.kbroker.proofs.shown.push_metrics.Goals as goal
 
 pub returns : goal.returns
 returns g c =
-    let edge = c.args.shown.now.edge.now in
+    let edge = c.args.edge.now in
     let files = (g.S.Store.disk edge.host.broker.store).files in
     let all : map (observed g.L.PartitionLog.log files) c.deref.result.now ≡ observed_from edge.host.broker.state edge.traffic.items =
     ap (map (observed g.L.PartitionLog.log files)) c.deref.ensures.value ∙ c.in_ok-tenants.ensures in

@@ -13,4 +13,12 @@ is_past (Some left) count = nat_lt left count
 
 -- no limit
 abbrev pub no_limits : DataLimits
-no_limits = record { topics = None; partitions = None; offsets = None; bytes = None; request_entries = None }
+no_limits = record {
+  topics = None;
+  partitions = None;
+  offsets = None;
+  bytes = None;
+  request_entries = None;
+  fetch_bytes = None;
+  reply_bytes = None;
+}

@@ -15,6 +15,10 @@ pub struct DataLimits {
     pub bytes: Option<u64>,
     /// How many entries one request may name: topics and partitions together.
     pub request_entries: Option<u64>,
+    /// How many bytes of records a reply of Fetch has, but for a first batch, which is given whole.
+    pub fetch_bytes: Option<u64>,
+    /// How many bytes a reply may have.
+    pub reply_bytes: Option<u64>,
 }
 
 impl DataLimits {
@@ -28,6 +32,8 @@ impl DataLimits {
             offsets: None,
             bytes: None,
             request_entries: None,
+            fetch_bytes: None,
+            reply_bytes: None,
         }
     }
 }

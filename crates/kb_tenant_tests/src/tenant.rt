@@ -115,6 +115,8 @@ fn limits_are_told(rt: HostRuntime) -> Result<(), Fail> {
         offsets: Some(1),
         bytes: Some(140),
         request_entries: None,
+        fetch_bytes: None,
+        reply_bytes: None,
     };
     let mut tenant = Tenant::new(rt.alloc(), limits)?;
     tenant.is_refused(&rt, rt.alloc(), &AT_LIMITS)?;

@@ -1,11 +1,11 @@
 //! How much a tenant has: the bytes of its batches, its partitions, and the offsets that its groups have committed.
-ghost use Rattle.std.specs.Prelude.{◌≡◌, ◌-◌, ◌+◌, ◌^◌, ℕ, Ok, min, option_map};
-ghost use Rattle.kb_store.specs.Disk.{Table};
+ghost use Rattle.std.specs.Prelude.{◌≡◌, ◌-◌, ◌+◌, ◌^◌, ℕ, Ok, Some, min, option_map, IfOk};
+ghost use Rattle.kb_store.specs.Disk.{Files, Table};
 ghost use Rattle.kb_topics.specs.Catalog.{known};
 ghost use Rattle.kb_tenant_state.specs.Calls.{known_at};
-ghost use Rattle.kb_tenant_state.specs.Parts.{IsSound, scene};
+ghost use Rattle.kb_tenant_state.specs.Parts.{Agrees, IsSound, scene, world_of};
 ghost use Rattle.kb_tenant_state.specs.Steps.{IsStep, Meets};
-ghost use Rattle.kb_tenant_state.specs.Stored.{commits_to, offsets_in, offsets_to, partitions_in, stored_in, up_to_end};
+ghost use Rattle.kb_tenant_state.specs.Stored.{commits_to, offsets_in, offsets_to, partitions_in, stored_in, up_to_end, IsTold};
 ghost use Rattle.kb_tenant_state.specs.Told.{IsWant, Tells};
 
 use crate::fault::PartitionFault;
@@ -70,6 +70,8 @@ impl<L: PartitionLog> Parts<L> {
             Meets a (scene L.log S.disk self.new shelf.new) (result ≡ Ok (min (stored_in a.state.world) (2 ^ 64 - 1))) }
         ensures told { let a = scene L.log S.disk self.old shelf.old in let b = scene L.log S.disk self.new shelf.new in
             Tells a b (result ≡ Ok (min (stored_in a.state.world) (2 ^ 64 - 1))) (IsWant a b) result }
+        // It is not asked for twice.
+        ensures known { IfOk result (λ stored. self.new.stored ≡ Some stored) }
     {
         if let Some(stored) = self.stored {
             return Ok(stored);
@@ -84,6 +86,15 @@ impl<L: PartitionLog> Parts<L> {
                 Err(fault)
             }
         }
+    }
+
+    /// The same, where it is known.
+    pub fn stored_bytes(&self) -> Option<u64>
+        ensures is { result ≡ self.now.stored }
+        ensures told { (files : Files) → Agrees L.log self.now files
+            → IsTold result (up_to_end (stored_in (world_of L.log self.now files))) }
+    {
+        self.stored
     }
 
     /// How many offsets groups have committed in all, or else the greatest number.

@@ -1,5 +1,5 @@
 -- What a settings document says, key by key.
-use Rattle.std.specs.Prelude.{ℕ, pos, List, [], ◌∷◌, map, length, codes, Bool, false, ◌&&◌, if◌then◌else◌}
+use Rattle.std.specs.Prelude.{ℕ, pos, List, [], ◌∷◌, map, length, codes, Bool, true, false, ◌&&◌, if◌then◌else◌}
 use Rattle.std.specs.Prelude.{Option, None, Some, is_some, option_map, option_and_then, Result, Ok, Err}
 use Rattle.std.specs.List.{list_any}
 use Rattle.std.specs.Str.{bytes_eq}
@@ -8,7 +8,7 @@ use Rattle.toml.specs.Data.{Items, no_items, item, Members, no_members, member}
 use Rattle.kb_settings.specs.Names.{in_order}
 use Rattle.kb_settings.specs.Settings.{is_within, is_credential, is_tenant, are_different}
 use Rattle.kb_settings.specs.Address.{is_listened, bare, endpoint_in}
-use Rattle.kb_settings.specs.Limits.{Limits, are_limits, standard_groups}
+use Rattle.kb_settings.specs.Limits.{Limits, are_limits, standard_groups, standard_data}
 use Rattle.kb_settings.specs.Metrics.{is_token, is_guarded}
 use Rattle.kb_settings.specs.Values.{Account, Metrics, Requests, Values}
 use Rattle.kb_settings.specs.declared.sync.Sync.{Sync}
@@ -130,7 +130,7 @@ said_or standard says (Some value) = says value
 abbrev pub tenant_keys : List (List ℕ)
 tenant_keys =
     codes "name" ∷ codes "connections" ∷ codes "reserved_connections" ∷ codes "groups" ∷ codes "group_bytes"
-    ∷ codes "topics" ∷ codes "partitions" ∷ codes "offsets" ∷ codes "bytes" ∷ codes "advertise" ∷ []
+    ∷ codes "topics" ∷ codes "partitions" ∷ codes "offsets" ∷ codes "bytes" ∷ codes "fetch_bytes" ∷ codes "advertise" ∷ []
 
 -- limits of this name and these numbers, where all are right, and there is no other key
 abbrev pub limits_with : Option (List ℕ) → Option ℕ → Option ℕ → Option GroupLimits → Option DataLimits → Option (Option (List ℕ × ℕ))
@@ -166,18 +166,19 @@ groups_of entry =
     groups_with (said_or standard_groups.groups (number_in 0 1000) (get_member (codes "groups") entry))
     (said_or standard_groups.bytes (number_in 1048576 9223372036854775807) (get_member (codes "group_bytes") entry))
 
-abbrev pub data_with : Option (Option ℕ) → Option (Option ℕ) → Option (Option ℕ) → Option (Option ℕ) → Option DataLimits
-data_with (Some topics) (Some partitions) (Some offsets) (Some bytes) =
-    Some (record { topics = topics; partitions = partitions; offsets = offsets; bytes = bytes })
-data_with topics partitions offsets bytes = None
+abbrev pub data_with : Option (Option ℕ) → Option (Option ℕ) → Option ℕ → Option (Option ℕ) → Option (Option ℕ) → Option DataLimits
+data_with (Some topics) (Some partitions) (Some offsets) (Some bytes) (Some fetch_bytes) =
+    Some (record { topics = topics; partitions = partitions; offsets = offsets; bytes = bytes; fetch_bytes = fetch_bytes })
+data_with topics partitions offsets bytes fetch_bytes = None
 
 -- what an entry's tenant may have
 abbrev pub data_of : Members → Option DataLimits
 data_of entry =
     data_with (said_or None (limit_in 0 1000) (get_member (codes "topics") entry))
     (said_or None (limit_in 0 64000) (get_member (codes "partitions") entry))
-    (said_or None (limit_in 0 1000000) (get_member (codes "offsets") entry))
+    (said_or standard_data.offsets (number_in 0 1000000) (get_member (codes "offsets") entry))
     (said_or None (limit_in 1048576 9223372036854775807) (get_member (codes "bytes") entry))
+    (said_or None (limit_in 65536 8388608) (get_member (codes "fetch_bytes") entry))
 
 -- the host and the port that an entry's tenant has of its own, where it has some
 abbrev pub advertise_of : Members → Option (Option (List ℕ × ℕ))
@@ -216,7 +217,8 @@ settings_keys =
     codes "host" ∷ codes "port" ∷ codes "advertise" ∷ codes "segment_bytes" ∷ codes "cache_batches" ∷ codes "cache_bytes"
     ∷ codes "connections" ∷ codes "output_bytes" ∷ codes "sync" ∷ codes "sync_ms" ∷ codes "login_seconds" ∷ codes "reply_seconds"
     ∷ codes "strangers" ∷ codes "request_seconds" ∷ codes "idle_seconds" ∷ codes "input_bytes" ∷ codes "request_entries"
-    ∷ codes "stock_clients" ∷ codes "metrics" ∷ codes "metrics_token" ∷ codes "data" ∷ codes "user" ∷ codes "tenant" ∷ []
+    ∷ codes "reply_bytes" ∷ codes "stock_clients" ∷ codes "logins" ∷ codes "metrics" ∷ codes "metrics_token" ∷ codes "data"
+    ∷ codes "user" ∷ codes "tenant" ∷ []
 
 -- goes on with what is said at a key, or names the key where it is wrong
 abbrev pub go_on : {A B : Type 0} → List ℕ → Option A → (A → Result B (List ℕ)) → Result B (List ℕ)
@@ -267,12 +269,21 @@ requests_in document =
     read_key document (codes "idle_seconds") 600 (number_in 0 4294967) λ idle_seconds.
     read_key document (codes "input_bytes") 268435456 (number_in 8388608 4294967295) λ input_bytes.
     read_key document (codes "request_entries") None (limit_in 1000 2097152) λ request_entries.
+    read_key document (codes "reply_bytes") None (limit_in 1048576 2147483647) λ reply_bytes.
     Ok (record {
       request_seconds = request_seconds;
       idle_seconds = idle_seconds;
       input_bytes = input_bytes;
       request_entries = request_entries;
+      reply_bytes = reply_bytes;
     })
+
+-- whether stock clients are served, and whether logins are told in the log
+abbrev pub flags_in : Members → Result (Bool × Bool) (List ℕ)
+flags_in document =
+    read_key document (codes "stock_clients") false as_bool λ stock_clients.
+    read_key document (codes "logins") true as_bool λ logins.
+    Ok (stock_clients, logins)
 
 -- a token, where one is said
 abbrev pub token_in : Data → Option (Option (List ℕ))
@@ -310,7 +321,7 @@ settings_in document =
     with_part (seconds_in document) λ seconds.
     read_key document (codes "strangers") room.0 (number_in 1 room.0) λ strangers.
     with_part (requests_in document) λ requests.
-    read_key document (codes "stock_clients") false as_bool λ stock_clients.
+    with_part (flags_in document) λ flags.
     with_part (metrics_in document) λ metrics.
     read_key document (codes "data") None folder_in λ folder.
     go_on (codes "user") (option_and_then users_in (get_member (codes "user") document)) λ users.
@@ -330,7 +341,8 @@ settings_in document =
       reply_seconds = seconds.1;
       strangers = strangers;
       requests = requests;
-      stock_clients = stock_clients;
+      stock_clients = flags.0;
+      logins = flags.1;
       metrics = metrics;
       folder = folder;
       users = users;

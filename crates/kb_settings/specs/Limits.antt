@@ -12,9 +12,9 @@ use Rattle.kb_settings.specs.declared.tenant_limits.TenantLimits.{TenantLimits}
 abbrev pub standard_groups : GroupLimits
 standard_groups = record { groups = 1000; bytes = 67108864 }
 
--- what a tenant may have, where it is not said: there is no limit
-abbrev pub no_limits : DataLimits
-no_limits = record { topics = None; partitions = None; offsets = None; bytes = None }
+-- what a tenant may have, where it is not said: 1,000,000 offsets, and no other limit
+abbrev pub standard_data : DataLimits
+standard_data = record { topics = None; partitions = None; offsets = 1000000; bytes = None; fetch_bytes = None }
 
 -- a tenant's connections: how many at most, and how many are kept free for it; what its groups may take, and what it may have; and
 -- the host and the port that its clients are told, where they are others than the broker's

@@ -1,5 +1,6 @@
 -- The limits of the settings.
-use Rattle.std.specs.Prelude.{ℕ, List, [], ◌∷◌, length, Bool, true, not, ◌==◌, ◌&&◌, ◌||◌, nat_lt}
+use Rattle.std.specs.Prelude.{ℕ, List, [], ◌∷◌, length, Bool, true, not, ◌==◌, ◌&&◌, ◌||◌, nat_lt, if◌then◌else◌}
+use Rattle.std.specs.Prelude.{Option, None, Some}
 use Rattle.std.specs.List.{list_all, list_any}
 use Rattle.std.specs.Str.{bytes_eq}
 
@@ -25,6 +26,11 @@ is_name_char c = is_within 97 122 c || is_within 65 90 c || is_within 48 57 c ||
 -- a tenant's name: 1 to 64 of these
 abbrev pub is_tenant : List ℕ → Bool
 is_tenant text = is_within 1 64 (length text) && list_all is_name_char text
+
+-- a limit that holds where it is said, and so much where it is not and stock clients are served
+abbrev pub limit_for : ℕ → Bool → Option ℕ → Option ℕ
+limit_for standard stock_clients (Some limit) = Some limit
+limit_for standard stock_clients None = if stock_clients then Some standard else None
 
 -- no text stands twice
 abbrev pub are_different : List (List ℕ) → Bool

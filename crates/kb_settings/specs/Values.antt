@@ -1,10 +1,11 @@
 -- The settings as bytes and numbers, and the standard ones.
-use Rattle.std.specs.Prelude.{ℕ, List, [], ◌∷◌, ◌++◌, map, Bool, false, if◌then◌else◌}
+use Rattle.std.specs.Prelude.{ℕ, List, [], ◌∷◌, ◌++◌, map, Bool, true, false}
 use Rattle.std.specs.Prelude.{Option, None, Some, option_map, unwrap_or, string_bytes, codes}
 use Rattle.std.specs.List.{find}
 use Rattle.std.specs.Str.{bytes_eq}
+use Rattle.kb_settings.specs.Settings.{limit_for}
 use Rattle.kb_settings.specs.Endpoint.{host_and_port}
-use Rattle.kb_settings.specs.Limits.{Limits, limits_in, standard_groups, no_limits}
+use Rattle.kb_settings.specs.Limits.{Limits, limits_in, standard_groups, standard_data}
 use Rattle.kb_settings.specs.declared.settings.User.{User}
 use Rattle.kb_settings.specs.declared.settings.Settings.{Settings}
 use Rattle.kb_settings.specs.declared.requests.RequestLimits.{RequestLimits}
@@ -20,12 +21,14 @@ pub record Account : Type 0 where
   pub password : List ℕ
   pub tenant : List ℕ
 
--- by when a request is whole and a socket is used, the bytes of all begun requests, and how many entries one may name, where it is said
+-- by when a request is whole and a socket is used, and the bytes of all begun requests; and where it is said, how many entries a
+-- request may name, and how many bytes its reply may have
 pub record Requests : Type 0 where
   pub request_seconds : ℕ
   pub idle_seconds : ℕ
   pub input_bytes : ℕ
   pub request_entries : Option ℕ
+  pub reply_bytes : Option ℕ
 
 -- where metrics are served, and the token that who asks has to name
 pub record Metrics : Type 0 where
@@ -48,6 +51,7 @@ pub record Values : Type 0 where
   pub strangers : ℕ
   pub requests : Requests
   pub stock_clients : Bool
+  pub logins : Bool
   pub metrics : Metrics
   pub folder : Option (List ℕ)
   pub users : List Account
@@ -62,6 +66,7 @@ requests_of r = record {
   idle_seconds = r.idle_seconds;
   input_bytes = r.input_bytes;
   request_entries = r.request_entries;
+  reply_bytes = r.reply_bytes;
 }
 
 abbrev pub metrics_of : MetricsSettings → Metrics
@@ -84,6 +89,7 @@ values_of s = record {
   strangers = s.strangers;
   requests = requests_of s.requests;
   stock_clients = s.stock_clients;
+  logins = s.logins;
   metrics = metrics_of s.metrics;
   folder = option_map string_bytes s.folder;
   users = map account_of s.users.items;
@@ -111,10 +117,10 @@ abbrev pub groups_of : List ℕ → Values → GroupLimits
 groups_of name v = groups_or (find (λ t. bytes_eq t.name name) v.tenants)
 
 abbrev pub data_or : Option Limits → DataLimits
-data_or None = no_limits
+data_or None = standard_data
 data_or (Some t) = t.data_limits
 
--- what a tenant may have: no limit, where no limits name it
+-- what a tenant may have: the standard, where no limits name it
 abbrev pub data_of : List ℕ → Values → DataLimits
 data_of name v = data_or (find (λ t. bytes_eq t.name name) v.tenants)
 
@@ -126,13 +132,13 @@ told_or broker (Some t) = unwrap_or t.advertise broker
 abbrev pub told_to : List ℕ → Values → List ℕ × ℕ
 told_to name v = told_or (told v) (find (λ t. bytes_eq t.name name) v.tenants)
 
-abbrev pub entries_or : Bool → Option ℕ → Option ℕ
-entries_or stock_clients (Some entries) = Some entries
-entries_or stock_clients None = if stock_clients then Some 65536 else None
-
 -- how many entries a request may name: where it is not said, 65,536 where stock clients are served, and else any number
 abbrev pub entries_for : Bool → Values → Option ℕ
-entries_for stock_clients v = entries_or stock_clients v.requests.request_entries
+entries_for stock_clients v = limit_for 65536 stock_clients v.requests.request_entries
+
+-- how many bytes a reply may have: where it is not said, 33,554,432 where stock clients are served, and else any number
+abbrev pub reply_bytes_for : Bool → Values → Option ℕ
+reply_bytes_for stock_clients v = limit_for 33554432 stock_clients v.requests.reply_bytes
 
 abbrev pub ann : Account
 ann = record { name = codes "ann"; password = codes "pw1"; tenant = codes "a" }
@@ -141,7 +147,13 @@ abbrev pub bob : Account
 bob = record { name = codes "bob"; password = codes "pw2"; tenant = codes "b" }
 
 abbrev pub standard_requests : Requests
-standard_requests = record { request_seconds = 30; idle_seconds = 600; input_bytes = 268435456; request_entries = None }
+standard_requests = record {
+  request_seconds = 30;
+  idle_seconds = 600;
+  input_bytes = 268435456;
+  request_entries = None;
+  reply_bytes = None;
+}
 
 -- the standard settings
 abbrev pub standard : Values
@@ -161,6 +173,7 @@ standard = record {
   strangers = 1024;
   requests = standard_requests;
   stock_clients = false;
+  logins = true;
   metrics = record { address = None; token = None };
   folder = None;
   users = ann ∷ bob ∷ [];

@@ -141,11 +141,11 @@ pub fn limit(document: &Table, key: &str, low: u64, high: u64) -> Option<Option<
 }
 
 /// Whether it is so.
-pub fn flag(document: &Table, key: &str) -> Option<bool>
-    ensures { result ≡ said_or false as_bool (get_member key.now (table_view document.now)) }
+pub fn flag(document: &Table, key: &str, standard: bool) -> Option<bool>
+    ensures { result ≡ said_or standard as_bool (get_member key.now (table_view document.now)) }
 {
     match at(document, key) {
-        None => Some(false),
+        None => Some(standard),
         Some(value) => value.as_bool(),
     }
 }

@@ -7,7 +7,7 @@ ghost use Rattle.kb_settings.specs.Endpoint.{host_and_port};
 ghost use Rattle.kb_settings.specs.Values.{values_of, requests_of, metrics_of};
 ghost use Rattle.kb_settings.specs.Address.{is_listened};
 ghost use Rattle.kb_settings.specs.Document.{said_or, number_in, cache_in, room_in, syncs_in, seconds_in};
-ghost use Rattle.kb_settings.specs.Document.{requests_in, metrics_in, settings_in};
+ghost use Rattle.kb_settings.specs.Document.{requests_in, flags_in, metrics_in, settings_in};
 ghost use Rattle.kb_settings.specs.Reading.{settings_of, IsFaultOf, IsFaultAt, IsFaultIn};
 
 use crate::address::is_guarded;
@@ -27,7 +27,7 @@ use toml::Table;
 const MIB: u32 = 1_048_576;
 
 /// The keys that there are.
-const KEYS: [&str; 23] = [
+const KEYS: [&str; 25] = [
     "host",
     "port",
     "advertise",
@@ -45,7 +45,9 @@ const KEYS: [&str; 23] = [
     "idle_seconds",
     "input_bytes",
     "request_entries",
+    "reply_bytes",
     "stock_clients",
+    "logins",
     "metrics",
     "metrics_token",
     "data",
@@ -56,12 +58,12 @@ const KEYS: [&str; 23] = [
 impl Settings {
     /// The settings of a TOML text: `host`, `port`, `advertise`, `segment_bytes`, `cache_batches`, `cache_bytes`, `connections`,
     /// `output_bytes`, `sync`, `sync_ms`, `login_seconds`, `reply_seconds`, `strangers`, `request_seconds`, `idle_seconds`,
-    /// `input_bytes`, `request_entries`, `stock_clients`, `metrics`, `metrics_token` and `data`, each as in [`Settings::standard`]
-    /// where it is missing, but `strangers` as `connections`. Then an array of tables `user` with `name`, `password` and `tenant`,
-    /// and one of tables `tenant` with `name`, `connections`, `reserved_connections`, `groups`, `group_bytes`, `topics`,
-    /// `partitions`, `offsets`, `bytes` and `advertise`, which may be missing, all but the name. `advertise` and `metrics` are
-    /// `HOST:PORT`, where an IPv6 address stands in brackets; around `host` they may be left out. `metrics_token` may be missing
-    /// where `metrics` is this machine alone.
+    /// `input_bytes`, `request_entries`, `reply_bytes`, `stock_clients`, `logins`, `metrics`, `metrics_token` and `data`, each as in
+    /// [`Settings::standard`] where it is missing, but `strangers` as `connections`. Then an array of tables `user` with `name`,
+    /// `password` and `tenant`, and one of tables `tenant` with `name`, `connections`, `reserved_connections`, `groups`,
+    /// `group_bytes`, `topics`, `partitions`, `offsets`, `bytes`, `fetch_bytes` and `advertise`, which may be missing, all but the
+    /// name. `advertise` and `metrics` are `HOST:PORT`, where an IPv6 address stands in brackets; around `host` they may be left
+    /// out. `metrics_token` may be missing where `metrics` is this machine alone.
     ///
     /// `Text` comes only where the text is no TOML document. `Field` names the first key that is wrong, in this order; keys
     /// that there are not come last, in byte order. Anything wrong with a user, or with the users together, is wrong with
@@ -94,7 +96,7 @@ fn in_document(alloc: Global, document: &Table) -> Result<Settings, SettingsFaul
     let (login_seconds, reply_seconds) = seconds(alloc, document)?;
     let strangers = limited(alloc, document, "strangers", connections, 1, connections)?;
     let requests = requests(alloc, document)?;
-    let stock_clients = said(alloc, "stock_clients", flag(document, "stock_clients"))?;
+    let (stock_clients, logins) = flags(alloc, document)?;
     let metrics = metrics(alloc, document)?;
     let folder = said(alloc, "data", folder(document))?;
     let users = said(alloc, "user", users(alloc, document)?)?;
@@ -119,6 +121,7 @@ fn in_document(alloc: Global, document: &Table) -> Result<Settings, SettingsFaul
         strangers,
         requests,
         stock_clients,
+        logins,
         metrics,
         folder: copied(alloc, folder)?,
         users,
@@ -194,7 +197,23 @@ fn requests(alloc: Global, document: &Table) -> Result<RequestLimits, SettingsFa
             "request_entries",
             limit(document, "request_entries", 1000, 2_097_152),
         )?,
+        reply_bytes: said(
+            alloc,
+            "reply_bytes",
+            limit(document, "reply_bytes", MIB as u64, 2_147_483_647),
+        )?,
     })
+}
+
+/// Whether stock clients are served, and whether logins are told in the log.
+fn flags(alloc: Global, document: &Table) -> Result<(bool, bool), SettingsFault>
+    ensures ok { IfOk result (λ f. flags_in (table_view document.now) ≡ Ok f) }
+    ensures err { IfErr result (IsFaultIn (flags_in (table_view document.now))) }
+{
+    let stock_clients = flag(document, "stock_clients", false);
+    let stock_clients = said(alloc, "stock_clients", stock_clients)?;
+    let logins = said(alloc, "logins", flag(document, "logins", true))?;
+    Ok((stock_clients, logins))
 }
 
 /// Where metrics are served, and to whom.

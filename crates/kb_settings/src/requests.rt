@@ -1,9 +1,10 @@
-//! What begun requests and idle sockets may take, and what a request may name.
+//! What begun requests and idle sockets may take, what a request may name, and what its reply may have.
 
 ghost use Rattle.std.specs.Prelude.{◌≤◌, IfSome};
 ghost use Rattle.std.proofs.Props.{props};
 
-/// By when a request is whole and a socket is used, how many bytes begun requests take, and how many entries one names.
+/// By when a request is whole and a socket is used, how many bytes begun requests take, how many entries one names, and how many
+/// bytes its reply has.
 #[derive(Clone, Copy, Debug, PartialEq, Eq)]
 pub struct RequestLimits {
     /// By how many seconds after its first byte a request is whole: 1 to 3,600.
@@ -14,8 +15,11 @@ pub struct RequestLimits {
     pub input_bytes: u32,
     /// How many entries a request may name, where it is said: 1,000 to 2,097,152.
     pub request_entries: Option<u64>,
+    /// How many bytes a reply may have, where it is said: 1,048,576 to 2,147,483,647.
+    pub reply_bytes: Option<u64>,
     pub ghost request_seconds_fit: { (1 ≤ request_seconds) × (request_seconds ≤ 3600) },
     pub ghost idle_seconds_fit: { idle_seconds ≤ 4294967 },
     pub ghost input_bytes_fit: { 8388608 ≤ input_bytes },
     pub ghost request_entries_fit: { IfSome request_entries (λ n. (1000 ≤ n) × (n ≤ 2097152)) } by { Prim.hlevel props },
+    pub ghost reply_bytes_fit: { IfSome reply_bytes (λ n. (1048576 ≤ n) × (n ≤ 2147483647)) } by { Prim.hlevel props },
 }

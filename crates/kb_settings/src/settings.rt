@@ -2,7 +2,7 @@
 
 ghost use Rattle.std.specs.Prelude.{◌≡◌, ◌≤◌, IsTrue, IfOk, false, is_some, map, string_bytes, length};
 ghost use Rattle.kb_settings.specs.Address.{is_listened};
-ghost use Rattle.kb_settings.specs.Settings.{is_host, is_credential, is_tenant, are_different};
+ghost use Rattle.kb_settings.specs.Settings.{is_host, is_credential, is_tenant, are_different, limit_for};
 ghost use Rattle.kb_settings.specs.Names.{in_order};
 ghost use Rattle.kb_settings.specs.Limits.{limits_in, are_limits};
 
@@ -76,10 +76,13 @@ pub struct Settings {
     pub reply_seconds: u32,
     /// How many sockets there are at most at a time before their login: 1 to `connections`.
     pub strangers: u32,
-    /// By when a request is whole and a socket is used, how many bytes begun requests take, and how many entries one names.
+    /// By when a request is whole and a socket is used, how many bytes begun requests take, how many entries one names, and how
+    /// many bytes its reply has.
     pub requests: RequestLimits,
     /// Whether a client that speaks another version of the protocol may be served, as with the flag `--stock-clients`.
     pub stock_clients: bool,
+    /// Whether logins are told in the log.
+    pub logins: bool,
     /// Where metrics are served, and to whom.
     pub metrics: MetricsSettings,
     /// The data folder, where there is one.
@@ -108,7 +111,8 @@ pub struct Settings {
 
 impl Settings {
     ghost use Rattle.std.specs.Prelude.{Some, Ok};
-    ghost use Rattle.kb_settings.specs.Values.{values_of, told, limits_of, groups_of, data_of, told_to, entries_for};
+    ghost use Rattle.kb_settings.specs.Values.{values_of, told, limits_of, groups_of, data_of, told_to};
+    ghost use Rattle.kb_settings.specs.Values.{entries_for, reply_bytes_for};
     ghost use Rattle.kb_settings.specs.Values.{standard, standard_text};
     ghost use Rattle.kb_settings.specs.Reading.{settings_of};
 
@@ -117,7 +121,7 @@ impl Settings {
     /// of 67,108,864 bytes at most, 1,024 clients are connected at most, 268,435,456 bytes of output are kept, what was done is
     /// made to last each 1,000 ms, a socket has 10 seconds for its login and 60 for the next byte of a reply, all of them may be
     /// before their login, a request is whole by 30 seconds, a socket is used by 600, begun requests take 268,435,456 bytes at
-    /// most, no metrics are served, and there is no folder and are no limits of tenants.
+    /// most, logins are told in the log, no metrics are served, and there is no folder and are no limits of tenants.
     pub fn standard(alloc: Global) -> Result<Settings, AllocError>
         ensures value { IfOk result (λ settings. values_of settings ≡ standard) }
         ensures text { IfOk result (λ settings. settings_of standard_text ≡ Some (Ok (values_of settings))) }
@@ -144,8 +148,10 @@ impl Settings {
                 idle_seconds: 600,
                 input_bytes: 268_435_456,
                 request_entries: None,
+                reply_bytes: None,
             },
             stock_clients: false,
+            logins: true,
             metrics: MetricsSettings {
                 address: None,
                 token: None,
@@ -199,13 +205,13 @@ impl Settings {
         }
     }
 
-    /// What the tenant of this name may have: [`DataLimits::none`], where no limits name it.
+    /// What the tenant of this name may have: [`DataLimits::standard`], where no limits name it.
     pub fn data_of(&self, tenant: &str) -> DataLimits
         ensures { result ≡ data_of tenant.now (values_of self.now) }
     {
         match limits_of(&self.tenants, tenant) {
             Some(limits) => limits.data_limits,
-            None => DataLimits::none(),
+            None => DataLimits::standard(),
         }
     }
 
@@ -228,10 +234,24 @@ impl Settings {
     pub fn entries_for(&self, stock_clients: bool) -> Option<u64>
         ensures { result ≡ entries_for stock_clients (values_of self.now) }
     {
-        match self.requests.request_entries {
-            Some(entries) => Some(entries),
-            None if stock_clients => Some(65_536),
-            None => None,
-        }
+        limit_for(self.requests.request_entries, 65_536, stock_clients)
+    }
+
+    /// How many bytes a reply may have. Where it is not said it is 33,554,432 where stock clients are served, and else any number.
+    pub fn reply_bytes_for(&self, stock_clients: bool) -> Option<u64>
+        ensures { result ≡ reply_bytes_for stock_clients (values_of self.now) }
+    {
+        limit_for(self.requests.reply_bytes, 33_554_432, stock_clients)
+    }
+}
+
+/// A limit that holds where it is said, and so much where it is not and stock clients are served.
+fn limit_for(said: Option<u64>, standard: u64, stock_clients: bool) -> Option<u64>
+    ensures { result ≡ limit_for standard stock_clients said }
+{
+    match said {
+        Some(limit) => Some(limit),
+        None if stock_clients => Some(standard),
+        None => None,
     }
 }

@@ -30,7 +30,7 @@ impl GroupLimits {
     }
 }
 
-/// What a tenant may have. None is no limit.
+/// What a tenant may have. None is no limit of its own.
 #[derive(Clone, Copy, Debug, PartialEq, Eq)]
 pub struct DataLimits {
     /// At most so many topics: up to 1,000.
@@ -38,23 +38,26 @@ pub struct DataLimits {
     /// At most so many partitions of all its topics: up to 64,000.
     pub partitions: Option<u64>,
     /// At most so many committed offsets: up to 1,000,000.
-    pub offsets: Option<u64>,
+    pub offsets: u64,
     /// So many bytes of its logs: 1,048,576 to 9,223,372,036,854,775,807.
     pub bytes: Option<u64>,
+    /// So many bytes of records in a reply of Fetch: 65,536 to 8,388,608.
+    pub fetch_bytes: Option<u64>,
 }
 
 impl DataLimits {
-    ghost use Rattle.kb_settings.specs.Limits.{no_limits};
+    ghost use Rattle.kb_settings.specs.Limits.{standard_data};
 
-    /// Those of a tenant that no limits name: none.
-    pub fn none() -> DataLimits
-        ensures { result ≡ no_limits }
+    /// Those of a tenant that no limits name: 1,000,000 committed offsets.
+    pub fn standard() -> DataLimits
+        ensures { result ≡ standard_data }
     {
         DataLimits {
             topics: None,
             partitions: None,
-            offsets: None,
+            offsets: 1_000_000,
             bytes: None,
+            fetch_bytes: None,
         }
     }
 }
@@ -81,8 +84,9 @@ pub struct TenantLimits {
     pub ghost group_bytes_fit: { (1048576 ≤ groups.bytes) × (groups.bytes ≤ 9223372036854775807) },
     pub ghost topics_fit: { IfSome data_limits.topics (λ n. n ≤ 1000) } by { Prim.hlevel props },
     pub ghost partitions_fit: { IfSome data_limits.partitions (λ n. n ≤ 64000) } by { Prim.hlevel props },
-    pub ghost offsets_fit: { IfSome data_limits.offsets (λ n. n ≤ 1000000) } by { Prim.hlevel props },
+    pub ghost offsets_fit: { data_limits.offsets ≤ 1000000 },
     pub ghost bytes_fit: { IfSome data_limits.bytes (λ n. (1048576 ≤ n) × (n ≤ 9223372036854775807)) } by { Prim.hlevel props },
+    pub ghost fetch_bytes_fit: { IfSome data_limits.fetch_bytes (λ n. (65536 ≤ n) × (n ≤ 8388608)) } by { Prim.hlevel props },
 }
 
 /// How many connections a tenant may have.

@@ -19,7 +19,7 @@ use std::alloc::{AllocError, Global};
 use toml::{Table, Value};
 
 /// The keys of an entry of `tenant`.
-const KEYS: [&str; 10] = [
+const KEYS: [&str; 11] = [
     "name",
     "connections",
     "reserved_connections",
@@ -29,6 +29,7 @@ const KEYS: [&str; 10] = [
     "partitions",
     "offsets",
     "bytes",
+    "fetch_bytes",
     "advertise",
 ];
 
@@ -172,14 +173,16 @@ fn data_of(entry: &Table) -> Option<DataLimits>
     ensures says { result ≡ data_of (table_view entry.now) }
     ensures topics { IfSome result (λ limits. IfSome limits.topics (λ n. n ≤ 1000)) }
     ensures partitions { IfSome result (λ limits. IfSome limits.partitions (λ n. n ≤ 64000)) }
-    ensures offsets { IfSome result (λ limits. IfSome limits.offsets (λ n. n ≤ 1000000)) }
+    ensures offsets { IfSome result (λ limits. limits.offsets ≤ 1000000) }
     ensures bytes { IfSome result (λ limits. IfSome limits.bytes (λ n. (1048576 ≤ n) × (n ≤ 9223372036854775807))) }
+    ensures fetch_bytes { IfSome result (λ limits. IfSome limits.fetch_bytes (λ n. (65536 ≤ n) × (n ≤ 8388608))) }
 {
     Some(DataLimits {
         topics: limit(entry, "topics", 0, 1000)?,
         partitions: limit(entry, "partitions", 0, 64_000)?,
-        offsets: limit(entry, "offsets", 0, 1_000_000)?,
+        offsets: size(entry, "offsets", 1_000_000, 0, 1_000_000)?,
         bytes: limit(entry, "bytes", 1_048_576, 9_223_372_036_854_775_807)?,
+        fetch_bytes: limit(entry, "fetch_bytes", 65_536, 8_388_608)?,
     })
 }
 

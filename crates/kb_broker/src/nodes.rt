@@ -37,12 +37,11 @@ fn node_named(
 {
     let (host, port) = settings.told_to(name);
     let host = String::from_str(alloc, host)?;
-    let entries = settings.entries_for(listing.has_stock_clients());
-    let limits = data_limits(settings.data_of(name), entries);
+    let limits = data_limits(settings, listing, settings.data_of(name));
     Ok(TenantNode::new(host, port, limits))
 }
 
-/// The node of a tenant that there is not: the broker's address, and no limits of what it has.
+/// The node of a tenant that there is not: the broker's address, and the limits where none are said.
 pub fn node_unnamed(
     alloc: Global,
     settings: &Settings,
@@ -52,20 +51,21 @@ pub fn node_unnamed(
 {
     let (host, port) = settings.told();
     let host = String::from_str(alloc, host)?;
-    let entries = settings.entries_for(listing.has_stock_clients());
-    let limits = data_limits(kb_settings::DataLimits::none(), entries);
+    let limits = data_limits(settings, listing, kb_settings::DataLimits::standard());
     Ok(TenantNode::new(host, port, limits))
 }
 
-/// Limits of what a tenant has, and of what its requests name.
-fn data_limits(limits: kb_settings::DataLimits, request_entries: Option<u64>) -> DataLimits
-    ensures { result ≡ data_limits limits request_entries }
+/// Limits of what a tenant has, of what its requests name, and of what its replies have.
+fn data_limits(settings: &Settings, listing: Listing, limits: kb_settings::DataLimits) -> DataLimits
+    ensures { result ≡ data_limits listing (values_of settings.now) limits }
 {
     DataLimits {
         topics: limits.topics,
         partitions: limits.partitions,
-        offsets: limits.offsets,
+        offsets: Some(limits.offsets),
         bytes: limits.bytes,
-        request_entries,
+        request_entries: settings.entries_for(listing.has_stock_clients()),
+        fetch_bytes: limits.fetch_bytes,
+        reply_bytes: settings.reply_bytes_for(listing.has_stock_clients()),
     }
 }

@@ -1,5 +1,5 @@
 -- What a program of the broker writes.
-use Rattle.std.specs.Prelude.{◌≡◌, ◌⊎◌, ℕ, List, [], ◌∷◌, codes, Option, None, Result, Err}
+use Rattle.std.specs.Prelude.{◌≡◌, ◌⊎◌, ℕ, List, [], ◌∷◌, codes, Option, None, Some, Result, Err}
 use Rattle.std.specs.Io.KnownBytes.{Keeps}
 use Rattle.kb_tenant_api.specs.Hosted.{new_tenant}
 use Rattle.kb_tenant.specs.declared.node.Node.{Node}
@@ -13,12 +13,20 @@ use Rattle.kb_node.specs.declared.fault.NodeFault.TheVariants as faults
 
 -- 1. The broker of the standard settings
 
--- of every tenant clients are told localhost and port 9092, and there are no limits
+-- of every tenant clients are told localhost and port 9092, and no more than 1,000,000 offsets are kept
 abbrev pub standard_node : Node
 standard_node = record {
   host = codes "localhost";
   port = 9092;
-  limits = record { topics = None; partitions = None; offsets = None; bytes = None; request_entries = None };
+  limits = record {
+    topics = None;
+    partitions = None;
+    offsets = Some 1000000;
+    bytes = None;
+    request_entries = None;
+    fetch_bytes = None;
+    reply_bytes = None;
+  };
 }
 
 -- the tenants a and b, which keep nothing, with a user each; nobody is connected, and no time has passed

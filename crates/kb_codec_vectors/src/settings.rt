@@ -150,7 +150,9 @@ fn say(settings: &Settings, said: &mut Said) -> Result<(), AllocError> {
         ),
         ("input_bytes", Number(settings.requests.input_bytes as i64)),
         ("request_entries", limit(settings.requests.request_entries)),
+        ("reply_bytes", limit(settings.requests.reply_bytes)),
         ("stock_clients", Text(yes_or_no(settings.stock_clients))),
+        ("logins", Text(yes_or_no(settings.logins))),
         ("data", Text(settings.folder.as_deref().unwrap_or("none"))),
         ("users", Count(settings.users.len())),
     ])?;
@@ -270,6 +272,10 @@ fn say_data_limits<'a>(
         ("entries", limit(settings.entries_for(false))),
         ("with stock clients", limit(settings.entries_for(true))),
     ])?;
+    said.fields(&[
+        ("reply_bytes", limit(settings.reply_bytes_for(false))),
+        ("with stock clients", limit(settings.reply_bytes_for(true))),
+    ])?;
     for name in names.split(',') {
         let limits = settings.data_of(name);
         let (host, port) = settings.told_to(name);
@@ -277,8 +283,9 @@ fn say_data_limits<'a>(
             ("limits of", Text(name)),
             ("topics", limit(limits.topics)),
             ("partitions", limit(limits.partitions)),
-            ("offsets", limit(limits.offsets)),
+            ("offsets", limit(Some(limits.offsets))),
             ("bytes", limit(limits.bytes)),
+            ("fetch_bytes", limit(limits.fetch_bytes)),
             ("told", Text(host)),
             ("port", Number(port as i64)),
         ])?;

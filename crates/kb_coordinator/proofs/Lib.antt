@@ -9,4 +9,5 @@ mod Search
 mod Steps
 mod Ticking
 mod Told
+mod Until
 mod Written

@@ -3,7 +3,8 @@ ghost use Rattle.std.specs.Prelude.{◌≡◌, ◌++◌, [], OnOk, List, map, op
 ghost use Rattle.kb_wire.specs.Codec.{array};
 ghost use Rattle.kb_api_group.specs.Layouts.{describe_groups_reply, described_group, described_member};
 ghost use Rattle.kb_api_group.specs.declared.describe_groups.DescribedMember.{DescribedMember};
-ghost use Rattle.kb_coordinator.specs.Tools.{dead, described, description, descriptions, member_told};
+ghost use Rattle.kb_coordinator.specs.Tools.{array_until, dead, described, description, descriptions, descriptions_until, member_told};
+ghost use Rattle.kb_coordinator.specs.Tools.{AreUntil};
 
 use crate::coordinator::Coordinator;
 use crate::replies::{put_blob, put_text};
@@ -123,17 +124,18 @@ impl Coordinator {
         }
     }
 
-    /// Writes the groups of these ids. More bytes or groups than an INT32 can count are refused as want of memory.
-    fn put_groups(&self, ids: &[Text<'_>], sink: &mut Sink) -> Result<(), AllocError>
-        ensures { OnOk result (sink.new.bytes ≡ sink.old.bytes ++ (array described_group).written (map (description self.now) ids.now)) }
+    /// Writes the groups of these ids, until the sink has more than so many bytes. More groups than an INT32 can count are refused as
+    /// want of memory.
+    fn put_groups(&self, ids: &[Text<'_>], most: usize, sink: &mut Sink) -> Result<(), AllocError>
+        ensures { OnOk result (sink.new.bytes ≡ array_until most described_group sink.old.bytes (map (description self.now) ids.now)) }
     {
         if ids.len() > i32::MAX as usize {
             return Err(AllocError);
         }
         sink.put_count(ids.len())?;
         for id in ids {
-            if sink.len() > i32::MAX as usize {
-                return Err(AllocError);
+            if sink.len() > most {
+                return Ok(());
             }
             self.put_group(id.as_str(), sink)?;
         }
@@ -141,14 +143,18 @@ impl Coordinator {
     }
 
     /// Writes the reply of DescribeGroups: each group that is named, in the order of the request, as often as it is named.
-    #[tactic(auto, unfolding(kb_api_group::specs::Layouts::describe_groups_reply))]
+    ///
+    /// The writing stops with the group that takes the sink past so many bytes.
     pub fn put_descriptions(
         &self,
         request: &DescribeGroupsRequest<'_>,
+        most: usize,
         sink: &mut Sink,
     ) -> Result<(), AllocError>
-        ensures { OnOk result (sink.new.bytes ≡ sink.old.bytes ++ describe_groups_reply.written (descriptions self.now request.now)) }
+        ensures exact { OnOk result (sink.new.bytes ≡ descriptions_until most self.now request.now sink.old.bytes) }
+        ensures whole { OnOk result (AreUntil most
+            (sink.old.bytes ++ describe_groups_reply.written (descriptions self.now request.now)) sink.new.bytes) }
     {
-        self.put_groups(request.group_ids.as_slice(), sink)
+        self.put_groups(request.group_ids.as_slice(), most, sink)
     }
 }

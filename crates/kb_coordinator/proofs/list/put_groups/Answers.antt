@@ -1,22 +1,27 @@
-use Rattle.std.proofs.Common.{◌≡◌, ◌∙◌, sym, ap, ◌++◌, length, map, w32, arith}
-use Rattle.std.specs.List.{flat_map}
-use Rattle.std.proofs.lemmas.List.{length-map}
-use Rattle.kb_wire.specs.Codec.{count}
+use Rattle.std.proofs.Common.{◌≤◌, ◌<◌, ◌∙◌, sym, length, map, drop, arith}
 use Rattle.kb_api_group.specs.Layouts.{listed_group}
 use Rattle.kb_coordinator.specs.Tools.{listed}
-use Rattle.kb_coordinator.proofs.Written.{small_count, write_next, write_over, written_both, array_written}
+use Rattle.kb_coordinator.proofs.Until.{until_counted, until_next, until_over, until_past}
+use Rattle.kb_coordinator.proofs.Written.{small_count}
 use Rattle.kb_coordinator.proofs.list.put_groups.Goals as goal
 
 pub put_count-requires : goal.put_count-requires
 put_count-requires c = small_count (length c.args.groups.now) (omega (arith, c.if-groups.false))
 
+pub returns-then-len-most : goal.returns-then-len-most
+returns-then-len-most c =
+    let es = c.args.groups.now in
+    let many : c.args.most < length c.loop-entry.sink.bytes = omega (arith, c.if-len-most.true, c.len.ensures) in
+    sym (until_past c.args.most listed_group.written c.loop-entry.sink.bytes (map listed (drop c.loop-entry.entry-index es)) many) ∙ c.loop-entry.invariant
+    ∙ until_counted c.args.most listed_group listed c.args.sink.now.bytes c.put_count.new.self.bytes es c.in_ok-put_count.ensures.ok
+
 pub loop-entry-preserved : goal.loop-entry-preserved
 loop-entry-preserved c =
-    write_next listed_group.written listed c.loop-entry.sink.bytes c.put_group.new.sink.bytes c.args.groups.now c.loop-entry.entry-index c.entry-item.result c.loop-entry-test.true c.entry-item.is c.in_ok-put_group.ensures ∙ c.loop-entry.invariant
+    let few : length c.loop-entry.sink.bytes ≤ c.args.most = omega (arith, c.if-len-most.false, c.len.ensures) in
+    until_next c.args.most listed_group.written listed c.loop-entry.sink.bytes c.put_group.new.sink.bytes c.args.groups.now c.loop-entry.entry-index c.entry-item.result few c.loop-entry-test.true c.entry-item.is c.in_ok-put_group.ensures ∙ c.loop-entry.invariant
 
 pub returns : goal.returns
 returns c =
     let es = c.args.groups.now in
-    let all : c.loop-entry.sink.bytes ≡ c.put_count.new.self.bytes ++ flat_map listed_group.written (map listed es) = sym (write_over listed_group.written listed c.loop-entry.sink.bytes es c.loop-entry.entry-index c.loop-entry-test.false) ∙ c.loop-entry.invariant in
-    written_both c.args.sink.now.bytes c.put_count.new.self.bytes c.loop-entry.sink.bytes ((count w32).written (length es)) (flat_map listed_group.written (map listed es)) c.in_ok-put_count.ensures.ok all
-    ∙ ap (λ x. c.args.sink.now.bytes ++ x) (array_written listed_group (map listed es) (length es) (sym (length-map es listed)))
+    sym (until_over c.args.most listed_group.written listed c.loop-entry.sink.bytes es c.loop-entry.entry-index c.loop-entry-test.false) ∙ c.loop-entry.invariant
+    ∙ until_counted c.args.most listed_group listed c.args.sink.now.bytes c.put_count.new.self.bytes es c.in_ok-put_count.ensures.ok

@@ -10,6 +10,7 @@ pub mod CommitMoves
 pub mod Committing
 pub mod Coordinator
 pub mod Counting
+pub mod CountsKept
 pub mod CreateMoves
 pub mod Creating
 pub mod DeleteMoves
@@ -23,6 +24,7 @@ pub mod Fitting
 pub mod Folding
 pub mod Framing
 pub mod Keys
+pub mod LimitsKept
 pub mod Listing
 pub mod LogMoves
 pub mod Losing
@@ -38,6 +40,7 @@ pub mod RecordsMoves
 pub mod Refusing
 pub mod Repeats
 pub mod Replies
+pub mod RequestsKept
 pub mod RetainMoves
 pub mod Room
 pub mod ServeMoves

@@ -60,10 +60,10 @@ use Rattle.kb_tenant.proofs.RecordsMoves.{by_deletion}
 -- ---- entries under keys
 
 module _ {A : Type 0} (P : A → Type 0) where
-  abbrev Each : List (ℕ × A) → Type 0
+  abbrev pub Each : List (ℕ × A) → Type 0
   Each es = AllByRecursion (λ (e : ℕ × A). P e.1) es
 
-  each_found : (test : ℕ → Bool) (es : List (ℕ × A)) (a : A) → lookup test es ≡ Some a → Each es → P a
+  pub each_found : (test : ℕ → Bool) (es : List (ℕ × A)) (a : A) → lookup test es ≡ Some a → Each es → P a
   each_found test [] a there all = absurd cc
   each_found test (e ∷ es) a there all = by (test e.0) there (λ found. each_found test es a found all.1)
     where
@@ -71,7 +71,7 @@ module _ {A : Type 0} (P : A → Type 0) where
       by true found rest = let same : e.1 ≡ a = cc in subst P same all.0
       by false found rest = rest found
 
-  each_set : (test : ℕ → Bool) (es : List (ℕ × A)) (a : A) → P a → Each es → Each (set_value test es a)
+  pub each_set : (test : ℕ → Bool) (es : List (ℕ × A)) (a : A) → P a → Each es → Each (set_value test es a)
   each_set test [] a one all = tt
   each_set test (e ∷ es) a one all = by (test e.0) (each_set test es a one all.1)
     where
@@ -79,7 +79,7 @@ module _ {A : Type 0} (P : A → Type 0) where
       by true rest = (one, all.1)
       by false rest = (all.0, rest)
 
-  each_removed : (test : ℕ → Bool) (es : List (ℕ × A)) → Each es → Each (remove_entry test es)
+  pub each_removed : (test : ℕ → Bool) (es : List (ℕ × A)) → Each es → Each (remove_entry test es)
   each_removed test [] all = tt
   each_removed test (e ∷ es) all = by (test e.0) (each_removed test es all.1)
     where
@@ -87,7 +87,7 @@ module _ {A : Type 0} (P : A → Type 0) where
       by true rest = all.1
       by false rest = (all.0, rest)
 
-  each_inserted : (es : List (ℕ × A)) (i : ℕ) (a : A) → P a → Each es → Each (insert_entry nat_cmp es i a)
+  pub each_inserted : (es : List (ℕ × A)) (i : ℕ) (a : A) → P a → Each es → Each (insert_entry nat_cmp es i a)
   each_inserted [] i a one all = (one, tt)
   each_inserted (e ∷ es) i a one all = by (nat_cmp i e.0) (each_inserted es i a one all.1)
     where

@@ -9,6 +9,7 @@ pub mod Fetch
 pub mod FindCoordinator
 pub mod InitProducerId
 pub mod Limits
+pub mod LimitsKept
 pub mod ListOffsets
 pub mod Metadata
 pub mod OffsetCommit

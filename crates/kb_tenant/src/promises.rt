@@ -10,6 +10,7 @@ ghost use Rattle.kb_tenant_state.specs.Calls.{retain, retain_all};
 ghost use Rattle.kb_tenant_state.specs.declared.topic_partition.TopicPartition.{TopicPartition};
 ghost use Rattle.kb_tenant.specs.Batches.{HasSmallLogs, HoldsBatches};
 ghost use Rattle.kb_tenant.specs.Fetch.{asked_fetch, fetch_answer, places_of};
+ghost use Rattle.kb_tenant.specs.LimitsKept.{AreLimitsKept, HasOrderedCommits};
 ghost use Rattle.kb_tenant.specs.OffsetCommit.{committed_all};
 ghost use Rattle.kb_tenant.specs.Replies.{Replies};
 ghost use Rattle.kb_tenant.specs.Serve.{plainly_served, looked};
@@ -102,4 +103,28 @@ pub fn fetches_give_whole_batches()
     ensures looked { (w : World) (clock deadline : ℕ) (version : ℤ) (body bytes : List ℕ) (r : FetchRequest) → HasSmallLogs w
         → asked_fetch version body ≡ Ok r
         → looked w clock deadline version body ≡ Replies bytes → HoldsBatches version w r bytes }
+{}
+
+/// No group has two offsets of a partition, from the start on, whatever is asked, committed or dropped by retention, at whatever time.
+pub fn commits_stay_ordered()
+    ensures begun { HasOrderedCommits new_world }
+    ensures served { (node : Node) (w : World) (clock n : ℕ) (key version : ℤ) (body : List ℕ) → HasOrderedCommits w
+        → HasOrderedCommits (plainly_served node w clock n key version body).world }
+    ensures committed { (limits : DataLimits) (w : World) (refusal : Option ℤ) (q : OffsetCommitRequest) → HasOrderedCommits w
+        → HasOrderedCommits (committed_all limits w refusal q).0 }
+    ensures retained { (clock : ℕ) (w : World) (place : TopicPartition) → HasOrderedCommits w
+        → HasOrderedCommits (retain clock w place).0 }
+{}
+
+/// No request brings what a tenant has past its limits: the bytes of its batches, its topics, their partitions, and the offsets that its
+/// groups have committed are each at most the limit, or at most what they were. Retention makes none of them more: so it is whatever
+/// the limits are.
+pub fn limits_are_kept()
+    ensures served { (node : Node) (w : World) (clock n : ℕ) (key version : ℤ) (body : List ℕ) → HasOrderedCommits w
+        → AreLimitsKept node.limits w (plainly_served node w clock n key version body).world }
+    ensures committed { (limits : DataLimits) (w : World) (refusal : Option ℤ) (q : OffsetCommitRequest) → HasOrderedCommits w
+        → AreLimitsKept limits w (committed_all limits w refusal q).0 }
+    ensures retained { (limits : DataLimits) (clock : ℕ) (w : World) (place : TopicPartition)
+        → AreLimitsKept limits w (retain clock w place).0 }
+    ensures all_retained { (limits : DataLimits) (clock : ℕ) (w : World) → AreLimitsKept limits w (retain_all clock w).0 }
 {}

@@ -167,7 +167,7 @@ acknowledged_by failed limit id w r v old new s t answer from due none told made
 
     by : (x : Answer) → IsAnswer id (Replies (produce_reply.written reply)) x → IsAcknowledged failed limit id w r v new x
     by (answers.Reply bytes) h = (reply, (h.1, so))
-    by (answers.Wait deadline keys) h = absurd h
+    by (answers.Wait deadline kept keys) h = absurd h
     by answers.NoReply h = absurd h
     by answers.Shut h = tt
 
@@ -178,7 +178,7 @@ replied_by id Told s t body answer from more told made = by answer (made id body
   where
     by : (x : Answer) → IsAnswer id (Replies body) x → IsReplied id Told x
     by (answers.Reply bytes) h = (body, (h.1, told))
-    by (answers.Wait deadline keys) h = absurd h
+    by (answers.Wait deadline kept keys) h = absurd h
     by answers.NoReply h = absurd h
     by answers.Shut h = tt
 
@@ -192,6 +192,6 @@ spared_by id w body r v s t answer from due read longer made = by answer (made i
 
     by : (x : Answer) → IsAnswer id (Replies longer.more) x → IsSpared w body v x
     by (answers.Reply bytes) h = tt
-    by (answers.Wait deadline keys) h = tt
+    by (answers.Wait deadline kept keys) h = tt
     by answers.NoReply h = tt
     by answers.Shut h = inr (r, (read, omega (arith, h, long)))

@@ -73,7 +73,7 @@ module _ (a b : Scene Seen) (node : Node) (clock : ℕ) (request : Request) (tou
   produce_told (Err fault) is told shut = tt
 
   pub fetch_told : (r : Result Answer ReadFault) → request.api_key ≡ FETCH
-      → IfOk r (λ answer. WhereHonest a b (AnswersFetch (HasFailed a b) request.correlation_id request.api_version a.state.world clock
+      → IfOk r (λ answer. WhereHonest a b (AnswersFetch (HasFailed a b) request.correlation_id request.api_version node.limits.fetch_bytes a.state.world clock
       request.body.now answer))
       → WhereHonest a b (b.state.world ≡ a.state.world)
       → IfOk r (λ answer. WhereHonest a b (IsToldOf a b node clock request touched answer))

@@ -19,7 +19,7 @@ use Rattle.kb_tenant_state.specs.World.{World, log_in, place_in}
 use Rattle.kb_tenant_state.specs.declared.topic_partition.TopicPartition.{TopicPartition}
 use Rattle.kb_tenant.specs.Batches.{BeginAt, GivesBatches, EachAnswered, IsPartitionAnswered, IsTopicAnswered, HasSmallLogs, HoldsBatches, Spells}
 use Rattle.kb_tenant.specs.Entries.{fetch_entries, within as within_limit}
-use Rattle.kb_tenant.specs.Fetch.{Limits, fetch_answered, answered_at, answered_by, answered_topic, asked_fetch, begun, fetch_answer, fetched, has_starts, is_ready, limit_of, deadline_of, fetched_in}
+use Rattle.kb_tenant.specs.Fetch.{Limits, fetch_answered, answered_at, answered_by, answered_topic, asked_fetch, begun, bounded, fetch_answer, fetched, has_starts, is_ready, limit_of, deadline_of, fetched_in}
 use Rattle.kb_tenant.specs.Limits.{is_past}
 use Rattle.kb_tenant.specs.Replies.{Replies, Silent}
 use Rattle.kb_tenant.specs.Serve.{plainly_served, looked, looked_at, of_fetch, if_read, fetch_reaction}
@@ -151,11 +151,15 @@ written-holds version w clock r deadline reply bytes spelled e is = record {
   answered = all-answered w r;
 }
 
+-- what holds the batches of a request within a limit holds those of the request
+as-asked : (version : ℤ) (w : World) (limit : Option ℕ) (r : FetchRequest) (bytes : List ℕ) → HoldsBatches version w (bounded limit r) bytes → HoldsBatches version w r bytes
+as-asked version w limit r bytes h = record { reply = h.reply; spelled = h.spelled; answered = h.answered }
+
 -- ---- at once, and after a wait
 
-reaction-holds : (version : ℤ) (w : World) (clock : ℕ) (r : FetchRequest) (bytes : List ℕ) (answer : Option FetchReplyV5) → Spelled version w r → fetch_answer w clock r (deadline_of clock r) ≡ answer → fetch_reaction version w clock r answer ≡ Replies bytes → HoldsBatches version w r bytes
-reaction-holds version w clock r bytes None spelled e is = absurd (cc)
-reaction-holds version w clock r bytes (Some reply) spelled e is = written-holds version w clock r (deadline_of clock r) reply bytes spelled e (sym (replied-is is))
+reaction-holds : (version : ℤ) (limit : Option ℕ) (w : World) (clock : ℕ) (r : FetchRequest) (bytes : List ℕ) (answer : Option FetchReplyV5) → Spelled version w r → fetch_answer w clock r (deadline_of clock r) ≡ answer → fetch_reaction version limit w clock r answer ≡ Replies bytes → HoldsBatches version w r bytes
+reaction-holds version limit w clock r bytes None spelled e is = absurd (cc)
+reaction-holds version limit w clock r bytes (Some reply) spelled e is = written-holds version w clock r (deadline_of clock r) reply bytes spelled e (sym (replied-is is))
   where
     replied-is : {x y : List ℕ} → Replies x ≡ Replies y → x ≡ y
     replied-is h = cc
@@ -163,11 +167,13 @@ reaction-holds version w clock r bytes (Some reply) spelled e is = written-holds
 pub served-holds : (node : Node) (w : World) (clock n : ℕ) (version : ℤ) (body bytes : List ℕ) (r : FetchRequest) → HasSmallLogs w → asked_fetch version body ≡ Ok r → (plainly_served node w clock n FETCH version body).reaction ≡ Replies bytes → HoldsBatches version w r bytes
 unfolding plainly_served
 served-holds node w clock n version body bytes r small read replies =
-    by (is_past node.limits.request_entries (fetch_entries r)) (sym (ap (λ x. (if_read w (within_limit node.limits.request_entries fetch_entries x) (of_fetch version w clock)).reaction) read) ∙ replies)
+    by (is_past node.limits.request_entries (fetch_entries r)) (sym (ap (λ x. (if_read w (within_limit node.limits.request_entries fetch_entries x) (of_fetch version node.limits.fetch_bytes w clock)).reaction) read) ∙ replies)
   where
-    by : (b : Bool) → (if_read w (if b then Err faults.Bad else Ok r) (of_fetch version w clock)).reaction ≡ Replies bytes → HoldsBatches version w r bytes
+    by : (b : Bool) → (if_read w (if b then Err faults.Bad else Ok r) (of_fetch version node.limits.fetch_bytes w clock)).reaction ≡ Replies bytes → HoldsBatches version w r bytes
     by true is = absurd cc
-    by false is = reaction-holds version w clock r bytes (fetch_answer w clock r (deadline_of clock r)) (reply_spelled w (has_starts version) body r small read) refl is
+    by false is = let q = bounded node.limits.fetch_bytes r in
+        as-asked version w node.limits.fetch_bytes r bytes
+        (reaction-holds version node.limits.fetch_bytes w clock q bytes (fetch_answer w clock q (deadline_of clock q)) (reply_spelled w (has_starts version) node.limits.fetch_bytes body r small read) refl is)
 
 look-holds : (version : ℤ) (w : World) (clock deadline : ℕ) (r : FetchRequest) (bytes : List ℕ) (answer : Option FetchReplyV5) → Spelled version w r → fetch_answer w clock r deadline ≡ answer → (elim answer [ Some reply ↦ Replies (fetched_in version reply) | None ↦ Silent ]) ≡ Replies bytes → HoldsBatches version w r bytes
 look-holds version w clock deadline r bytes None spelled e is = absurd (cc)
@@ -176,6 +182,9 @@ look-holds version w clock deadline r bytes (Some reply) spelled e is = written-
     replied-is : {x y : List ℕ} → Replies x ≡ Replies y → x ≡ y
     replied-is h = cc
 
-pub looked-holds : (w : World) (clock deadline : ℕ) (version : ℤ) (body bytes : List ℕ) (r : FetchRequest) → HasSmallLogs w → asked_fetch version body ≡ Ok r → looked w clock deadline version body ≡ Replies bytes → HoldsBatches version w r bytes
+pub looked-holds : (w : World) (clock deadline : ℕ) (version : ℤ) (limit : Option ℕ) (body bytes : List ℕ) (r : FetchRequest) → HasSmallLogs w → asked_fetch version body ≡ Ok r → looked w clock deadline version limit body ≡ Replies bytes → HoldsBatches version w r bytes
 unfolding looked
-looked-holds w clock deadline version body bytes r small read replies = look-holds version w clock deadline r bytes (fetch_answer w clock r deadline) (reply_spelled w (has_starts version) body r small read) refl (sym (ap (looked_at w clock deadline version) read) ∙ replies)
+looked-holds w clock deadline version limit body bytes r small read replies =
+    let q = bounded limit r in
+    as-asked version w limit r bytes
+    (look-holds version w clock deadline q bytes (fetch_answer w clock q deadline) (reply_spelled w (has_starts version) limit body r small read) refl (sym (ap (looked_at w clock deadline version limit) read) ∙ replies))

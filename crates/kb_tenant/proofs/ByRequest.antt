@@ -36,7 +36,7 @@ use Rattle.kb_tenant.specs.declared.node.Node.{Node}
 -- It holds of what each API's request comes to, where the body is one, and of a connection that is shut.
 pub record Cases (P : Outcome → Type 0) (node : Node) (w : World) (clock : ℕ) (version : ℤ) (body : List ℕ) : Type 0 where
   pub produce : (r : ProduceRequest) → whole produce_request body ≡ Ok r → P (of_produce node.limits.bytes w r)
-  pub fetch : (r : FetchRequest) → asked_fetch version body ≡ Ok r → P (of_fetch version w clock r)
+  pub fetch : (r : FetchRequest) → asked_fetch version body ≡ Ok r → P (of_fetch version node.limits.fetch_bytes w clock r)
   pub list_offsets : (r : ListOffsetsRequest) → whole list_offsets_request body ≡ Ok r → P (of_list_offsets w r)
   pub metadata : (r : MetadataRequest) → asked_metadata version body ≡ Ok r → P (of_metadata node version w r)
   pub offset_commit : (r : OffsetCommitRequest) → whole offset_commit_request body ≡ Ok r → P (of_offset_commit node.limits w r)
@@ -87,7 +87,7 @@ by_request P node w clock n key version body c =
     let commits : Outcome = if_read w (within limit commit_entries (whole offset_commit_request body)) (of_offset_commit node.limits w) in
     let tells : Outcome = if_read w (within limit metadata_entries (asked_metadata version body)) (of_metadata node version w) in
     let lists : Outcome = if_read w (within limit list_offsets_entries (whole list_offsets_request body)) (of_list_offsets w) in
-    let fetches : Outcome = if_read w (within limit fetch_entries (asked_fetch version body)) (of_fetch version w clock) in
+    let fetches : Outcome = if_read w (within limit fetch_entries (asked_fetch version body)) (of_fetch version node.limits.fetch_bytes w clock) in
     let produces : Outcome = if_read w (within limit produce_entries (whole produce_request body)) (of_produce node.limits.bytes w) in
     let from_inits : Outcome = if int_eq key INIT_PRODUCER_ID then inits else shut in
     let from_trims : Outcome = if int_eq key DELETE_RECORDS then trims else from_inits in
@@ -100,7 +100,7 @@ by_request P node w clock n key version body c =
     let from_lists : Outcome = if int_eq key LIST_OFFSETS then lists else from_tells in
     let from_fetches : Outcome = if int_eq key FETCH then fetches else from_lists in
     either P (int_eq key PRODUCE) produces from_fetches (read_within P w limit produce_entries (whole produce_request body) (of_produce node.limits.bytes w) c.produce c.shut)
-    (either P (int_eq key FETCH) fetches from_lists (read_within P w limit fetch_entries (asked_fetch version body) (of_fetch version w clock) c.fetch c.shut)
+    (either P (int_eq key FETCH) fetches from_lists (read_within P w limit fetch_entries (asked_fetch version body) (of_fetch version node.limits.fetch_bytes w clock) c.fetch c.shut)
     (either P (int_eq key LIST_OFFSETS) lists from_tells (read_within P w limit list_offsets_entries (whole list_offsets_request body) (of_list_offsets w) c.list_offsets c.shut)
     (either P (int_eq key METADATA) tells from_commits (read_within P w limit metadata_entries (asked_metadata version body) (of_metadata node version w) c.metadata c.shut)
     (either P (int_eq key OFFSET_COMMIT) commits from_asks (read_within P w limit commit_entries (whole offset_commit_request body) (of_offset_commit node.limits w) c.offset_commit c.shut)

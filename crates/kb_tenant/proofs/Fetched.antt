@@ -221,7 +221,7 @@ look_replied failed Unready id version starts w clock deadline asked q old new d
 
     by : (x : Answer) → IsAnswer id (Replies body) x → IsRepliedOrWaits id (TellsFetch failed version w clock deadline q) Unready x
     by (answers.Reply bytes) h = (body, (h.1, (reply, (refl, ready))))
-    by (answers.Wait until keys) h = absurd h
+    by (answers.Wait until kept keys) h = absurd h
     by answers.NoReply h = absurd h
     by answers.Shut h = tt
 
@@ -255,20 +255,20 @@ made_wait failed w v clock q d places done Also not until there stays told = (
 )
 
 -- its reply behind what was begun
-pub fetch_replied : (failed : Type 0) (id version : ℤ) (starts : Bool) (w : World) (clock : ℕ) (asked q : FetchRequest) (old new : List ℕ)
+pub fetch_replied : (failed : Type 0) (id version : ℤ) (limit : Option ℕ) (starts : Bool) (w : World) (clock : ℕ) (asked q : FetchRequest) (old new : List ℕ)
     (answer : Answer) → starts ≡ has_starts version → old ≡ reply_begun id → asked ≡ q
     → IsFetchMade failed starts w clock asked old fetching.Reply new
     → ((id : ℤ) (body : List ℕ) → new ≡ reply_begun id ++ body → IsAnswer id (Replies body) answer)
-    → IsFetchReplied failed id version w clock q answer
-fetch_replied failed id version starts w clock asked q old new answer same from one told made =
+    → IsFetchReplied failed id version limit w clock q answer
+fetch_replied failed id version limit starts w clock asked q old new answer same from one told made =
     by answer (look_replied failed ⊥ id version starts w clock (deadline_of clock q) q q old new true answer same from refl refl
     (ready.0, (ready.1.0, λ over. ready.1.1)) made)
   where
     ready : IsFetchMade failed starts w clock q old fetching.Reply new
     ready = subst (λ r. IsFetchMade failed starts w clock r old fetching.Reply new) one told
 
-    by : (x : Answer) → IsRepliedOrWaits id (TellsFetch failed version w clock (deadline_of clock q) q) ⊥ x → IsFetchReplied failed id version w clock q x
+    by : (x : Answer) → IsRepliedOrWaits id (TellsFetch failed version w clock (deadline_of clock q) q) ⊥ x → IsFetchReplied failed id version limit w clock q x
     by (answers.Reply bytes) h = h
-    by (answers.Wait until keys) h = absurd h
+    by (answers.Wait until kept keys) h = absurd h
     by answers.NoReply h = absurd h
     by answers.Shut h = tt

@@ -52,17 +52,17 @@ made_outcome limits id version w v r answer is world told =
     subst (λ b. IsOutcome id (if b then stays w (Replies (creations_in version (checked_all limits w r.topics))) else made) v [] answer) (sym is) (world, refl, told)
 
 -- a fetch that waits is a wait
-pub waits : (id version : ℤ) (starts : Bool) (w : World) (clock : ℕ) (r : FetchRequest) (o : Option FetchReplyV5) (old new : List ℕ) (deadline : ℕ) (keys : Vec TopicPartition Global)
-    → IsServed starts w clock r o old (fetching.Wait deadline keys) new → IsAnswer id (fetch_reaction version w clock r o) (answers.Wait deadline keys)
-waits id version starts w clock r (Some reply) old new deadline keys h = h
-waits id version starts w clock r None old new deadline keys h = (h.0, h.1)
+pub waits : (id version : ℤ) (limit : Option ℕ) (starts : Bool) (w : World) (clock : ℕ) (r : FetchRequest) (o : Option FetchReplyV5) (old new : List ℕ) (deadline : ℕ) (keys : Vec TopicPartition Global)
+    → IsServed starts w clock r o old (fetching.Wait deadline keys) new → IsAnswer id (fetch_reaction version limit w clock r o) (answers.Wait deadline limit keys)
+waits id version limit starts w clock r (Some reply) old new deadline keys h = h
+waits id version limit starts w clock r None old new deadline keys h = (h.0, refl, h.1)
 
 -- a fetch that is answered is a reply
-pub replied : (id version : ℤ) (starts : Bool) (w : World) (clock : ℕ) (r : FetchRequest) (o : Option FetchReplyV5) (old new : List ℕ) (answer : Answer) → starts ≡ has_starts version → old ≡ begun id
-    → IsServed starts w clock r o old fetching.Reply new → ((id : ℤ) (body : List ℕ) → new ≡ begun id ++ body → IsAnswer id (Replies body) answer) → IsAnswer id (fetch_reaction version w clock r o) answer
-replied id version starts w clock r (Some reply) old new answer is from h made =
+pub replied : (id version : ℤ) (limit : Option ℕ) (starts : Bool) (w : World) (clock : ℕ) (r : FetchRequest) (o : Option FetchReplyV5) (old new : List ℕ) (answer : Answer) → starts ≡ has_starts version → old ≡ begun id
+    → IsServed starts w clock r o old fetching.Reply new → ((id : ℤ) (body : List ℕ) → new ≡ begun id ++ body → IsAnswer id (Replies body) answer) → IsAnswer id (fetch_reaction version limit w clock r o) answer
+replied id version limit starts w clock r (Some reply) old new answer is from h made =
     made id (fetched_in version reply) (h ∙ ap (λ s. s ++ reply_written starts reply) from ∙ ap (λ b. begun id ++ reply_written b reply) is)
-replied id version starts w clock r None old new answer is from h made = absurd h
+replied id version limit starts w clock r None old new answer is from h made = absurd h
 
 -- so is one that waited
 pub woken : (id version : ℤ) (starts : Bool) (o : Option FetchReplyV5) (old new : List ℕ) (done : Bool) (answer : Answer) → starts ≡ has_starts version → old ≡ begun id → done ≡ true

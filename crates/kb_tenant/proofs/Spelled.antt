@@ -29,12 +29,12 @@ use Rattle.kb_tenant_state.specs.Calls.{fetched_from}
 use Rattle.kb_tenant_state.specs.World.{World, log_in, place_in}
 use Rattle.kb_tenant_state.specs.declared.topic_partition.TopicPartition.{TopicPartition}
 use Rattle.kb_tenant.specs.Batches.{HasSmallLogs, IsSmall, Spells}
-use Rattle.kb_tenant.specs.Fetch.{Limits, fetch_answered, answered_at, answered_by, answered_topic, begun, fetched, front_of, limit_of, read_as, refusal_of}
+use Rattle.kb_tenant.specs.Fetch.{Limits, fetch_answered, answered_at, answered_by, answered_topic, begun, bounded, fetched, front_of, limit_of, read_as, refusal_of}
 use Rattle.kb_tenant.specs.Fetch.{reply_written, topic_without_starts, without_start, without_starts}
 use Rattle.kb_tenant.specs.Turns.{in_turn}
 use Rattle.kb_tenant.proofs.Mapped.{all-map}
 use Rattle.kb_tenant.proofs.Small.{small_in}
-use Rattle.kb_tenant.proofs.Versions.{read_so}
+use Rattle.kb_tenant.proofs.Versions.{bounded_so}
 
 -- ---- how many bytes are given
 
@@ -207,6 +207,6 @@ spelled_as : (starts : Bool) (r : FetchReplyV5) → IsReplyTold r → Spells sta
 spelled_as true r is = fetch_reply_v5_lawful.again r is.in_range is.fits
 spelled_as false r is = fetch_reply_lawful.again (without_starts r) is.plain_in_range is.plain_fits
 
--- What is written of a fetch's reply spells that reply.
-pub reply_spelled : (w : World) (starts : Bool) (body : List ℕ) (r : FetchRequest) → HasSmallLogs w → read_as starts body ≡ Ok r → Spells starts (reply_written starts (fetched w r).1) (fetched w r).1
-reply_spelled w starts body r small read = spelled_as starts (fetched w r).1 (reply_told w r small (read_so starts body r read))
+-- What is written of a fetch's reply, within a limit, spells that reply.
+pub reply_spelled : (w : World) (starts : Bool) (limit : Option ℕ) (body : List ℕ) (r : FetchRequest) → HasSmallLogs w → read_as starts body ≡ Ok r → Spells starts (reply_written starts (fetched w (bounded limit r)).1) (fetched w (bounded limit r)).1
+reply_spelled w starts limit body r small read = spelled_as starts (fetched w (bounded limit r)).1 (reply_told w (bounded limit r) small (bounded_so limit starts body r read))

@@ -1,6 +1,7 @@
 -- A request of a version with the starts of logs fits, and is in range, without them too.
-use Rattle.std.proofs.Common.{◌≡◌, sym, refl, subst, ℕ, Bool, true, false, List, Ok, Err, w32}
+use Rattle.std.proofs.Common.{◌≡◌, ◌<◌, ◌^◌, sym, refl, subst, arith, cond, int_lt, ℕ, ℤ, pos, negsuc, Bool, true, false, List, Option, Some, None, Ok, Err, FitsSigned, w32}
 use Rattle.std.specs.Prelude.{Result}
+use Rattle.std.proofs.lemmas.Int.{ints}
 use Rattle.std.proofs.lemmas.List.{length-map}
 use Rattle.kb_wire.specs.Codec.{count, int, items, sized, whole}
 use Rattle.kb_wire.specs.Laws.{bind_ok, guard_passed}
@@ -12,7 +13,7 @@ use Rattle.kb_api_data.specs.declared.fetch.FetchRequest.{FetchRequest}
 use Rattle.kb_api_data.specs.declared.fetch_v5.FetchPartitionV5.{FetchPartitionV5}
 use Rattle.kb_api_data.specs.declared.fetch_v5.FetchTopicV5.{FetchTopicV5}
 use Rattle.kb_api_data.specs.declared.fetch_v5.FetchRequestV5.{FetchRequestV5}
-use Rattle.kb_tenant.specs.Fetch.{plain, plain_partition, plain_read, plain_topic, read_as}
+use Rattle.kb_tenant.specs.Fetch.{bounded, lesser, plain, plain_partition, plain_read, plain_topic, read_as}
 use Rattle.kb_tenant.proofs.Mapped.{all-map}
 
 partition_fits : (p : FetchPartitionV5) → fetch_partition_v5.Fits p → fetch_partition.Fits (plain_partition p)
@@ -123,3 +124,29 @@ read_so false body r e = without_starts_so body r e
 
 pub read_fits : (starts : Bool) (body : List ℕ) (r : FetchRequest) → read_as starts body ≡ Ok r → fetch_request.Fits r
 read_fits starts body r e = (read_so starts body r e).0
+
+-- ---- what is asked within a limit
+
+lesser_in_range : (n : ℤ) (limit : Option ℕ) → FitsSigned w32 n → FitsSigned w32 (lesser n limit)
+lesser_in_range n None range = range
+lesser_in_range (negsuc m) (Some limit) range = range
+lesser_in_range (pos m) (Some limit) range = by (int_lt (pos limit) (pos m)) refl
+  where
+    small : m < 2 ^ 31
+    small = range.sfits
+
+    by : (t : Bool) → int_lt (pos limit) (pos m) ≡ t → FitsSigned w32 (cond t (pos limit) (pos m))
+    by true e = record { sfits = omega (arith, ints, small) }
+    by false e = range
+
+pub bounded_fits : (limit : Option ℕ) (r : FetchRequest) → fetch_request.Fits r → fetch_request.Fits (bounded limit r)
+unfolding fetch_request int sized items
+bounded_fits limit r fits = fits
+
+bounded_in_range : (limit : Option ℕ) (r : FetchRequest) → fetch_request.InRange r → fetch_request.InRange (bounded limit r)
+unfolding fetch_request int
+bounded_in_range limit r range = (range.0, (range.1.0, (range.1.1.0, (lesser_in_range r.max_bytes limit range.1.1.1.0, range.1.1.1.1))))
+
+-- a request that was read fits, and is in range, within a limit too
+pub bounded_so : (limit : Option ℕ) (starts : Bool) (body : List ℕ) (r : FetchRequest) → read_as starts body ≡ Ok r → fetch_request.Fits (bounded limit r) × fetch_request.InRange (bounded limit r)
+bounded_so limit starts body r e = let is = read_so starts body r e in (bounded_fits limit r is.0, bounded_in_range limit r is.1)

@@ -2,6 +2,7 @@
 -- where a follower's logs start, which nobody asks for here, and a reply where the partition's log does. All else is one.
 use Rattle.std.specs.Prelude.{ℕ, zero, suc, ℤ, pos, negsuc, Bool, true, false, List, [], Option, Some, None, Result, Ok, Err}
 use Rattle.std.specs.Prelude.{length, map, min, nat_le, int_le, not, option_map, ◌+◌, ◌-◌, ◌≡◌, ◌++◌, ◌==◌, ◌&&◌, ◌||◌, if◌then◌else◌}
+use Rattle.std.specs.Int.{int_min}
 use Rattle.std.specs.List.{filter_map, flat_map, list_any, sum_by}
 use Rattle.kb_wire.specs.Codec.{whole}
 use Rattle.kb_wire.specs.declared.fault.WireFault.{WireFault}
@@ -70,6 +71,15 @@ abbrev pub asked_fetch : ℤ → List ℕ → Result FetchRequest WireFault
 asked_fetch version body = read_as (has_starts version) body
 
 -- ---- the limits
+
+-- the lesser of a number and a limit; None is no limit
+abbrev pub lesser : ℤ → Option ℕ → ℤ
+lesser n None = n
+lesser n (Some limit) = int_min n (pos limit)
+
+-- The same fetch, with at most so many bytes of records for its whole reply: of its own limit and its tenant's the lesser holds.
+abbrev pub bounded : Option ℕ → FetchRequest → FetchRequest
+bounded limit r = record r { max_bytes = lesser r.max_bytes limit }
 
 -- what is left of a reply's limits: how many more bytes of records it may have; and whether no partition gave any yet, so that a batch
 -- over the limit is given whole

@@ -30,7 +30,7 @@ use Rattle.kb_tenant.specs.DeleteRecords.{deleted_all as records_deleted}
 use Rattle.kb_tenant.specs.DeleteTopics.{deleted_all, deletions_in}
 use Rattle.kb_tenant.specs.Entries.{commit_entries, create_topics_entries, delete_records_entries, delete_topics_entries, fetch_entries}
 use Rattle.kb_tenant.specs.Entries.{list_offsets_entries, metadata_entries, offset_fetch_entries, produce_entries, within}
-use Rattle.kb_tenant.specs.Fetch.{asked_fetch, deadline_of, fetch_answer, places_of, fetched_in}
+use Rattle.kb_tenant.specs.Fetch.{asked_fetch, bounded, deadline_of, fetch_answer, places_of, fetched_in}
 use Rattle.kb_tenant.specs.FindCoordinator.{coordinator}
 use Rattle.kb_tenant.specs.InitProducerId.{init_producer_id}
 use Rattle.kb_tenant.specs.ListOffsets.{list_offsets}
@@ -62,12 +62,15 @@ of_produce limit w r =
     let p = produced limit w [] r in
     record { world = p.0.world; touched = p.0.touched; reaction = if is_due r.acks then Replies (produce_reply.written p.1) else Silent }
 
-abbrev pub fetch_reaction : ℤ → World → ℕ → FetchRequest → Option FetchReplyV5 → Reaction
-fetch_reaction version w clock r (Some reply) = Replies (fetched_in version reply)
-fetch_reaction version w clock r None = Waits (deadline_of clock r) (places_of w r)
+abbrev pub fetch_reaction : ℤ → Option ℕ → World → ℕ → FetchRequest → Option FetchReplyV5 → Reaction
+fetch_reaction version limit w clock r (Some reply) = Replies (fetched_in version reply)
+fetch_reaction version limit w clock r None = Waits (deadline_of clock r) limit (places_of w r)
 
-abbrev pub of_fetch : ℤ → World → ℕ → FetchRequest → Outcome
-of_fetch version w clock r = stays w (fetch_reaction version w clock r (fetch_answer w clock r (deadline_of clock r)))
+-- A fetch has at most so many bytes of records as its tenant's limit allows, also where it waits and is answered later.
+abbrev pub of_fetch : ℤ → Option ℕ → World → ℕ → FetchRequest → Outcome
+of_fetch version limit w clock asked =
+    let r = bounded limit asked in
+    stays w (fetch_reaction version limit w clock r (fetch_answer w clock r (deadline_of clock r)))
 
 abbrev pub of_list_offsets : World → ListOffsetsRequest → Outcome
 of_list_offsets w r = stays w (Replies (list_offsets_reply.written (list_offsets w r)))
@@ -116,7 +119,8 @@ unfoldable pub plainly_served : Node → World → ℕ → ℕ → ℤ → ℤ �
 plainly_served node w clock n key version body =
     let limit = node.limits.request_entries in
     if int_eq key PRODUCE then if_read w (within limit produce_entries (whole produce_request body)) (of_produce node.limits.bytes w)
-    else if int_eq key FETCH then if_read w (within limit fetch_entries (asked_fetch version body)) (of_fetch version w clock)
+    else if int_eq key FETCH then if_read w (within limit fetch_entries (asked_fetch version body))
+    (of_fetch version node.limits.fetch_bytes w clock)
     else if int_eq key LIST_OFFSETS then if_read w (within limit list_offsets_entries (whole list_offsets_request body))
     (of_list_offsets w)
     else if int_eq key METADATA then if_read w (within limit metadata_entries (asked_metadata version body)) (of_metadata node version w)
@@ -134,14 +138,14 @@ plainly_served node w clock n key version body =
     else if int_eq key INIT_PRODUCER_ID then if_read w (whole init_producer_id_request body) (of_init_producer_id w)
     else stays w Shuts
 
--- a waiting fetch, of that deadline, version and body, at a time of the clock: its reply, where it waits no longer
-abbrev pub looked_at : World → ℕ → ℕ → ℤ → Result FetchRequest WireFault → Reaction
-looked_at w clock deadline version (Err fault) = Shuts
-looked_at w clock deadline version (Ok r) =
-    elim (fetch_answer w clock r deadline) [ Some reply ↦ Replies (fetched_in version reply) | None ↦ Silent ]
+-- a waiting fetch, of that deadline, version, limit and body, at a time of the clock: its reply, where it waits no longer
+abbrev pub looked_at : World → ℕ → ℕ → ℤ → Option ℕ → Result FetchRequest WireFault → Reaction
+looked_at w clock deadline version limit (Err fault) = Shuts
+looked_at w clock deadline version limit (Ok r) =
+    elim (fetch_answer w clock (bounded limit r) deadline) [ Some reply ↦ Replies (fetched_in version reply) | None ↦ Silent ]
 
-unfoldable pub looked : World → ℕ → ℕ → ℤ → List ℕ → Reaction
-looked w clock deadline version body = looked_at w clock deadline version (asked_fetch version body)
+unfoldable pub looked : World → ℕ → ℕ → ℤ → Option ℕ → List ℕ → Reaction
+looked w clock deadline version limit body = looked_at w clock deadline version limit (asked_fetch version body)
 
 -- ---- what the code answers
 

@@ -60,7 +60,7 @@ use Rattle.kb_tenant_state.specs.declared.topic_partition.TopicPartition.{TopicP
 use Rattle.kb_tenant.specs.CreateTopics.{asked_creations, created_topic, creations_in}
 use Rattle.kb_tenant.specs.DeleteRecords.{deletion_answered, deleted}
 use Rattle.kb_tenant.specs.DeleteTopics.{deleted_topic, deletions_in}
-use Rattle.kb_tenant.specs.Fetch.{Limits, asked_fetch, begun, deadline_of, fetch_answered, fetched_in, is_ready, places_of, refused}
+use Rattle.kb_tenant.specs.Fetch.{Limits, asked_fetch, begun, bounded, deadline_of, fetch_answered, fetched_in, is_ready, places_of, refused}
 use Rattle.kb_tenant.specs.Fetch.{reply_written}
 use Rattle.kb_tenant.specs.InitProducerId.{id_refused, init_producer_id}
 use Rattle.kb_tenant.specs.ListOffsets.{listed, offset_refused}
@@ -175,7 +175,7 @@ abbrev pub IsAcknowledged : Type 0 → Option ℕ → ℤ → World → ProduceR
 IsAcknowledged failed limit id w r v touched (answers.Reply bytes) =
     (reply : ProduceReply) × ((bytes.items ≡ framed id (produce_reply.written reply))
     × IsProduceTold failed limit (progress w []) r (progress v touched) reply)
-IsAcknowledged failed limit id w r v touched (answers.Wait deadline keys) = ⊥
+IsAcknowledged failed limit id w r v touched (answers.Wait deadline fetch keys) = ⊥
 IsAcknowledged failed limit id w r v touched answers.NoReply =
     (reply : ProduceReply) × IsProduceTold failed limit (progress w []) r (progress v touched) reply
 IsAcknowledged failed limit id w r v touched answers.Shut = ⊤
@@ -188,7 +188,7 @@ Acknowledges failed limit id w body v touched a =
 -- A produce after which the connection is shut has changed nothing, unless its reply is too long for the INT32 of its size.
 abbrev pub IsSpared : World → List ℕ → World → Answer → Type 0
 IsSpared w body v (answers.Reply bytes) = ⊤
-IsSpared w body v (answers.Wait deadline keys) = ⊤
+IsSpared w body v (answers.Wait deadline limit keys) = ⊤
 IsSpared w body v answers.NoReply = ⊤
 IsSpared w body v answers.Shut = (v ≡ w) ⊎ ((r : ProduceRequest) × ((whole produce_request body ≡ Ok r) × (2 ^ 31 ≤ 4 + reply_length r)))
 
@@ -197,7 +197,7 @@ IsSpared w body v answers.Shut = (v ≡ w) ⊎ ((r : ProduceRequest) × ((whole 
 -- The answer is a reply whose body tells that, or the connection is shut.
 abbrev pub IsReplied : ℤ → (List ℕ → Type 0) → Answer → Type 0
 IsReplied id Told (answers.Reply bytes) = (body : List ℕ) × ((bytes.items ≡ framed id body) × Told body)
-IsReplied id Told (answers.Wait deadline keys) = ⊥
+IsReplied id Told (answers.Wait deadline limit keys) = ⊥
 IsReplied id Told answers.NoReply = ⊥
 IsReplied id Told answers.Shut = ⊤
 
@@ -352,14 +352,14 @@ IsUnready failed w clock deadline q = (reply : FetchReplyV5) × IsFetchReady fai
 -- The answer to what waited is a reply whose body tells that; or none, where it still waits; or the connection is shut.
 abbrev pub IsRepliedOrWaits : ℤ → (List ℕ → Type 0) → Type 0 → Answer → Type 0
 IsRepliedOrWaits id Told Unready (answers.Reply bytes) = (body : List ℕ) × ((bytes.items ≡ framed id body) × Told body)
-IsRepliedOrWaits id Told Unready (answers.Wait deadline keys) = ⊥
+IsRepliedOrWaits id Told Unready (answers.Wait deadline limit keys) = ⊥
 IsRepliedOrWaits id Told Unready answers.NoReply = Unready
 IsRepliedOrWaits id Told Unready answers.Shut = ⊤
 
--- The same of a look at a body that waits until a deadline at most, where it is a request of Fetch in that version.
-abbrev pub AnswersLook : Type 0 → ℤ → ℤ → World → ℕ → ℕ → List ℕ → Answer → Type 0
-AnswersLook failed id version w clock deadline body a = (q : FetchRequest) → asked_fetch version body ≡ Ok q
-    → IsRepliedOrWaits id (TellsFetch failed version w clock deadline q) (IsUnready failed w clock deadline q) a
+-- The same of a look at a body that waits until a deadline at most, with that limit, where it is a request of Fetch in that version.
+abbrev pub AnswersLook : Type 0 → ℤ → ℤ → Option ℕ → World → ℕ → ℕ → List ℕ → Answer → Type 0
+AnswersLook failed id version limit w clock deadline body a = (q : FetchRequest) → asked_fetch version body ≡ Ok q
+    → let r = bounded limit q in IsRepliedOrWaits id (TellsFetch failed version w clock deadline r) (IsUnready failed w clock deadline r) a
 
 -- A Fetch that is not ready waits until its deadline, for the partitions that it asks.
 abbrev pub IsLeftWaiting : Type 0 → World → ℕ → FetchRequest → ℕ → List TopicPartition → Type 0
@@ -372,15 +372,16 @@ IsFetchMade failed starts w clock q old fetching.Reply new =
     (reply : FetchReplyV5) × (IsFetchReady failed w clock (deadline_of clock q) q true reply × (new ≡ old ++ reply_written starts reply))
 IsFetchMade failed starts w clock q old (fetching.Wait until keys) new = IsLeftWaiting failed w clock q until keys.items
 
--- The answer to a Fetch is such a reply or such a wait, or the connection is shut.
-abbrev pub IsFetchReplied : Type 0 → ℤ → ℤ → World → ℕ → FetchRequest → Answer → Type 0
-IsFetchReplied failed id version w clock q (answers.Reply bytes) =
+-- The answer to a Fetch is such a reply or such a wait, which keeps its limit, or the connection is shut.
+abbrev pub IsFetchReplied : Type 0 → ℤ → ℤ → Option ℕ → World → ℕ → FetchRequest → Answer → Type 0
+IsFetchReplied failed id version limit w clock q (answers.Reply bytes) =
     (body : List ℕ) × ((bytes.items ≡ framed id body) × TellsFetch failed version w clock (deadline_of clock q) q body)
-IsFetchReplied failed id version w clock q (answers.Wait until keys) = IsLeftWaiting failed w clock q until keys.items
-IsFetchReplied failed id version w clock q answers.NoReply = ⊥
-IsFetchReplied failed id version w clock q answers.Shut = ⊤
+IsFetchReplied failed id version limit w clock q (answers.Wait until kept keys) =
+    (kept ≡ limit) × IsLeftWaiting failed w clock q until keys.items
+IsFetchReplied failed id version limit w clock q answers.NoReply = ⊥
+IsFetchReplied failed id version limit w clock q answers.Shut = ⊤
 
--- The same of a body, where it is a request of Fetch in that version.
-abbrev pub AnswersFetch : Type 0 → ℤ → ℤ → World → ℕ → List ℕ → Answer → Type 0
-AnswersFetch failed id version w clock body a = (q : FetchRequest) → asked_fetch version body ≡ Ok q
-    → IsFetchReplied failed id version w clock q a
+-- The same of a body with that limit, where it is a request of Fetch in that version.
+abbrev pub AnswersFetch : Type 0 → ℤ → ℤ → Option ℕ → World → ℕ → List ℕ → Answer → Type 0
+AnswersFetch failed id version limit w clock body a = (q : FetchRequest) → asked_fetch version body ≡ Ok q
+    → IsFetchReplied failed id version limit w clock (bounded limit q) a

@@ -12,9 +12,10 @@ use std::alloc::{AllocError, Global};
 pub enum Answer {
     /// A reply, from its size to the end of its body.
     Reply(Vec<u8>),
-    /// A wait for one of these partitions, until the deadline at most.
+    /// A wait for one of these partitions, until the deadline at most. `limit` is how many bytes of records the reply then has.
     Wait {
         deadline: u64,
+        limit: Option<u64>,
         keys: Vec<TopicPartition>,
     },
     /// No reply.

@@ -27,7 +27,7 @@ use crate::create_topics::{check_topics, create_topics, read_creations_within};
 use crate::delete_records::delete_records;
 use crate::delete_topics::delete_topics;
 use crate::fetch;
-use crate::fetch::{Fetching, read_request, read_request_within, serve_fetch};
+use crate::fetch::{Fetching, bound, read_request, read_request_within, serve_fetch};
 use crate::group_offsets::{serve_find_coordinator, serve_offset_commit, serve_offset_fetch};
 use crate::init_producer_id::init_producer_id;
 use crate::limits::DataLimits;
@@ -96,7 +96,7 @@ fn serve_a_fetch<L: PartitionLog + Drop, S: Store>(
     parts: &mut Parts<L>,
     shelf: &mut Shelf<S>,
     clock: u64,
-    limit: Option<u64>,
+    limits: DataLimits,
     request: &Request<'_>,
 ) -> Result<Answer, ReadFault>
     requires clock { clock ≤ 2 ^ 62 }
@@ -106,18 +106,23 @@ fn serve_a_fetch<L: PartitionLog + Drop, S: Store>(
         b.disk.honest → a.agrees → b.state.world ≡ a.state.world }
     ensures meets { let a = scene L.log S.disk parts.old shelf.old in let b = scene L.log S.disk parts.new shelf.new in
         Meets a b (IsServed request.now.correlation_id
-        (if_read a.state.world (within limit fetch_entries (asked_fetch request.now.api_version request.now.body.now))
-        (of_fetch request.now.api_version a.state.world clock)) b.state.world [] result) }
+        (if_read a.state.world (within limits.request_entries fetch_entries (asked_fetch request.now.api_version request.now.body.now))
+        (of_fetch request.now.api_version limits.fetch_bytes a.state.world clock)) b.state.world [] result) }
     ensures fetched { let a = scene L.log S.disk parts.old shelf.old in let b = scene L.log S.disk parts.new shelf.new in
         IfOk result (λ answer. WhereHonest a b (AnswersFetch (HasFailed a b)
-        request.now.correlation_id request.now.api_version a.state.world clock request.now.body.now answer)) }
+        request.now.correlation_id request.now.api_version limits.fetch_bytes a.state.world clock request.now.body.now answer)) }
 {
     let has_starts = fetch::has_starts(request.api_version);
-    let asked = read_request_within(alloc, limit, has_starts, request.body)?;
+    let mut asked = read_request_within(alloc, limits.request_entries, has_starts, request.body)?;
+    bound(&mut asked, limits.fetch_bytes);
     let mut sink = begin(alloc, request.correlation_id)?;
     match serve_fetch(alloc, parts, shelf, clock, has_starts, &asked, &mut sink)? {
         Fetching::Reply => Ok(finish(sink)),
-        Fetching::Wait { deadline, keys } => Ok(Answer::Wait { deadline, keys }),
+        Fetching::Wait { deadline, keys } => Ok(Answer::Wait {
+            deadline,
+            limit: limits.fetch_bytes,
+            keys,
+        }),
     }
 }
 
@@ -318,7 +323,7 @@ fn serve_by_key<L: PartitionLog + Drop, S: Store>(
     let limit = node.limits.request_entries;
     match request.api_key {
         api_key::PRODUCE => serve_produce(alloc, parts, shelf, node.limits, request, touched),
-        api_key::FETCH => serve_a_fetch(alloc, parts, shelf, clock, limit, request),
+        api_key::FETCH => serve_a_fetch(alloc, parts, shelf, clock, node.limits, request),
         api_key::LIST_OFFSETS => serve_list_offsets(alloc, parts, shelf, limit, request),
         api_key::METADATA => serve_metadata(alloc, parts, node, request),
         api_key::OFFSET_COMMIT => serve_offset_commit(alloc, parts, shelf, node.limits, request),
@@ -399,14 +404,15 @@ fn look_at<L: PartitionLog + Drop, S: Store>(
         b.disk.honest → a.agrees → b.state.world ≡ a.state.world }
     ensures meets { let a = scene L.log S.disk parts.old shelf.old in let b = scene L.log S.disk parts.new shelf.new in
         Meets a b (IsServed wait.now.correlation_id
-        (stays a.state.world (looked a.state.world clock wait.now.deadline wait.now.api_version wait.now.body.now))
+        (stays a.state.world (looked a.state.world clock wait.now.deadline wait.now.api_version wait.now.limit wait.now.body.now))
         b.state.world [] result) }
     ensures told { let a = scene L.log S.disk parts.old shelf.old in let b = scene L.log S.disk parts.new shelf.new in
         IfOk result (λ answer. WhereHonest a b (AnswersLook (HasFailed a b) wait.now.correlation_id wait.now.api_version
-        a.state.world clock wait.now.deadline wait.now.body.now answer)) }
+        wait.now.limit a.state.world clock wait.now.deadline wait.now.body.now answer)) }
 {
     let has_starts = fetch::has_starts(wait.api_version);
-    let asked = read_request(alloc, has_starts, wait.body)?;
+    let mut asked = read_request(alloc, has_starts, wait.body)?;
+    bound(&mut asked, wait.limit);
     let mut sink = begin(alloc, wait.correlation_id)?;
     if fetch::look(
         alloc,
@@ -441,11 +447,12 @@ pub fn look<L: PartitionLog + Drop, S: Store>(
         b.disk.honest → a.agrees → b.state.world ≡ a.state.world }
     ensures meets { let a = scene L.log S.disk parts.old shelf.old in let b = scene L.log S.disk parts.new shelf.new in
         Meets a b ((b.state.world ≡ a.state.world)
-        × IsAnswer wait.now.correlation_id (looked a.state.world clock wait.now.deadline wait.now.api_version wait.now.body.now) result) }
+        × IsAnswer wait.now.correlation_id
+        (looked a.state.world clock wait.now.deadline wait.now.api_version wait.now.limit wait.now.body.now) result) }
     // Whatever was refused, a reply has of each partition what is defined, or the code of what refused it.
     ensures told { let a = scene L.log S.disk parts.old shelf.old in let b = scene L.log S.disk parts.new shelf.new in
         WhereHonest a b (AnswersLook (HasFailed a b) wait.now.correlation_id wait.now.api_version
-        a.state.world clock wait.now.deadline wait.now.body.now result) }
+        wait.now.limit a.state.world clock wait.now.deadline wait.now.body.now result) }
 {
     match look_at(alloc, parts, shelf, clock, wait) {
         Ok(answer) => answer,

@@ -8,5 +8,5 @@ mod waiting;
 mod waits;
 
 pub(crate) use given::not_negative;
-pub(crate) use version::{has_starts, read_request, read_request_within};
+pub(crate) use version::{bound, has_starts, read_request, read_request_within};
 pub(crate) use waiting::{Fetching, look, serve_fetch};

@@ -100,9 +100,9 @@ pub fn fetches_give_whole_batches()
     ensures served { (node : Node) (w : World) (clock n : ℕ) (version : ℤ) (body bytes : List ℕ) (r : FetchRequest) → HasSmallLogs w
         → asked_fetch version body ≡ Ok r
         → (plainly_served node w clock n FETCH version body).reaction ≡ Replies bytes → HoldsBatches version w r bytes }
-    ensures looked { (w : World) (clock deadline : ℕ) (version : ℤ) (body bytes : List ℕ) (r : FetchRequest) → HasSmallLogs w
-        → asked_fetch version body ≡ Ok r
-        → looked w clock deadline version body ≡ Replies bytes → HoldsBatches version w r bytes }
+    ensures looked { (w : World) (clock deadline : ℕ) (version : ℤ) (limit : Option ℕ) (body bytes : List ℕ) (r : FetchRequest)
+        → HasSmallLogs w → asked_fetch version body ≡ Ok r
+        → looked w clock deadline version limit body ≡ Replies bytes → HoldsBatches version w r bytes }
 {}
 
 /// No group has two offsets of a partition, from the start on, whatever is asked, committed or dropped by retention, at whatever time.

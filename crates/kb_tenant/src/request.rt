@@ -11,12 +11,13 @@ pub struct Request<'a> {
     pub body: &'a [u8],
 }
 
-/// A fetch that waits for its answer: its correlation id, its version, the body behind its header, and the moment after which
-/// it waits no longer.
+/// A fetch that waits for its answer: its correlation id, its version, the body behind its header, the moment after which it waits
+/// no longer, and how many bytes of records its reply has at most.
 #[derive(Clone, Copy)]
 pub struct Wait<'a> {
     pub correlation_id: i32,
     pub api_version: i16,
     pub body: &'a [u8],
     pub deadline: u64,
+    pub limit: Option<u64>,
 }

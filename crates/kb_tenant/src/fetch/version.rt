@@ -6,7 +6,7 @@ ghost use Rattle.std.specs.Prelude.{◌≡◌, map, IfOk, Ok};
 ghost use Rattle.kb_wire.specs.Reads.{ReadsWhole};
 ghost use Rattle.kb_api_data.specs.Layouts.{fetch_request};
 ghost use Rattle.kb_tenant.specs.Entries.{fetch_entries, within};
-ghost use Rattle.kb_tenant.specs.Fetch.{has_starts, plain, plain_partition, plain_topic, read_as};
+ghost use Rattle.kb_tenant.specs.Fetch.{bounded, has_starts, lesser, plain, plain_partition, plain_topic, read_as};
 
 use crate::within::within;
 use kb_api_data::{
@@ -69,6 +69,24 @@ fn plain<'a>(alloc: Global, request: &FetchRequestV5<'a>) -> Result<FetchRequest
         isolation_level: request.isolation_level,
         topics: plain_topics(alloc, request.topics.as_slice())?,
     })
+}
+
+/// The lesser of a number and a limit. None is no limit.
+fn lesser(n: i32, limit: Option<u64>) -> i32
+    ensures { result ≡ lesser n limit }
+{
+    match limit {
+        Some(limit) => n.min(limit.min(i32::MAX as u64) as i32),
+        None => n,
+    }
+}
+
+/// Bounds a fetch: its whole reply has at most so many bytes of records. None is no limit.
+pub(crate) fn bound(asked: &mut FetchRequest<'_>, limit: Option<u64>)
+    ensures exact { asked.new ≡ bounded limit asked.old }
+    ensures fits { fetch_request.Fits asked.old → fetch_request.Fits asked.new }
+{
+    asked.max_bytes = lesser(asked.max_bytes, limit);
 }
 
 /// Reads a whole body of a request.

@@ -1,6 +1,6 @@
 use Rattle.std.proofs.Common.{rules, ◌≡◌, ◌∙◌, Bool, Ok, ap, sym, refl, subst}
 use Rattle.kb_tenant_state.specs.Parts.{scene, world_of}
-use Rattle.kb_tenant.specs.Fetch.{asked_fetch, fetch_answer, has_starts, read_as}
+use Rattle.kb_tenant.specs.Fetch.{asked_fetch, bounded, fetch_answer, has_starts, look_written, read_as}
 use Rattle.kb_tenant.specs.Replies.{begun, IsAnswer}
 use Rattle.kb_tenant.specs.Serve.{looked, looked_at}
 use Rattle.kb_tenant.specs.Told.{HasFailed, IsUnready}
@@ -13,35 +13,43 @@ pub returns-then-branch-clause-meets : goal.returns-then-branch-clause-meets
 unfolding looked
 returns-then-branch-clause-meets g c = λ honest agree calm.
     let w = world_of g.L.PartitionLog.log c.args.parts.now (g.S.Store.disk c.args.shelf.now.store).files in
-    let asked = c.in_ok-asked.asked in
+    let read = c.in_ok-asked.asked in
+    let limit = c.args.wait.now.limit in
     let id = c.args.wait.now.correlation_id in
     let version = c.args.wait.now.api_version in
     let deadline = c.args.wait.now.deadline in
     let starts : Bool = c.has_starts-has_starts.result in
     let same : starts ≡ has_starts version = search rules in
     let from : c.in_ok-sink.sink.bytes ≡ begun id = search rules in
-    let read : asked_fetch version c.args.wait.now.body.now ≡ Ok asked = ap (λ b. read_as b c.args.wait.now.body.now) (sym same) ∙ c.in_ok-asked.ensures.exact in (
+    let spells : asked_fetch version c.args.wait.now.body.now ≡ Ok read = ap (λ b. read_as b c.args.wait.now.body.now) (sym same) ∙ c.in_ok-asked.ensures.exact in
+    let looks : (c.in_ok-look.field-0, c.look.new.sink.bytes) ≡ look_written starts c.in_ok-sink.sink.bytes (fetch_answer w c.args.clock (bounded limit read) deadline) =
+    subst (λ q. (c.in_ok-look.field-0, c.look.new.sink.bytes) ≡ look_written starts c.in_ok-sink.sink.bytes (fetch_answer w c.args.clock q deadline)) c.bound.ensures.exact
+    (c.in_ok-look.ensures.meets honest agree calm) in (
       c.look.ensures.same honest agree,
       refl,
-      subst (λ r. IsAnswer id (looked_at w c.args.clock deadline version r) c.finish.result) (sym read)
-          (woken id version starts (fetch_answer w c.args.clock asked deadline) c.in_ok-sink.sink.bytes c.look.new.sink.bytes c.in_ok-look.field-0 c.finish.result same from c.if-branch.true (c.in_ok-look.ensures.meets honest agree calm) c.finish.ensures),
+      subst (λ r. IsAnswer id (looked_at w c.args.clock deadline version limit r) c.finish.result) (sym spells)
+          (woken id version starts (fetch_answer w c.args.clock (bounded limit read) deadline) c.in_ok-sink.sink.bytes c.look.new.sink.bytes c.in_ok-look.field-0 c.finish.result same from c.if-branch.true looks c.finish.ensures),
     )
 
 pub returns-clause-meets : goal.returns-clause-meets
 unfolding looked
 returns-clause-meets g c = λ honest agree calm.
     let w = world_of g.L.PartitionLog.log c.args.parts.now (g.S.Store.disk c.args.shelf.now.store).files in
-    let asked = c.in_ok-asked.asked in
+    let read = c.in_ok-asked.asked in
+    let limit = c.args.wait.now.limit in
     let id = c.args.wait.now.correlation_id in
     let version = c.args.wait.now.api_version in
     let deadline = c.args.wait.now.deadline in
     let starts : Bool = c.has_starts-has_starts.result in
     let same : starts ≡ has_starts version = search rules in
-    let read : asked_fetch version c.args.wait.now.body.now ≡ Ok asked = ap (λ b. read_as b c.args.wait.now.body.now) (sym same) ∙ c.in_ok-asked.ensures.exact in (
+    let spells : asked_fetch version c.args.wait.now.body.now ≡ Ok read = ap (λ b. read_as b c.args.wait.now.body.now) (sym same) ∙ c.in_ok-asked.ensures.exact in
+    let looks : (c.in_ok-look.field-0, c.look.new.sink.bytes) ≡ look_written starts c.in_ok-sink.sink.bytes (fetch_answer w c.args.clock (bounded limit read) deadline) =
+    subst (λ q. (c.in_ok-look.field-0, c.look.new.sink.bytes) ≡ look_written starts c.in_ok-sink.sink.bytes (fetch_answer w c.args.clock q deadline)) c.bound.ensures.exact
+    (c.in_ok-look.ensures.meets honest agree calm) in (
       c.look.ensures.same honest agree,
       refl,
-      subst (λ r. IsAnswer id (looked_at w c.args.clock deadline version r) answers.NoReply) (sym read)
-          (waiting id version starts (fetch_answer w c.args.clock asked deadline) c.in_ok-sink.sink.bytes c.look.new.sink.bytes c.in_ok-look.field-0 c.if-branch.false (c.in_ok-look.ensures.meets honest agree calm)),
+      subst (λ r. IsAnswer id (looked_at w c.args.clock deadline version limit r) answers.NoReply) (sym spells)
+          (waiting id version starts (fetch_answer w c.args.clock (bounded limit read) deadline) c.in_ok-sink.sink.bytes c.look.new.sink.bytes c.in_ok-look.field-0 c.if-branch.false looks),
     )
 
 pub returns-then-branch-clause-told : goal.returns-then-branch-clause-told
@@ -51,14 +59,17 @@ returns-then-branch-clause-told g c = λ honest agree q is.
     let a = scene log disk c.args.parts.now c.args.shelf.now in
     let b = scene log disk c.look.new.parts c.look.new.shelf in
     let wait = c.args.wait.now in
-    let asked = c.in_ok-asked.asked in
+    let read = c.in_ok-asked.asked in
+    let asked = c.bound.new.asked in
+    let limit = c.args.wait.now.limit in
     let starts : Bool = c.has_starts-has_starts.result in
     let same : starts ≡ has_starts wait.api_version = search rules in
     let from : c.in_ok-sink.sink.bytes ≡ begun wait.correlation_id = search rules in
-    let both : Ok asked ≡ Ok q = sym (ap (λ b. read_as b wait.body.now) (sym same) ∙ c.in_ok-asked.ensures.exact) ∙ is in
-    let one : asked ≡ q = cc in
-    look_replied (HasFailed a b) (IsUnready (HasFailed a b) a.state.world c.args.clock wait.deadline q) wait.correlation_id wait.api_version
-    starts a.state.world c.args.clock wait.deadline asked q c.in_ok-sink.sink.bytes c.look.new.sink.bytes c.in_ok-look.field-0 c.finish.result same from c.if-branch.true one (c.in_ok-look.ensures.told honest agree)
+    let both : Ok read ≡ Ok q = sym (ap (λ b. read_as b wait.body.now) (sym same) ∙ c.in_ok-asked.ensures.exact) ∙ is in
+    let as_read : read ≡ q = cc in
+    let one : asked ≡ bounded limit q = c.bound.ensures.exact ∙ ap (bounded limit) as_read in
+    look_replied (HasFailed a b) (IsUnready (HasFailed a b) a.state.world c.args.clock wait.deadline (bounded limit q)) wait.correlation_id wait.api_version
+    starts a.state.world c.args.clock wait.deadline asked (bounded limit q) c.in_ok-sink.sink.bytes c.look.new.sink.bytes c.in_ok-look.field-0 c.finish.result same from c.if-branch.true one (c.in_ok-look.ensures.told honest agree)
     c.finish.ensures
 
 pub returns-clause-told : goal.returns-clause-told
@@ -68,10 +79,13 @@ returns-clause-told g c = λ honest agree q is.
     let a = scene log disk c.args.parts.now c.args.shelf.now in
     let b = scene log disk c.look.new.parts c.look.new.shelf in
     let wait = c.args.wait.now in
-    let asked = c.in_ok-asked.asked in
+    let read = c.in_ok-asked.asked in
+    let asked = c.bound.new.asked in
+    let limit = c.args.wait.now.limit in
     let starts : Bool = c.has_starts-has_starts.result in
     let same : starts ≡ has_starts wait.api_version = search rules in
-    let both : Ok asked ≡ Ok q = sym (ap (λ b. read_as b wait.body.now) (sym same) ∙ c.in_ok-asked.ensures.exact) ∙ is in
-    let one : asked ≡ q = cc in
-    look_unready (HasFailed a b) a.state.world c.args.clock wait.deadline asked q c.in_ok-look.field-0 _ c.if-branch.false one
+    let both : Ok read ≡ Ok q = sym (ap (λ b. read_as b wait.body.now) (sym same) ∙ c.in_ok-asked.ensures.exact) ∙ is in
+    let as_read : read ≡ q = cc in
+    let one : asked ≡ bounded limit q = c.bound.ensures.exact ∙ ap (bounded limit) as_read in
+    look_unready (HasFailed a b) a.state.world c.args.clock wait.deadline asked (bounded limit q) c.in_ok-look.field-0 _ c.if-branch.false one
     (c.in_ok-look.ensures.told honest agree)

@@ -2,7 +2,7 @@ use Rattle.std.proofs.Common.{rules, [], ◌≡◌, ◌∙◌, Bool, Ok, ap, sym
 use Rattle.kb_tenant_state.specs.Parts.{scene, world_of}
 use Rattle.kb_tenant.specs.Entries.{fetch_entries, within}
 use Rattle.kb_tenant.specs.Fetch as fetch
-use Rattle.kb_tenant.specs.Fetch.{asked_fetch, deadline_of, fetch_answer, has_starts, read_as}
+use Rattle.kb_tenant.specs.Fetch.{asked_fetch, bounded, deadline_of, fetch_answer, has_starts, read_as}
 use Rattle.kb_tenant.specs.Replies.{begun}
 use Rattle.kb_tenant.specs.Serve.{if_read, of_fetch, IsServed}
 use Rattle.kb_tenant.specs.Told.{HasFailed, IsFetchMade, IsLeftWaiting}
@@ -17,18 +17,20 @@ returns-in-Reply-clause-meets g c = λ honest agree calm.
     let w = world_of g.L.PartitionLog.log c.args.parts.now (g.S.Store.disk c.args.shelf.now.store).files in
     let after = world_of g.L.PartitionLog.log c.serve_fetch.new.parts (g.S.Store.disk c.serve_fetch.new.shelf.store).files in
     let clock = c.args.clock in
-    let asked = c.in_ok-asked.asked in
+    let read = c.in_ok-asked.asked in
+    let limit = c.args.limits.fetch_bytes in
     let id = c.args.request.now.correlation_id in
     let version = c.args.request.now.api_version in
     let starts : Bool = c.has_starts-has_starts.result in
     let same : starts ≡ has_starts version = search rules in
     let from : c.in_ok-sink.sink.bytes ≡ begun id = search rules in
-    let read : within c.args.limit fetch_entries (asked_fetch version c.args.request.now.body.now) ≡ Ok asked = ap (λ b. within c.args.limit fetch_entries (read_as b c.args.request.now.body.now)) (sym same) ∙ c.in_ok-asked.ensures.exact in
-    subst (λ r. IsServed id (if_read w r (of_fetch version w clock)) after [] (Ok c.finish.result)) (sym read) (
+    let spells : within c.args.limits.request_entries fetch_entries (asked_fetch version c.args.request.now.body.now) ≡ Ok read = ap (λ b. within c.args.limits.request_entries fetch_entries (read_as b c.args.request.now.body.now)) (sym same) ∙ c.in_ok-asked.ensures.exact in
+    subst (λ r. IsServed id (if_read w r (of_fetch version limit w clock)) after [] (Ok c.finish.result)) (sym spells) (
       c.serve_fetch.ensures.same honest agree,
       refl,
-      replied id version starts w clock asked (fetch_answer w clock asked (deadline_of clock asked)) c.in_ok-sink.sink.bytes c.serve_fetch.new.sink.bytes c.finish.result same from
-          (subst (λ f. fetch.IsServed starts w clock asked (fetch_answer w clock asked (deadline_of clock asked)) c.in_ok-sink.sink.bytes f c.serve_fetch.new.sink.bytes) c.in-Reply.is (c.in_ok-serve_fetch.ensures.meets honest agree calm))
+      replied id version limit starts w clock (bounded limit read) (fetch_answer w clock (bounded limit read) (deadline_of clock (bounded limit read))) c.in_ok-sink.sink.bytes c.serve_fetch.new.sink.bytes c.finish.result same from
+          (subst (λ f. fetch.IsServed starts w clock (bounded limit read) (fetch_answer w clock (bounded limit read) (deadline_of clock (bounded limit read))) c.in_ok-sink.sink.bytes f c.serve_fetch.new.sink.bytes) c.in-Reply.is
+          (subst (λ q. fetch.IsServed starts w clock q (fetch_answer w clock q (deadline_of clock q)) c.in_ok-sink.sink.bytes c.in_ok-serve_fetch.field-0 c.serve_fetch.new.sink.bytes) c.bound.ensures.exact (c.in_ok-serve_fetch.ensures.meets honest agree calm)))
           c.finish.ensures,
     )
 
@@ -37,17 +39,19 @@ returns-clause-meets g c = λ honest agree calm.
     let w = world_of g.L.PartitionLog.log c.args.parts.now (g.S.Store.disk c.args.shelf.now.store).files in
     let after = world_of g.L.PartitionLog.log c.serve_fetch.new.parts (g.S.Store.disk c.serve_fetch.new.shelf.store).files in
     let clock = c.args.clock in
-    let asked = c.in_ok-asked.asked in
+    let read = c.in_ok-asked.asked in
+    let limit = c.args.limits.fetch_bytes in
     let id = c.args.request.now.correlation_id in
     let version = c.args.request.now.api_version in
     let starts : Bool = c.has_starts-has_starts.result in
     let same : starts ≡ has_starts version = search rules in
-    let read : within c.args.limit fetch_entries (asked_fetch version c.args.request.now.body.now) ≡ Ok asked = ap (λ b. within c.args.limit fetch_entries (read_as b c.args.request.now.body.now)) (sym same) ∙ c.in_ok-asked.ensures.exact in
-    subst (λ r. IsServed id (if_read w r (of_fetch version w clock)) after [] (Ok (answers.Wait c.in-Wait.deadline c.in-Wait.keys))) (sym read) (
+    let spells : within c.args.limits.request_entries fetch_entries (asked_fetch version c.args.request.now.body.now) ≡ Ok read = ap (λ b. within c.args.limits.request_entries fetch_entries (read_as b c.args.request.now.body.now)) (sym same) ∙ c.in_ok-asked.ensures.exact in
+    subst (λ r. IsServed id (if_read w r (of_fetch version limit w clock)) after [] (Ok (answers.Wait c.in-Wait.deadline limit c.in-Wait.keys))) (sym spells) (
       c.serve_fetch.ensures.same honest agree,
       refl,
-      waits id version starts w clock asked (fetch_answer w clock asked (deadline_of clock asked)) c.in_ok-sink.sink.bytes c.serve_fetch.new.sink.bytes c.in-Wait.deadline c.in-Wait.keys
-          (subst (λ f. fetch.IsServed starts w clock asked (fetch_answer w clock asked (deadline_of clock asked)) c.in_ok-sink.sink.bytes f c.serve_fetch.new.sink.bytes) c.in-Wait.is (c.in_ok-serve_fetch.ensures.meets honest agree calm)),
+      waits id version limit starts w clock (bounded limit read) (fetch_answer w clock (bounded limit read) (deadline_of clock (bounded limit read))) c.in_ok-sink.sink.bytes c.serve_fetch.new.sink.bytes c.in-Wait.deadline c.in-Wait.keys
+          (subst (λ f. fetch.IsServed starts w clock (bounded limit read) (fetch_answer w clock (bounded limit read) (deadline_of clock (bounded limit read))) c.in_ok-sink.sink.bytes f c.serve_fetch.new.sink.bytes) c.in-Wait.is
+          (subst (λ q. fetch.IsServed starts w clock q (fetch_answer w clock q (deadline_of clock q)) c.in_ok-sink.sink.bytes c.in_ok-serve_fetch.field-0 c.serve_fetch.new.sink.bytes) c.bound.ensures.exact (c.in_ok-serve_fetch.ensures.meets honest agree calm))),
     )
 
 pub returns-in-Reply-clause-fetched : goal.returns-in-Reply-clause-fetched
@@ -57,16 +61,19 @@ returns-in-Reply-clause-fetched g c = λ honest agree q is.
     let a = scene log disk c.args.parts.now c.args.shelf.now in
     let b = scene log disk c.serve_fetch.new.parts c.serve_fetch.new.shelf in
     let request = c.args.request.now in
-    let asked = c.in_ok-asked.asked in
+    let read = c.in_ok-asked.asked in
+    let limit = c.args.limits.fetch_bytes in
     let starts : Bool = c.has_starts-has_starts.result in
     let same : starts ≡ has_starts request.api_version = search rules in
     let from : c.in_ok-sink.sink.bytes ≡ begun request.correlation_id = search rules in
-    let both : Ok asked ≡ Ok q = sym (ap (λ b. read_as b request.body.now) (sym same) ∙ c.in_ok-asked.ensures.spelled) ∙ is in
-    let one : asked ≡ q = cc in
+    let both : Ok read ≡ Ok q = sym (ap (λ b. read_as b request.body.now) (sym same) ∙ c.in_ok-asked.ensures.spelled) ∙ is in
+    let as_read : read ≡ q = cc in
+    let asked = c.bound.new.asked in
+    let one : asked ≡ bounded limit q = c.bound.ensures.exact ∙ ap (bounded limit) as_read in
     let made : IsFetchMade (HasFailed a b) starts a.state.world c.args.clock asked c.in_ok-sink.sink.bytes fetching.Reply c.serve_fetch.new.sink.bytes =
     subst (λ f. IsFetchMade (HasFailed a b) starts a.state.world c.args.clock asked c.in_ok-sink.sink.bytes f c.serve_fetch.new.sink.bytes) c.in-Reply.is
     (c.in_ok-serve_fetch.ensures.told honest agree) in
-    fetch_replied (HasFailed a b) request.correlation_id request.api_version starts a.state.world c.args.clock asked q c.in_ok-sink.sink.bytes
+    fetch_replied (HasFailed a b) request.correlation_id request.api_version limit starts a.state.world c.args.clock asked (bounded limit q) c.in_ok-sink.sink.bytes
     c.serve_fetch.new.sink.bytes c.finish.result same from one made c.finish.ensures
 
 pub returns-clause-fetched : goal.returns-clause-fetched
@@ -76,12 +83,17 @@ returns-clause-fetched g c = λ honest agree q is.
     let a = scene log disk c.args.parts.now c.args.shelf.now in
     let b = scene log disk c.serve_fetch.new.parts c.serve_fetch.new.shelf in
     let request = c.args.request.now in
-    let asked = c.in_ok-asked.asked in
+    let read = c.in_ok-asked.asked in
+    let limit = c.args.limits.fetch_bytes in
     let starts : Bool = c.has_starts-has_starts.result in
     let same : starts ≡ has_starts request.api_version = search rules in
-    let both : Ok asked ≡ Ok q = sym (ap (λ b. read_as b request.body.now) (sym same) ∙ c.in_ok-asked.ensures.spelled) ∙ is in
-    let one : asked ≡ q = cc in
-    let wait = c.in-Wait in
-    subst (λ r. IsLeftWaiting (HasFailed a b) a.state.world c.args.clock r wait.deadline wait.keys.items) one
-    (subst (λ f. IsFetchMade (HasFailed a b) starts a.state.world c.args.clock asked c.in_ok-sink.sink.bytes f c.serve_fetch.new.sink.bytes) wait.is
-    (c.in_ok-serve_fetch.ensures.told honest agree))
+    let both : Ok read ≡ Ok q = sym (ap (λ b. read_as b request.body.now) (sym same) ∙ c.in_ok-asked.ensures.spelled) ∙ is in
+    let as_read : read ≡ q = cc in
+    let asked = c.bound.new.asked in
+    let one : asked ≡ bounded limit q = c.bound.ensures.exact ∙ ap (bounded limit) as_read in
+    let wait = c.in-Wait in (
+      refl,
+      subst (λ r. IsLeftWaiting (HasFailed a b) a.state.world c.args.clock r wait.deadline wait.keys.items) one
+          (subst (λ f. IsFetchMade (HasFailed a b) starts a.state.world c.args.clock asked c.in_ok-sink.sink.bytes f c.serve_fetch.new.sink.bytes) wait.is
+          (c.in_ok-serve_fetch.ensures.told honest agree)),
+    )

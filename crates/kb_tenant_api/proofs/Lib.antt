@@ -4,6 +4,7 @@ pub mod Committing
 pub mod Joining
 pub mod Keys
 pub mod Laws
+pub mod LimitsKept
 pub mod Looking
 pub mod Waiters
 pub mod WaitersServed

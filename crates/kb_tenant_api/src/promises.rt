@@ -8,6 +8,7 @@ ghost use Rattle.kb_tenant_state.specs.Tied.{IsTied};
 ghost use Rattle.kb_tenant_state.specs.World.{World};
 ghost use Rattle.kb_tenant.specs.Batches.{HasSmallLogs, HoldsBatches};
 ghost use Rattle.kb_tenant.specs.Fetch.{asked_fetch, fetch_answer, places_of};
+ghost use Rattle.kb_tenant.specs.LimitsKept.{AreLimitsKept, HasOrderedCommits};
 ghost use Rattle.kb_tenant.specs.Replies.{Silent};
 ghost use Rattle.kb_tenant.specs.Waiting.{AreApart, HasOwnNames, StillWaits};
 ghost use Rattle.kb_tenant.specs.declared.node.Node.{Node};
@@ -71,4 +72,16 @@ pub fn one_more_waits()
     ensures { (node : Node) (w : World) (clock : ℕ) (gs : Groups) (n : ℕ) (key version : ℤ) (body : List ℕ)
         → AreServed n (rebalances (served node w clock gs n key version body).reaction) gs
         (served node w clock gs n key version body).groups }
+{}
+
+/// No group comes to have two offsets of a partition, whatever is asked.
+pub fn commits_stay_ordered()
+    ensures { (node : Node) (w : World) (clock : ℕ) (gs : Groups) (n : ℕ) (key version : ℤ) (body : List ℕ) → HasOrderedCommits w
+        → HasOrderedCommits (served node w clock gs n key version body).world }
+{}
+
+/// No request brings what a tenant has past its limits: each count is at most the limit, or at most what it was.
+pub fn limits_are_kept()
+    ensures { (node : Node) (w : World) (clock : ℕ) (gs : Groups) (n : ℕ) (key version : ℤ) (body : List ℕ) → HasOrderedCommits w
+        → AreLimitsKept node.limits w (served node w clock gs n key version body).world }
 {}

@@ -30,8 +30,9 @@ pub use group_commit::offset_commit;
 pub use limits::DataLimits;
 pub use node::Node;
 pub use promises::{
-    before_deadline, fetches_give_whole_batches, logs_stay_small, names_stay_apart, requests_again,
-    requests_elsewhere, retention_again, retention_elsewhere, worlds_stay_tied,
+    before_deadline, commits_stay_ordered, fetches_give_whole_batches, limits_are_kept,
+    logs_stay_small, names_stay_apart, requests_again, requests_elsewhere, retention_again,
+    retention_elsewhere, worlds_stay_tied,
 };
 pub use request::{Request, Wait};
 pub use within::{Named, read_within};

@@ -16,7 +16,8 @@ mod tools;
 pub use answer::{Answer, Served};
 pub use dispatch::serve;
 pub use promises::{
-    fetches_give_whole_batches, group_waits_elsewhere, logs_stay_small, names_stay_apart,
-    one_more_waits, requests_again, requests_elsewhere, worlds_stay_tied,
+    commits_stay_ordered, fetches_give_whole_batches, group_waits_elsewhere, limits_are_kept,
+    logs_stay_small, names_stay_apart, one_more_waits, requests_again, requests_elsewhere,
+    worlds_stay_tied,
 };
 pub use replies::tell;

@@ -46,7 +46,7 @@ purge-twice p (e ∷ es) = let rest = purge-twice p es in grind (arith, rest)
 
 -- 2. What a connection's own events lead it to
 
-destiny-purge : (p : ℕ → Bool) (setup : Setup) (n : ℕ) (s : Session) (es : List Happening) → p n ≡ true → destiny setup n s (purge p es) ≡ destiny setup n s es
+pub destiny-purge : (p : ℕ → Bool) (setup : Setup) (n : ℕ) (s : Session) (es : List Happening) → p n ≡ true → destiny setup n s (purge p es) ≡ destiny setup n s es
 destiny-purge p setup n s [] h = refl
 destiny-purge p setup n s (Opens m ∷ es) h = let rest = destiny-purge p setup n s es h in grind (arith, rest)
 destiny-purge p setup n s (Comes m piece ∷ es) h =
@@ -63,7 +63,7 @@ destiny-other p setup n s (Comes m piece ∷ es) h = let rest = destiny-other p 
 destiny-other p setup n s (Closes m ∷ es) h = let rest = destiny-other p setup n s es h in grind (arith, nat_tests, rest)
 destiny-other p setup n s (Moment now ∷ es) h = destiny-other p setup n s es h
 
-unborn-purge : (p : ℕ → Bool) (setup : Setup) (n : ℕ) (es : List Happening) → p n ≡ true → unborn setup n (purge p es) ≡ unborn setup n es
+pub unborn-purge : (p : ℕ → Bool) (setup : Setup) (n : ℕ) (es : List Happening) → p n ≡ true → unborn setup n (purge p es) ≡ unborn setup n es
 unborn-purge p setup n [] h = refl
 unborn-purge p setup n (Opens m ∷ es) h =
     let rest = unborn-purge p setup n es h in
@@ -73,7 +73,7 @@ unborn-purge p setup n (Comes m piece ∷ es) h = let rest = unborn-purge p setu
 unborn-purge p setup n (Closes m ∷ es) h = let rest = unborn-purge p setup n es h in grind (arith, rest)
 unborn-purge p setup n (Moment now ∷ es) h = unborn-purge p setup n es h
 
-unborn-other : (p : ℕ → Bool) (setup : Setup) (n : ℕ) (es : List Happening) → p n ≡ false → unborn setup n (purge p es) ≡ None
+pub unborn-other : (p : ℕ → Bool) (setup : Setup) (n : ℕ) (es : List Happening) → p n ≡ false → unborn setup n (purge p es) ≡ None
 unborn-other p setup n [] h = refl
 unborn-other p setup n (Opens m ∷ es) h = let rest = unborn-other p setup n es h in grind (arith, nat_tests, rest)
 unborn-other p setup n (Comes m piece ∷ es) h = let rest = unborn-other p setup n es h in grind (arith, rest)
@@ -138,7 +138,7 @@ events-alone t es shared own h =
 -- 4. Both runs
 
 -- some events of a run are a run
-run-purge : (p : ℕ → Bool) (last : ℕ) (es : List Happening) → IsRun last es → IsRun last (purge p es)
+pub run-purge : (p : ℕ → Bool) (last : ℕ) (es : List Happening) → IsRun last es → IsRun last (purge p es)
 run-purge p last [] r = tt
 run-purge p last (Opens n ∷ es) r = by (p n) (run-purge p n es r.1)
   where

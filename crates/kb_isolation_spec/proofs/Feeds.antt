@@ -57,7 +57,7 @@ comes-none setup t n mine piece es (l ∷ ls) h o =
     (subst (Fits t (mine l.number)) (ap (λ (b : Bool). cond b (destiny setup l.number (heard setup (fed piece (heard setup l.session))) es) (destiny setup l.number (heard setup l.session) es)) ne) o.0, comes-none setup t n mine piece es ls h.1 o.1)
 
 -- the connection that the piece came on, if it was kept
-comes-fed : (setup : Setup) (t : ℕ) (mine : ℕ → Bool) (piece : List ℕ) (es : List Happening) (l m : Line) → can l.session ≡ false → m.number ≡ l.number → m.session ≡ fed piece l.session → IsMine setup t mine (Comes l.number piece ∷ es) l → IsMine setup t mine es m
+pub comes-fed : (setup : Setup) (t : ℕ) (mine : ℕ → Bool) (piece : List ℕ) (es : List Happening) (l m : Line) → can l.session ≡ false → m.number ≡ l.number → m.session ≡ fed piece l.session → IsMine setup t mine (Comes l.number piece ∷ es) l → IsMine setup t mine es m
 comes-fed setup t mine piece es l m c n e h =
     let same : eqb l.number l.number ≡ true = grind (arith, nat_tests) in
     let still : heard setup l.session ≡ l.session = heard-still setup l.session c in

@@ -1,5 +1,7 @@
 pub mod Feeds
 pub mod Laws
+pub mod LimitsKept
+pub mod OwnMachine
 pub mod Leaving
 pub mod Owned
 pub mod Owners

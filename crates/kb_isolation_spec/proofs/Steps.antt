@@ -44,22 +44,22 @@ lines-push : (ls : List Line) (x : Line) (mine : ℕ → Bool) → those mine (l
 lines-push [] x mine = refl
 lines-push (l ∷ ls) x mine = let rest = lines-push ls x mine in grind (arith, rest)
 
-rising-push : (low last n : ℕ) (ls : List Line) (x : Line) → Rising low last ls → last < n → x.number ≡ n → Rising low n (ls ++ x ∷ [])
+pub rising-push : (low last n : ℕ) (ls : List Line) (x : Line) → Rising low last ls → last < n → x.number ≡ n → Rising low n (ls ++ x ∷ [])
 rising-push low last n [] x r h e = (omega (arith, r), omega arith)
 rising-push low last n (l ∷ ls) x r h e = (r.0, rising-push l.number last n ls x r.1 h e)
 
-first-push : (ls : List Line) (x : Line) → first_able ls ≡ None → can x.session ≡ false → first_able (ls ++ x ∷ []) ≡ None
+pub first-push : (ls : List Line) (x : Line) → first_able ls ≡ None → can x.session ≡ false → first_able (ls ++ x ∷ []) ≡ None
 first-push [] x h e = grind (arith, e)
 first-push (l ∷ ls) x h e = let rest = first-push ls x in grind (arith, rest)
 
-can-fresh : can fresh ≡ false
+pub can-fresh : can fresh ≡ false
 unfolding can front int
 can-fresh = refl
 
 heard-fresh : (setup : Setup) → heard setup fresh ≡ fresh
 heard-fresh setup = heard-still setup fresh can-fresh
 
-owns-opens : (setup : Setup) (t last n : ℕ) (mine : ℕ → Bool) (es : List Happening) (ls : List Line) → last < n → Owns setup t mine last (Opens n ∷ es) ls → Owns setup t mine n es (ls ++ record { number = n; session = fresh } ∷ [])
+pub owns-opens : (setup : Setup) (t last n : ℕ) (mine : ℕ → Bool) (es : List Happening) (ls : List Line) → last < n → Owns setup t mine last (Opens n ∷ es) ls → Owns setup t mine n es (ls ++ record { number = n; session = fresh } ∷ [])
 owns-opens setup t last n mine es ls h o =
     let same : eqb n n ≡ true = grind (arith, nat_tests) in
     let new : Fits t (mine n) (destiny setup n fresh es) = subst (Fits t (mine n)) (ap (λ (b : Bool). cond b (destiny setup n fresh es) (unborn setup n es)) same) (o.later n h) in
@@ -142,7 +142,7 @@ rising-lower : (low low' last : ℕ) (ls : List Line) → low' ≤ low → Risin
 rising-lower low low' last [] h r = omega (arith, r)
 rising-lower low low' last (l ∷ ls) h r = (let lt = r.0 in omega arith, r.1)
 
-rising-those : (low last : ℕ) (mine : ℕ → Bool) (ls : List Line) → Rising low last ls → Rising low last (those mine ls)
+pub rising-those : (low last : ℕ) (mine : ℕ → Bool) (ls : List Line) → Rising low last ls → Rising low last (those mine ls)
 rising-those low last mine [] r = r
 rising-those low last mine (l ∷ ls) r = rising-those_by low last mine l (those mine ls) (mine l.number) refl r.0 (rising-those l.number last mine ls r.1)
   where
@@ -151,7 +151,7 @@ rising-those low last mine (l ∷ ls) r = rising-those_by low last mine l (those
     rising-those_by low last mine l ls false e p h = rw e (rising-lower l.number low last ls (omega arith) h)
 
 -- the others are still where they were
-closes-others : (setup : Setup) (t n : ℕ) (mine : ℕ → Bool) (es : List Happening) (ls : List Line) → AllByRecursion (IsMine setup t mine (Closes n ∷ es)) ls → AllByRecursion (IsMine setup t mine es) (those (other_than n) ls)
+pub closes-others : (setup : Setup) (t n : ℕ) (mine : ℕ → Bool) (es : List Happening) (ls : List Line) → AllByRecursion (IsMine setup t mine (Closes n ∷ es)) ls → AllByRecursion (IsMine setup t mine es) (those (other_than n) ls)
 closes-others setup t n mine es [] h = tt
 closes-others setup t n mine es (l ∷ ls) h = closes-others_by setup t n mine es l (those (other_than n) ls) (eqb l.number n) refl h.0 (closes-others setup t n mine es ls h.1)
   where

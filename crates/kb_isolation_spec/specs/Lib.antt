@@ -6,6 +6,7 @@ pub mod Greeting
 pub mod Greetings
 pub mod Isolation
 pub mod Left
+pub mod LimitsKept
 pub mod Machine
 pub mod Owners
 pub mod Requests

@@ -15,6 +15,7 @@ ghost use Rattle.kb_isolation_spec.specs.Fetches.{AllTurnsGiveBatches, AllWakeWi
 ghost use Rattle.kb_isolation_spec.specs.Fetches.{GetsBatches, NextGivesBatches, ServesBatches, after_request};
 ghost use Rattle.kb_tenant.specs.Batches.{HasSmallLogs};
 ghost use Rattle.kb_tenant.specs.Fetch.{asked_fetch, fetched, fetched_in};
+ghost use Rattle.kb_tenant.specs.LimitsKept.{AreLimitsKept, HasOrderedCommits};
 ghost use Rattle.kb_tenant.specs.Replies.{Replies, framed};
 ghost use Rattle.kb_isolation_spec.specs.Versions.{base_of};
 ghost use Rattle.kb_coordinator.specs.Calls.{left};
@@ -25,12 +26,13 @@ ghost use Rattle.kb_isolation_spec.specs.Machine.{first_able, turn, turns, work,
 ghost use Rattle.kb_isolation_spec.specs.Machine.{stepped, leaving, run, by_number, woken};
 ghost use Rattle.kb_isolation_spec.specs.Owners.{whose, concerns, purge};
 ghost use Rattle.kb_isolation_spec.specs.Broker.{BrokerState, IsCalmFor, IsReady, IsRun, IsUnowned, Mine, Rising, alone_unowned, owned_by};
-ghost use Rattle.kb_isolation_spec.specs.Broker.{view_of};
+ghost use Rattle.kb_isolation_spec.specs.Broker.{kept_of, view_of};
 ghost use Rattle.kb_isolation_spec.specs.Greetings.{greeted_alone};
 ghost use Rattle.kb_isolation_spec.specs.Isolation.{IsIsolated, StartsAlike, AreAlike, own_events, own_sent};
 ghost use Rattle.kb_isolation_spec.specs.Left.{last_world, LeavesWorlds};
 ghost use Rattle.kb_isolation_spec.specs.Alone.{HasToItself};
 ghost use Rattle.kb_isolation_spec.specs.Told.{quieted};
+ghost use Rattle.kb_isolation_spec.specs.LimitsKept.{IsMachineOf, StaysWithin};
 
 /// Isolation, as a tenant sees it: two runs in which its own events and the moments are the same, in the same order, give its
 /// connections the same bytes, and shut the same of them, whatever the others do in either. The tenant has the same before both
@@ -232,4 +234,25 @@ pub fn one_tenants_in_order()
 /// A tenant's connections, as they are told apart before a run, are those that their own bytes will bind to it.
 pub fn owners_at_entry()
     ensures { (tenant : ℕ) (es : List Happening) (b : BrokerState) → Rising 0 b.last b.lines → Mine tenant (owned_by tenant es b) es b }
+{}
+
+/// No run brings what a tenant has past its limits: at every moment the bytes of its batches, its topics, their partitions, and the
+/// offsets that its groups have committed are each at most the limit, or at most what they were before the run. No group had two
+/// offsets of one partition then, as `commits_stay_ordered` (`kb_tenant`) says of each world that there is.
+///
+/// `turn`: the turn of a connection. `run`: each moment of a run of a tenant's machine. `own`: that machine among all tenants, given the
+/// events of the tenant's connections. `left`: what the tenant has on the broker after a run in which nothing was refused to it or to
+/// a connection that is not bound.
+pub fn limits_are_kept()
+    ensures turn { (w : View) (l : Line) (t : ℕ) (wait : Option Wait) → first_able w.lines ≡ Some l
+        → l.session.stage ≡ BoundTo t wait → HasOrderedCommits w.kept.world
+        → AreLimitsKept (node_of w.setup t).limits w.kept.world (turn w).kept.world }
+    ensures run { (t last : ℕ) (es : List Happening) (w : View) → IsMachineOf t last es w → HasOrderedCommits w.kept.world
+        → StaysWithin (node_of w.setup t).limits w.kept.world es w }
+    ensures own { (t : ℕ) (mine : ℕ → Bool) (es : List Happening) (b : BrokerState) → IsReady b → IsRun b.last es → Mine t mine es b
+        → HasOrderedCommits (kept_of b t).world
+        → StaysWithin (node_of b.setup t).limits (kept_of b t).world (purge mine es) (view_of t mine b) }
+    ensures left { (t : ℕ) (es : List Happening) (old new : BrokerState) (got : List Sent) → LeavesWorlds es old new got → IsReady old
+        → IsRun old.last es → IsCalmFor t old new → HasOrderedCommits (kept_of old t).world
+        → AreLimitsKept (node_of old.setup t).limits (kept_of old t).world (kept_of new t).world }
 {}

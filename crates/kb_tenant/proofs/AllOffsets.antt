@@ -1,5 +1,5 @@
 -- All that a group committed: what is counted, and what is written, one after another.
-use Rattle.std.proofs.Common.{◌≡◌, ◌∙◌, sym, ap, refl, ℕ, ◌+◌, List, [], ◌∷◌, ◌++◌, length, map, append_assoc, arith, w32}
+use Rattle.std.proofs.Common.{◌≡◌, ◌∙◌, sym, ap, refl, ℕ, ◌+◌, List, [], ◌∷◌, ◌++◌, ◌≤◌, length, map, arith, w32}
 use Rattle.std.specs.Prelude.{ℤ, pos, Option}
 use Rattle.std.specs.List.{flat_map, range_with_len}
 use Rattle.std.proofs.lemmas.Grind.{flat_map-append}
@@ -15,7 +15,9 @@ use Rattle.kb_tenant_state.specs.Calls.{committed}
 use Rattle.kb_tenant_state.specs.World.{World}
 use Rattle.kb_tenant.specs.DeleteTopics.{place_at}
 use Rattle.kb_tenant.specs.OffsetFetch.{told_at, told_if, told_in, topic_if, topic_told}
+use Rattle.kb_tenant.specs.Replies.{written_until}
 use Rattle.kb_tenant.proofs.Fitting.{array_written, written_both}
+use Rattle.kb_tenant.proofs.Until.{until_first}
 
 -- what is told of the first numbers, and of one more
 more : {A : Type 0} (f : ℕ → List A) (n : ℕ) → flat_map f (range_with_len 0 (n + 1)) ≡ flat_map f (range_with_len 0 n) ++ f n
@@ -89,10 +91,18 @@ topics_counted w group e rest k count total one before =
     let regrouped : count + k + length others ≡ count + (k + length others) = omega arith in
     regrouped ∙ ap (λ x. count + (x + length others)) one ∙ ap (λ x. count + x) (sym both) ∙ before
 
-pub topics_more : (w : World) (group : List ℕ) (e : ℕ × TopicState) (rest : List (ℕ × TopicState)) (s t : List ℕ) → t ≡ s ++ flat_map offset_fetch_topic_reply.written (topic_told w group e)
-    → t ++ flat_map offset_fetch_topic_reply.written (flat_map (topic_told w group) rest) ≡ s ++ flat_map offset_fetch_topic_reply.written (flat_map (topic_told w group) (e ∷ rest))
-topics_more w group e rest s t a =
+-- A topic is told in one entry, or in none.
+told_first : (most : ℕ) (name : List ℕ) (xs : List OffsetFetchPartitionReply) (others : List OffsetFetchTopicReply) (s t : List ℕ) → length s ≤ most
+    → t ≡ s ++ flat_map offset_fetch_topic_reply.written (topic_if name xs)
+    → written_until most offset_fetch_topic_reply.written t others ≡ written_until most offset_fetch_topic_reply.written s (topic_if name xs ++ others)
+told_first most name [] others s t few wrote = ap (λ x. written_until most offset_fetch_topic_reply.written x others) (wrote ∙ append-nil s)
+told_first most name (p ∷ ps) others s t few wrote =
     let write = offset_fetch_topic_reply.written in
-    let others = flat_map (topic_told w group) rest in
-    ap (λ x. x ++ flat_map write others) a ∙ append_assoc s (flat_map write (topic_told w group e)) (flat_map write others)
-    ∙ ap (λ x. s ++ x) (sym (flat_map-append write (topic_told w group e) others))
+    let one : OffsetFetchTopicReply = record { name = name; partitions = p ∷ ps } in
+    ap (λ x. written_until most write x others) (wrote ∙ ap (λ x. s ++ x) (append-nil (write one))) ∙ sym (until_first most write s one others few)
+
+pub topics_more : (most : ℕ) (w : World) (group : List ℕ) (e : ℕ × TopicState) (rest : List (ℕ × TopicState)) (s t : List ℕ) → length s ≤ most
+    → t ≡ s ++ flat_map offset_fetch_topic_reply.written (topic_told w group e)
+    → written_until most offset_fetch_topic_reply.written t (flat_map (topic_told w group) rest) ≡ written_until most offset_fetch_topic_reply.written s (flat_map (topic_told w group) (e ∷ rest))
+topics_more most w group e rest s t few wrote =
+    told_first most e.1.name (told_in w group e.0 (length e.1.partitions)) (flat_map (topic_told w group) rest) s t few wrote

@@ -40,7 +40,7 @@ pub record Cases (P : Outcome → Type 0) (node : Node) (w : World) (clock : ℕ
   pub list_offsets : (r : ListOffsetsRequest) → whole list_offsets_request body ≡ Ok r → P (of_list_offsets w r)
   pub metadata : (r : MetadataRequest) → asked_metadata version body ≡ Ok r → P (of_metadata node version w r)
   pub offset_commit : (r : OffsetCommitRequest) → whole offset_commit_request body ≡ Ok r → P (of_offset_commit node.limits w r)
-  pub offset_fetch : (r : OffsetFetchRequestV2) → asked_offsets version body ≡ Ok r → P (of_offset_fetch version w r)
+  pub offset_fetch : (r : OffsetFetchRequestV2) → asked_offsets version body ≡ Ok r → P (of_offset_fetch node.limits.reply_bytes version w r)
   pub find_coordinator : (r : FindCoordinatorRequest) → whole find_coordinator_request body ≡ Ok r → P (of_find_coordinator node w r)
   pub create_topics : (r : CreateTopicsRequestV1) → asked_creations version body ≡ Ok r → P (of_create_topics node.limits version w r)
   pub delete_topics : (r : DeleteTopicsRequest) → whole delete_topics_request body ≡ Ok r → P (of_delete_topics version w r)
@@ -83,7 +83,7 @@ by_request P node w clock n key version body c =
     let deletes : Outcome = if_read w (within limit delete_topics_entries (whole delete_topics_request body)) (of_delete_topics version w) in
     let creates : Outcome = if_read w (within limit create_topics_entries (asked_creations version body)) (of_create_topics node.limits version w) in
     let finds : Outcome = if_read w (whole find_coordinator_request body) (of_find_coordinator node w) in
-    let asks : Outcome = if_read w (within limit offset_fetch_entries (asked_offsets version body)) (of_offset_fetch version w) in
+    let asks : Outcome = if_read w (within limit offset_fetch_entries (asked_offsets version body)) (of_offset_fetch node.limits.reply_bytes version w) in
     let commits : Outcome = if_read w (within limit commit_entries (whole offset_commit_request body)) (of_offset_commit node.limits w) in
     let tells : Outcome = if_read w (within limit metadata_entries (asked_metadata version body)) (of_metadata node version w) in
     let lists : Outcome = if_read w (within limit list_offsets_entries (whole list_offsets_request body)) (of_list_offsets w) in
@@ -104,7 +104,7 @@ by_request P node w clock n key version body c =
     (either P (int_eq key LIST_OFFSETS) lists from_tells (read_within P w limit list_offsets_entries (whole list_offsets_request body) (of_list_offsets w) c.list_offsets c.shut)
     (either P (int_eq key METADATA) tells from_commits (read_within P w limit metadata_entries (asked_metadata version body) (of_metadata node version w) c.metadata c.shut)
     (either P (int_eq key OFFSET_COMMIT) commits from_asks (read_within P w limit commit_entries (whole offset_commit_request body) (of_offset_commit node.limits w) c.offset_commit c.shut)
-    (either P (int_eq key OFFSET_FETCH) asks from_finds (read_within P w limit offset_fetch_entries (asked_offsets version body) (of_offset_fetch version w) c.offset_fetch c.shut)
+    (either P (int_eq key OFFSET_FETCH) asks from_finds (read_within P w limit offset_fetch_entries (asked_offsets version body) (of_offset_fetch node.limits.reply_bytes version w) c.offset_fetch c.shut)
     (either P (int_eq key FIND_COORDINATOR) finds from_creates (read_by P w (whole find_coordinator_request body) (of_find_coordinator node w) c.find_coordinator c.shut)
     (either P (int_eq key CREATE_TOPICS) creates from_deletes (read_within P w limit create_topics_entries (asked_creations version body) (of_create_topics node.limits version w) c.create_topics c.shut)
     (either P (int_eq key DELETE_TOPICS) deletes from_trims (read_within P w limit delete_topics_entries (whole delete_topics_request body) (of_delete_topics version w) c.delete_topics c.shut)

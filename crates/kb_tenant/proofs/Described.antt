@@ -20,10 +20,12 @@ use Rattle.kb_api_data.specs.declared.metadata_versions.MetadataRequestV0.{Metad
 use Rattle.kb_api_data.specs.declared.metadata_versions.MetadataRequestV4.{MetadataRequestV4}
 use Rattle.kb_topics.specs.Known.{TopicState, named, topic_at}
 use Rattle.kb_topics.specs.Name.{is_legal}
-use Rattle.kb_tenant.specs.Metadata.{broker, broker_v0, internal_in, metadata_in, metadata_of, partition_described, reply_v3, topic_asked, topic_described, topic_found, topic_in, topic_v0, topics_asked, topics_in}
+use Rattle.kb_tenant.specs.Metadata.{broker, broker_v0, internal_in, metadata_in, metadata_of, partition_described, reply_v3, topic_asked, topic_described, topic_found, topic_in, topic_v0, topics_asked, topics_in, topics_until, IsMetadataUntil}
+use Rattle.kb_tenant.specs.Replies.{AreUntil}
 use Rattle.kb_tenant_state.specs.World.{World}
 use Rattle.kb_tenant.specs.declared.node.Node.{Node}
 use Rattle.kb_tenant.proofs.Fitting.{array_written, written_both}
+use Rattle.kb_tenant.proofs.Until.{are_until, until_all}
 
 -- ---- what was read can be written
 
@@ -192,8 +194,20 @@ front_later node ts version old s1 new either first wrote =
     (λ is. subst (λ v. new ++ topics_in v ts ≡ old ++ metadata_in v (reply_with node ts)) (sym is) (ap (λ x. new ++ x) (topics_new (pos 4) ts refl) ∙ all))
     either
 
-pub metadata_written : (w : World) (node : Node) (version : ℤ) (r : MetadataRequest) (asked : Option (List (List ℕ))) (old s1 s2 : List ℕ) → r.topics ≡ asked
+-- the topics behind what stands before them, until there are more than so many bytes
+pub topics_until_all : (most : ℕ) (version : ℤ) (out : List ℕ) (ts : List MetadataTopic) → AreUntil most (out ++ topics_in version ts) (topics_until most version out ts)
+topics_until_all most version out ts =
+    let number = (count w32).written (length ts) in
+    are_until most ((out ++ number) ++ flat_map (topic_in version) ts) (out ++ topics_in version ts) (topics_until most version out ts) (topics_until most version out ts)
+    (append_assoc out number (flat_map (topic_in version) ts)) refl (until_all most (topic_in version) (out ++ number) ts)
+
+pub metadata_until : (most : ℕ) (w : World) (node : Node) (version : ℤ) (r : MetadataRequest) (asked : Option (List (List ℕ))) (old s1 s2 : List ℕ) → r.topics ≡ asked
     → s1 ++ topics_in version (topics_asked w.known.topics asked) ≡ old ++ metadata_in version (reply_with node (topics_asked w.known.topics asked))
-    → s2 ≡ s1 ++ topics_in version (topics_asked w.known.topics asked) → s2 ≡ old ++ metadata_in version (metadata_of w node r)
-metadata_written w node version r asked old s1 s2 is front behind =
-    behind ∙ front ∙ ap (λ o. old ++ metadata_in version (reply_with node (topics_asked w.known.topics o))) (sym is)
+    → s2 ≡ topics_until most version s1 (topics_asked w.known.topics asked) → IsMetadataUntil most version (metadata_of w node r) old s2
+metadata_until most w node version r asked old s1 s2 is front behind =
+    subst (λ o. IsMetadataUntil most version (reply_with node (topics_asked w.known.topics o)) old s2) (sym is) (s1, (front, behind))
+
+pub metadata_until_all : (most : ℕ) (version : ℤ) (r : MetadataReply) (old new : List ℕ) → IsMetadataUntil most version r old new → AreUntil most (old ++ metadata_in version r) new
+metadata_until_all most version r old new until =
+    are_until most (until.0 ++ topics_in version r.topics) (old ++ metadata_in version r) (topics_until most version until.0 r.topics) new until.1.0 until.1.1
+    (topics_until_all most version until.0 r.topics)

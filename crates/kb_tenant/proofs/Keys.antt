@@ -29,7 +29,7 @@ pub served_metadata : (node : Node) (w : World) (clock n : ℕ) (key version : �
 unfolding plainly_served
 served_metadata node w clock n key version body is = ap (λ k. plainly_served node w clock n k version body) is
 
-pub served_offset_fetch : (node : Node) (w : World) (clock n : ℕ) (key version : ℤ) (body : List ℕ) → key ≡ OFFSET_FETCH → plainly_served node w clock n key version body ≡ if_read w (within node.limits.request_entries offset_fetch_entries (asked_offsets version body)) (of_offset_fetch version w)
+pub served_offset_fetch : (node : Node) (w : World) (clock n : ℕ) (key version : ℤ) (body : List ℕ) → key ≡ OFFSET_FETCH → plainly_served node w clock n key version body ≡ if_read w (within node.limits.request_entries offset_fetch_entries (asked_offsets version body)) (of_offset_fetch node.limits.reply_bytes version w)
 unfolding plainly_served
 served_offset_fetch node w clock n key version body is = ap (λ k. plainly_served node w clock n k version body) is
 

@@ -53,6 +53,7 @@ pub mod Telling
 pub mod Tied
 pub mod Trimming
 pub mod Turning
+pub mod Until
 pub mod Versions
 pub mod Waiting
 pub mod Wanted

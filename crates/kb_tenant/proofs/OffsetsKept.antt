@@ -1,5 +1,5 @@
 -- What is written of committed offsets.
-use Rattle.std.proofs.Common.{◌≡◌, ◌∙◌, sym, ap, ℕ, ℤ, List, ◌++◌, length, map, Option, Some, w32}
+use Rattle.std.proofs.Common.{◌≡◌, ◌∙◌, sym, ap, refl, ℕ, ℤ, List, ◌++◌, length, map, Option, Some, w32}
 use Rattle.std.specs.List.{flat_map}
 use Rattle.std.specs.Option.{option_and_then}
 use Rattle.std.specs.Prelude.{Bool, true, false}
@@ -14,8 +14,10 @@ use Rattle.kb_topics.specs.Known.{named}
 use Rattle.kb_tenant_state.specs.Calls.{committed}
 use Rattle.kb_tenant_state.specs.World.{World, place_in}
 use Rattle.kb_tenant_state.specs.declared.topic_partition.TopicPartition.{TopicPartition}
-use Rattle.kb_tenant.specs.OffsetFetch.{code_in, fetched, fetched_topic, kept, offsets_as, with_topics}
+use Rattle.kb_tenant.specs.OffsetFetch.{code_in, fetched, fetched_topic, kept, offsets_as, offsets_until, with_topics}
+use Rattle.kb_tenant.specs.Replies.{array_until, AreUntil}
 use Rattle.kb_tenant.proofs.Fitting.{array_written, written_both}
+use Rattle.kb_tenant.proofs.Until.{are_until, array_until_all, until_behind}
 
 -- what is kept of a partition at its place
 pub kept_at : (w : World) (group : List ℕ) (topic : Option ℕ) (partition p : ℤ) (place : TopicPartition) → p ≡ partition → Some place ≡ place_in topic p → committed w place group ≡ kept w group topic partition
@@ -37,16 +39,6 @@ topic_written w group t name n instance partitions old s1 s2 s3 name_is n_is ins
     let array_is = array_written offset_fetch_partition_reply replies n (n_is ∙ sym (length-map t.partitions f)) in
     written_both old s1 s3 (string.written t.name) ((array offset_fetch_partition_reply).written replies) (p ∙ ap (λ m. old ++ string.written m) name_is) (tail ∙ ap (λ x. s1 ++ x) array_is)
 
--- the answers of topics are their count and each of them
-pub asked_written : (w : World) (group : List ℕ) (topics : List OffsetFetchTopic) (n : ℕ) (old s1 s2 : List ℕ) → n ≡ length topics → s1 ≡ old ++ (count w32).written n
-    → s2 ≡ s1 ++ flat_map offset_fetch_topic_reply.written (map (fetched_topic w group) topics)
-    → s2 ≡ old ++ (array offset_fetch_topic_reply).written (map (fetched_topic w group) topics)
-asked_written w group topics n old s1 s2 n_is p r =
-    let f = fetched_topic w group in
-    let replies = map f topics in
-    written_both old s1 s2 ((count w32).written n) (flat_map offset_fetch_topic_reply.written replies) p r
-    ∙ ap (λ x. old ++ x) (array_written offset_fetch_topic_reply replies n (n_is ∙ sym (length-map topics f)))
-
 -- a request of version 1 fits by the layout of version 2
 pub topics_fit : (q : OffsetFetchRequest) → offset_fetch_request.Fits q → offset_fetch_request_v2.Fits (with_topics q)
 unfolding offset_fetch_request offset_fetch_request_v2 nullable nullable_counted sized counted items
@@ -57,3 +49,12 @@ pub reply_written : (has : Bool) (r : OffsetFetchReply) (old s1 s2 : List ℕ) �
 unfolding offset_fetch_reply offset_fetch_reply_v2
 reply_written true r old s1 s2 p q = written_both old s1 s2 ((array offset_fetch_topic_reply).written r.topics) (code_in true) p q
 reply_written false r old s1 s2 p q = q ∙ append-nil s1 ∙ p
+
+-- the same, whose topics are written until there are more than so many bytes
+pub offsets_until_all : (most : ℕ) (has : Bool) (r : OffsetFetchReply) (old : List ℕ) → AreUntil most (old ++ offsets_as has r) (offsets_until most has r old)
+offsets_until_all most has r old =
+    let topics = (array offset_fetch_topic_reply).written r.topics in
+    let made = array_until most offset_fetch_topic_reply old r.topics in
+    are_until most ((old ++ topics) ++ code_in has) (old ++ offsets_as has r) (made ++ code_in has) (made ++ code_in has)
+    (reply_written has r old (old ++ topics) ((old ++ topics) ++ code_in has) refl refl) refl
+    (until_behind most (old ++ topics) made (code_in has) (array_until_all most offset_fetch_topic_reply old r.topics))

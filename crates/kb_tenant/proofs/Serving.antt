@@ -16,7 +16,7 @@ stays_then a b c p q x y honest agree =
     let before = q.frame.others.honest honest in
     y honest (p.frame.agrees before agree) ∙ x before agree
 
-drop_past : {E : Type 0} (es : List E) (i : ℕ) → length es ≤ i → drop i es ≡ []
+pub drop_past : {E : Type 0} (es : List E) (i : ℕ) → length es ≤ i → drop i es ≡ []
 drop_past [] zero h = refl
 drop_past [] (suc i) h = refl
 drop_past (e ∷ es) zero h = absurd (omega arith)

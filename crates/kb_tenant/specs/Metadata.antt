@@ -1,5 +1,5 @@
 -- The broker, and topics with their partitions (Kafka protocol guide, "The Messages: Metadata").
-use Rattle.std.specs.Prelude.{ℕ, ℤ, pos, false, List, [], ◌∷◌, ◌++◌, length, map, Option, Some, None, Result, Ok, if◌then◌else◌}
+use Rattle.std.specs.Prelude.{◌≡◌, ℕ, ℤ, pos, false, List, [], ◌∷◌, ◌++◌, length, map, Option, Some, None, Result, Ok, if◌then◌else◌}
 use Rattle.std.specs.Int.{w32}
 use Rattle.std.specs.List.{flat_map, range_with_len}
 use Rattle.std.specs.Option.{option_and_then}
@@ -24,6 +24,7 @@ use Rattle.kb_topics.specs.ByName.{by_name}
 use Rattle.kb_topics.specs.Known.{TopicState, named, topic_at}
 use Rattle.kb_topics.specs.Name.{is_legal}
 use Rattle.kb_tenant_state.specs.World.{World}
+use Rattle.kb_tenant.specs.Replies.{written_until}
 use Rattle.kb_tenant.specs.declared.node.Node.{Node}
 
 -- the one broker
@@ -123,3 +124,13 @@ topic_in version t = if int_eq version (pos 0) then metadata_topic_v0.written (t
 
 abbrev pub topics_in : ℤ → List MetadataTopic → List ℕ
 topics_in version ts = (count w32).written (length ts) ++ flat_map (topic_in version) ts
+
+-- topics behind their count and some bytes, until these are more than so many
+abbrev pub topics_until : ℕ → ℤ → List ℕ → List MetadataTopic → List ℕ
+topics_until most version out ts = written_until most (topic_in version) (out ++ (count w32).written (length ts)) ts
+
+-- The new bytes are the reply behind the old ones, until they are more than so many: first what stands before the topics, then these.
+abbrev pub IsMetadataUntil : ℕ → ℤ → MetadataReply → (old new : List ℕ) → Type 0
+IsMetadataUntil most version r old new =
+    (front : List ℕ) × (front ++ topics_in version r.topics ≡ old ++ metadata_in version r)
+    × (new ≡ topics_until most version front r.topics)

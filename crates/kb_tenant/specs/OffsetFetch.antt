@@ -1,5 +1,5 @@
 -- OffsetFetch (Kafka protocol guide, "The Messages: OffsetFetch", versions 1 and 2): which offsets has a group committed?
-use Rattle.std.specs.Prelude.{ℕ, ℤ, pos, negsuc, Bool, List, [], ◌∷◌, length, map, Option, Some, None, Result, Ok, int_le, if◌then◌else◌}
+use Rattle.std.specs.Prelude.{ℕ, ℤ, pos, negsuc, Bool, List, [], ◌∷◌, ◌++◌, length, map, Option, Some, None, Result, Ok, int_le, if◌then◌else◌}
 use Rattle.std.specs.List.{flat_map, range_with_len}
 use Rattle.std.specs.Option.{option_and_then}
 use Rattle.kb_wire.specs.Codec.{int16, whole, ◌>>=◌}
@@ -7,6 +7,7 @@ use Rattle.kb_wire.specs.ErrorCode.{code_of}
 use Rattle.kb_wire.specs.declared.error_code.ErrorCode.TheVariants as codes
 use Rattle.kb_wire.specs.declared.fault.WireFault.{WireFault}
 use Rattle.kb_api_group.specs.Layouts.{offset_fetch_request, offset_fetch_request_v2, offset_fetch_reply, offset_fetch_reply_v2}
+use Rattle.kb_api_group.specs.Layouts.{offset_fetch_topic_reply}
 use Rattle.kb_api_group.specs.declared.offset_fetch.OffsetFetchTopic.{OffsetFetchTopic}
 use Rattle.kb_api_group.specs.declared.offset_fetch.OffsetFetchRequest.{OffsetFetchRequest}
 use Rattle.kb_api_group.specs.declared.offset_fetch.OffsetFetchPartitionReply.{OffsetFetchPartitionReply}
@@ -19,6 +20,7 @@ use Rattle.kb_topics.specs.Known.{CommittedOffset, TopicState, named}
 use Rattle.kb_tenant_state.specs.Calls.{committed}
 use Rattle.kb_tenant_state.specs.World.{World, place_in}
 use Rattle.kb_tenant.specs.DeleteTopics.{place_at}
+use Rattle.kb_tenant.specs.Replies.{array_until}
 
 abbrev pub committed_answered : ℤ → ℤ → List ℕ → OffsetFetchPartitionReply
 committed_answered partition offset metadata =
@@ -106,3 +108,7 @@ offsets_in version r = offsets_as (has_code version) r
 -- what it says behind the topics
 abbrev pub code_in : Bool → List ℕ
 code_in has = if has then int16.written (code_of codes.None) else []
+
+-- the reply behind some bytes, whose topics are written until these are more than so many
+abbrev pub offsets_until : ℕ → Bool → OffsetFetchReply → List ℕ → List ℕ
+offsets_until most has r out = array_until most offset_fetch_topic_reply out r.topics ++ code_in has

@@ -1,7 +1,10 @@
 -- A reply on the wire: its size, its correlation id and its body (Kafka protocol guide, "Protocol Primitives", "Response Header").
-use Rattle.std.specs.Prelude.{◌≡◌, ◌<◌, ◌≤◌, ◌+◌, ◌^◌, ◌++◌, ℕ, ℤ, pos, List, Option, length}
-use Rattle.kb_wire.specs.Codec.{int32}
+use Rattle.std.specs.Prelude.{◌≡◌, ◌⊎◌, ◌<◌, ◌≤◌, ◌+◌, ◌-◌, ◌^◌, ◌++◌, ℕ, ℤ, pos, List, [], ◌∷◌, length, min, nat_lt, Option, Some, None}
+use Rattle.std.specs.Prelude.{if◌then◌else◌}
+use Rattle.std.specs.Int.{w32}
+use Rattle.kb_wire.specs.Codec.{Codec, count, int32}
 use Rattle.kb_tenant_state.specs.declared.topic_partition.TopicPartition.{TopicPartition}
+use Rattle.kb_tenant.specs.Limits.{is_past}
 use Rattle.kb_tenant.specs.declared.answer.Answer.{Answer}
 use Rattle.kb_tenant.specs.declared.answer.Answer.TheVariants as answers
 
@@ -42,3 +45,31 @@ IsAnswer id Shuts answers.Shut = Unit {0}
 -- what stands before a body that is still to come: an empty size, and the correlation id
 abbrev pub begun : ℤ → List ℕ
 begun id = int32.written (pos 0) ++ int32.written id
+
+-- ---- a reply within a limit
+
+-- A reply whose size is past a limit is not sent: the connection is shut.
+abbrev pub replies_within : Option ℕ → List ℕ → Reaction
+replies_within limit body = if is_past limit (reply_size body) then Shuts else Replies body
+
+-- the largest size of a reply that is sent
+abbrev pub most_size : Option ℕ → ℕ
+most_size None = 2 ^ 31 - 1
+most_size (Some n) = min n (2 ^ 31 - 1)
+
+-- how many bytes there are then, with those of the size
+abbrev pub most_bytes : Option ℕ → ℕ
+most_bytes limit = 4 + most_size limit
+
+-- the spellings of values, one after another, behind some bytes: for as long as these are at most so many
+unfoldable pub written_until : {A : Type 0} → ℕ → (A → List ℕ) → List ℕ → List A → List ℕ
+written_until most write out [] = out
+written_until most write out (v ∷ vs) = if nat_lt most (length out) then out else written_until most write (out ++ write v) vs
+
+-- the same behind their count
+abbrev pub array_until : {A : Type 0} → ℕ → Codec A → List ℕ → List A → List ℕ
+array_until most c out vs = written_until most c.written (out ++ (count w32).written (length vs)) vs
+
+-- These bytes are all that there is to write; or both are more than so many.
+abbrev pub AreUntil : ℕ → List ℕ → List ℕ → Type 0
+AreUntil most all bytes = (bytes ≡ all) ⊎ ((most < length all) × (most < length bytes))

@@ -38,7 +38,7 @@ use Rattle.kb_tenant.specs.Metadata.{asked_metadata, metadata_in, metadata_of}
 use Rattle.kb_tenant.specs.OffsetCommit.{committed_all, refusal_of}
 use Rattle.kb_tenant.specs.OffsetFetch.{asked_offsets, fetched_all, offsets_in}
 use Rattle.kb_tenant.specs.Produce.{produced, is_due}
-use Rattle.kb_tenant.specs.Replies.{Reaction, Replies, Waits, Silent, Shuts, IsAnswer}
+use Rattle.kb_tenant.specs.Replies.{Reaction, Replies, Waits, Silent, Shuts, IsAnswer, replies_within}
 use Rattle.kb_tenant.specs.declared.answer.Answer.{Answer}
 use Rattle.kb_tenant.specs.declared.answer.Answer.TheVariants as answers
 use Rattle.kb_tenant.specs.declared.limits.DataLimits.{DataLimits}
@@ -54,7 +54,7 @@ pub record Outcome : Type 0 where
 abbrev pub stays : World → Reaction → Outcome
 stays w r = record { world = w; touched = []; reaction = r }
 
--- ---- by API
+-- ---- by API; a reply of Metadata or OffsetFetch that is past its tenant's limit is not sent
 
 -- acks 0 has no reply
 abbrev pub of_produce : Option ℕ → World → ProduceRequest → Outcome
@@ -76,14 +76,14 @@ abbrev pub of_list_offsets : World → ListOffsetsRequest → Outcome
 of_list_offsets w r = stays w (Replies (list_offsets_reply.written (list_offsets w r)))
 
 abbrev pub of_metadata : Node → ℤ → World → MetadataRequest → Outcome
-of_metadata node version w r = stays w (Replies (metadata_in version (metadata_of w node r)))
+of_metadata node version w r = stays w (replies_within node.limits.reply_bytes (metadata_in version (metadata_of w node r)))
 
 abbrev pub of_offset_commit : DataLimits → World → OffsetCommitRequest → Outcome
 of_offset_commit limits w r = let c = committed_all limits w (refusal_of r.group_id r.generation_id) r in
     record { world = c.0; touched = []; reaction = Replies (offset_commit_reply.written c.1) }
 
-abbrev pub of_offset_fetch : ℤ → World → OffsetFetchRequestV2 → Outcome
-of_offset_fetch version w r = stays w (Replies (offsets_in version (fetched_all w r)))
+abbrev pub of_offset_fetch : Option ℕ → ℤ → World → OffsetFetchRequestV2 → Outcome
+of_offset_fetch limit version w r = stays w (replies_within limit (offsets_in version (fetched_all w r)))
 
 abbrev pub of_find_coordinator : Node → World → FindCoordinatorRequest → Outcome
 of_find_coordinator node w r = stays w (Replies (find_coordinator_reply.written (coordinator node)))
@@ -127,7 +127,7 @@ plainly_served node w clock n key version body =
     else if int_eq key OFFSET_COMMIT then if_read w (within limit commit_entries (whole offset_commit_request body))
     (of_offset_commit node.limits w)
     else if int_eq key OFFSET_FETCH then if_read w (within limit offset_fetch_entries (asked_offsets version body))
-    (of_offset_fetch version w)
+    (of_offset_fetch node.limits.reply_bytes version w)
     else if int_eq key FIND_COORDINATOR then if_read w (whole find_coordinator_request body) (of_find_coordinator node w)
     else if int_eq key CREATE_TOPICS then if_read w (within limit create_topics_entries (asked_creations version body))
     (of_create_topics node.limits version w)

@@ -3,9 +3,9 @@ ghost use Rattle.std.specs.Prelude.{◌≡◌, ◌≤◌, ◌<◌, ◌^◌, ◌+
 ghost use Rattle.std.specs.List.{flat_map};
 ghost use Rattle.std.specs.Option.{option_copied};
 ghost use Rattle.kb_store.specs.Disk.{Files};
-ghost use Rattle.kb_wire.specs.Codec.{array};
 ghost use Rattle.kb_api_group.specs.Layouts.{offset_fetch_partition_reply, offset_fetch_topic_reply};
 ghost use Rattle.kb_tenant.specs.OffsetFetch.{all_told, told_if, told_in, topic_told};
+ghost use Rattle.kb_tenant.specs.Replies.{array_until};
 ghost use Rattle.kb_tenant_state.specs.Parts.{world_of};
 
 use crate::offset_fetch::put_told;
@@ -135,18 +135,22 @@ fn count_topics<L: PartitionLog + Drop>(parts: &Parts<L>, group: &str) -> Result
     Ok(count)
 }
 
-/// Answers all that a group committed. An `Err` leaves a part of the answer written.
+/// Answers all that a group committed, until the sink has more than so many bytes. An `Err` leaves a part of the answer written.
 pub(crate) fn put_all<L: PartitionLog + Drop>(
     parts: &Parts<L>,
     group: &str,
+    most: usize,
     sink: &mut Sink,
 ) -> Result<(), AllocError>
-    ensures { (files : Files) → OnOk result (sink.new.bytes ≡ sink.old.bytes
-        ++ (array offset_fetch_topic_reply).written (all_told (world_of L.log parts.now files) group.now)) }
+    ensures { (files : Files) → OnOk result (sink.new.bytes ≡ array_until most offset_fetch_topic_reply sink.old.bytes
+        (all_told (world_of L.log parts.now files) group.now)) }
 {
     let count = count_topics(parts, group)?;
     sink.put_count(count)?;
     for (instance, topic) in parts.topics() {
+        if sink.len() > most {
+            return Ok(());
+        }
         put_topic(parts, group, instance, topic, sink)?;
     }
     Ok(())

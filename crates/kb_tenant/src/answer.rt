@@ -1,7 +1,7 @@
 //! What a request comes to for the connection that sent it.
 ghost use Rattle.std.specs.Prelude.{◌≡◌, ◌≤◌, ◌<◌, ◌-◌, ◌^◌, ◌++◌, ℕ, ℤ, List, length, drop, IfOk};
 ghost use Rattle.std.specs.Int.{w32, to_be_bytes};
-ghost use Rattle.kb_tenant.specs.Replies.{begun, framed, IsAnswer, Replies};
+ghost use Rattle.kb_tenant.specs.Replies.{begun, framed, most_bytes, replies_within, AreUntil, IsAnswer, Replies};
 
 use kb_tenant_state::TopicPartition;
 use kb_wire::Sink;
@@ -64,4 +64,30 @@ pub fn finish(sink: Sink) -> Answer
     }
     set_size(&mut bytes);
     Answer::Reply(bytes)
+}
+
+/// How many bytes a reply of a tenant may have, with the four of its size, which counts those behind it.
+pub fn most_bytes(limit: Option<u64>) -> usize
+    ensures { result ≡ most_bytes limit }
+{
+    let largest = i32::MAX as u64;
+    let size = match limit {
+        Some(limit) => limit.min(largest),
+        None => largest,
+    };
+    4 + size as usize
+}
+
+/// The same as `finish`, for a reply that is to be no longer than a limit allows.
+///
+/// One whose size is above it shuts the connection. Its writing may stop as soon as it is longer (`most_bytes`).
+#[tactic(auto, using(crate::proofs::Framing::within_shut, crate::proofs::Framing::within_whole))]
+pub fn finish_within(limit: Option<u64>, sink: Sink) -> Answer
+    ensures { (id : ℤ) (body : List ℕ) → AreUntil (most_bytes limit) (begun id ++ body) sink.bytes
+        → IsAnswer id (replies_within limit body) result }
+{
+    if sink.len() > most_bytes(limit) {
+        return Answer::Shut;
+    }
+    finish(sink)
 }

@@ -22,7 +22,7 @@ ghost use Rattle.kb_tenant.specs.Told.{AcknowledgesDeletions, AnswersFetch, Answ
 ghost use Rattle.kb_tenant.specs.Serve.{if_read, of_produce, of_fetch, of_list_offsets, of_metadata, of_create_topics, of_delete_records};
 ghost use Rattle.kb_tenant.specs.Serve.{of_delete_topics, of_init_producer_id, plainly_served, looked, stays, IsOutcome, IsServed};
 
-use crate::answer::{Answer, begin, finish};
+use crate::answer::{Answer, begin, finish, finish_within, most_bytes};
 use crate::create_topics::{check_topics, create_topics, read_creations_within};
 use crate::delete_records::delete_records;
 use crate::delete_topics::delete_topics;
@@ -152,7 +152,7 @@ fn serve_list_offsets<L: PartitionLog + Drop, S: Store>(
     Ok(finish(sink))
 }
 
-/// Metadata.
+/// Metadata. Its reply is no longer than the tenant's limit allows.
 fn serve_metadata<L: PartitionLog + Drop>(
     alloc: Global,
     parts: &Parts<L>,
@@ -168,8 +168,10 @@ fn serve_metadata<L: PartitionLog + Drop>(
     let limit = node.limits.request_entries;
     let asked = read_metadata_within(alloc, limit, request.api_version, request.body)?;
     let mut sink = begin(alloc, request.correlation_id)?;
-    metadata(parts, node, request.api_version, &asked, &mut sink)?;
-    Ok(finish(sink))
+    let reply_limit = node.limits.reply_bytes;
+    let most = most_bytes(reply_limit);
+    metadata(parts, node, request.api_version, &asked, most, &mut sink)?;
+    Ok(finish_within(reply_limit, sink))
 }
 
 /// CreateTopics.
@@ -327,7 +329,7 @@ fn serve_by_key<L: PartitionLog + Drop, S: Store>(
         api_key::LIST_OFFSETS => serve_list_offsets(alloc, parts, shelf, limit, request),
         api_key::METADATA => serve_metadata(alloc, parts, node, request),
         api_key::OFFSET_COMMIT => serve_offset_commit(alloc, parts, shelf, node.limits, request),
-        api_key::OFFSET_FETCH => serve_offset_fetch(alloc, parts, limit, request),
+        api_key::OFFSET_FETCH => serve_offset_fetch(alloc, parts, node.limits, request),
         api_key::FIND_COORDINATOR => serve_find_coordinator(alloc, node, request),
         api_key::CREATE_TOPICS => serve_create_topics(alloc, parts, shelf, node.limits, request),
         api_key::DELETE_TOPICS => serve_delete_topics(alloc, parts, shelf, limit, request, touched),
@@ -342,9 +344,10 @@ fn serve_by_key<L: PartitionLog + Drop, S: Store>(
 /// Serves a request of a tenant, at a time of the clock.
 ///
 /// A body that is not the API's, one that names more entries than the tenant's limit allows, a key that is not a tenant's and a
-/// reply whose size does not fit an INT32 shut the connection. So does want of memory for the read request, the reply or the wait,
-/// which is counted; changes that were made stay. A Produce makes none before it has the memory for its whole reply. The host is to
-/// fit a STRING, and the clock is at most 2^62, in milliseconds.
+/// reply whose size does not fit an INT32 shut the connection. So does a reply of Metadata or OffsetFetch that is past the tenant's
+/// limit. So does want of memory for the read request, the reply or the wait, which is counted; changes that were made stay. A
+/// Produce makes none before it has the memory for its whole reply. The host is to fit a STRING, and the clock is at most 2^62, in
+/// milliseconds.
 pub fn serve<L: PartitionLog + Drop, S: Store>(
     alloc: Global,
     parts: &mut Parts<L>,

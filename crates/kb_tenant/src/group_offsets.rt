@@ -12,7 +12,7 @@ ghost use Rattle.kb_tenant_state.specs.Parts.{scene, world_of};
 ghost use Rattle.kb_tenant_state.specs.Steps.{IsStep, Meets};
 ghost use Rattle.kb_tenant_state.specs.World.{World};
 
-use crate::answer::{Answer, begin, finish};
+use crate::answer::{Answer, begin, finish, finish_within, most_bytes};
 use crate::find_coordinator::find_coordinator;
 use crate::group_commit::{offset_commit, refusal_of};
 use crate::limits::DataLimits;
@@ -53,23 +53,25 @@ pub(crate) fn serve_offset_commit<L: PartitionLog + Drop, S: Store>(
     Ok(finish(sink))
 }
 
-/// OffsetFetch.
+/// OffsetFetch. Its reply is no longer than the tenant's limit allows.
 pub(crate) fn serve_offset_fetch<L: PartitionLog + Drop>(
     alloc: Global,
     parts: &Parts<L>,
-    limit: Option<u64>,
+    limits: DataLimits,
     request: &Request<'_>,
 ) -> Result<Answer, ReadFault>
     ensures { (files : Files) → let w = world_of L.log parts.now files in
         IsServed request.now.correlation_id
-        (if_read w (within limit offset_fetch_entries (asked_offsets request.now.api_version request.now.body.now))
-        (of_offset_fetch request.now.api_version w)) w [] result }
+        (if_read w (within limits.request_entries offset_fetch_entries (asked_offsets request.now.api_version request.now.body.now))
+        (of_offset_fetch limits.reply_bytes request.now.api_version w)) w [] result }
 {
     let has_code = has_code(request.api_version);
-    let asked = read_offset_fetch_within(alloc, limit, has_code, request.body)?;
+    let entries = limits.request_entries;
+    let asked = read_offset_fetch_within(alloc, entries, has_code, request.body)?;
     let mut sink = begin(alloc, request.correlation_id)?;
-    offset_fetch(parts, has_code, &asked, &mut sink)?;
-    Ok(finish(sink))
+    let most = most_bytes(limits.reply_bytes);
+    offset_fetch(parts, has_code, &asked, most, &mut sink)?;
+    Ok(finish_within(limits.reply_bytes, sink))
 }
 
 /// FindCoordinator. The group is not looked at.

@@ -24,7 +24,7 @@ mod repeated;
 mod request;
 mod within;
 
-pub use answer::{Answer, begin, finish};
+pub use answer::{Answer, begin, finish, finish_within, most_bytes};
 pub use dispatch::{Served, look, serve};
 pub use group_commit::offset_commit;
 pub use limits::DataLimits;

@@ -9,7 +9,9 @@ ghost use Rattle.kb_wire.specs.Codec.{array, int32, nullable_string, string};
 ghost use Rattle.kb_wire.specs.Reads.{ReadsWhole};
 ghost use Rattle.kb_tenant.specs.Entries.{metadata_entries, within};
 ghost use Rattle.kb_tenant.specs.Metadata.{asked_metadata, broker, broker_v0, internal_in, metadata_in, metadata_of, partition_described};
-ghost use Rattle.kb_tenant.specs.Metadata.{topic_asked, topic_described, topic_in, topic_known, topics_asked, topics_in};
+ghost use Rattle.kb_tenant.specs.Metadata.{topic_asked, topic_described, topic_in, topic_known, topics_asked, topics_in, topics_until};
+ghost use Rattle.kb_tenant.specs.Metadata.{IsMetadataUntil};
+ghost use Rattle.kb_tenant.specs.Replies.{AreUntil};
 ghost use Rattle.kb_tenant_state.specs.Parts.{world_of};
 
 use crate::node::Node;
@@ -259,32 +261,38 @@ fn put_asked<L: PartitionLog + Drop>(
     )
 }
 
-/// Writes the topics that are asked, in their order.
+/// Writes the topics that are asked, in their order, until the sink has more than so many bytes.
 fn put_all_asked<L: PartitionLog + Drop>(
     parts: &Parts<L>,
     version: i16,
     names: &[Text<'_>],
+    most: usize,
     sink: &mut Sink,
 ) -> Result<(), AllocError>
     requires { (array string).Fits names.now }
-    ensures { (files : Files) → OnOk result (sink.new.bytes ≡ sink.old.bytes
-        ++ topics_in version (topics_asked (world_of L.log parts.now files).known.topics (Some names.now))) }
+    ensures { (files : Files) → OnOk result (sink.new.bytes ≡ topics_until most version sink.old.bytes
+        (topics_asked (world_of L.log parts.now files).known.topics (Some names.now))) }
 {
     sink.put_count(names.len())?;
     for name in names {
+        if sink.len() > most {
+            return Ok(());
+        }
         put_asked(parts, version, name.as_str(), sink)?;
     }
     Ok(())
 }
 
-/// Writes all topics, in byte order of their names. More than an INT32 can count are refused as want of memory.
+/// Writes all topics, in byte order of their names, until the sink has more than so many bytes. More topics than an INT32 can count are
+/// refused as want of memory.
 fn put_all<L: PartitionLog + Drop>(
     parts: &Parts<L>,
     version: i16,
+    most: usize,
     sink: &mut Sink,
 ) -> Result<(), AllocError>
-    ensures { (files : Files) → OnOk result (sink.new.bytes ≡ sink.old.bytes
-        ++ topics_in version (topics_asked (world_of L.log parts.now files).known.topics None)) }
+    ensures { (files : Files) → OnOk result (sink.new.bytes ≡ topics_until most version sink.old.bytes
+        (topics_asked (world_of L.log parts.now files).known.topics None)) }
 {
     let count = parts.topics().count();
     if count > i32::MAX as usize {
@@ -292,6 +300,9 @@ fn put_all<L: PartitionLog + Drop>(
     }
     sink.put_count(count)?;
     for (_, topic) in parts.topics() {
+        if sink.len() > most {
+            return Ok(());
+        }
         put_known(version, topic, sink)?;
     }
     Ok(())
@@ -299,22 +310,26 @@ fn put_all<L: PartitionLog + Drop>(
 
 /// Serves Metadata: writes the reply of a version behind what the sink has.
 ///
-/// An `Err`, which is want of memory for the reply, leaves a part of it written.
+/// The writing stops with the topic that takes the sink past so many bytes. An `Err`, which is want of memory for the reply, leaves a
+/// part of it written.
 pub fn metadata<L: PartitionLog + Drop>(
     parts: &Parts<L>,
     node: &Node<'_>,
     version: i16,
     request: &MetadataRequest<'_>,
+    most: usize,
     sink: &mut Sink,
 ) -> Result<(), AllocError>
     requires host { string.Fits node.now.host }
     requires fits { metadata_request.Fits request.now }
-    ensures { (files : Files) → OnOk result (sink.new.bytes ≡ sink.old.bytes
-        ++ metadata_in version (metadata_of (world_of L.log parts.now files) node.now request.now)) }
+    ensures exact { (files : Files) → OnOk result (IsMetadataUntil most version
+        (metadata_of (world_of L.log parts.now files) node.now request.now) sink.old.bytes sink.new.bytes) }
+    ensures whole { (files : Files) → OnOk result (AreUntil most (sink.old.bytes
+        ++ metadata_in version (metadata_of (world_of L.log parts.now files) node.now request.now)) sink.new.bytes) }
 {
     put_node(version, node, sink)?;
     match &request.topics {
-        None => put_all(parts, version, sink),
-        Some(names) => put_all_asked(parts, version, names.as_slice(), sink),
+        None => put_all(parts, version, most, sink),
+        Some(names) => put_all_asked(parts, version, names.as_slice(), most, sink),
     }
 }

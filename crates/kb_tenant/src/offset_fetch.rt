@@ -10,7 +10,8 @@ ghost use Rattle.kb_api_group.specs.Layouts.{offset_fetch_topic, offset_fetch_re
 ghost use Rattle.kb_api_group.specs.Layouts.{offset_fetch_topic_reply};
 ghost use Rattle.kb_tenant.specs.Entries.{offset_fetch_entries, within};
 ghost use Rattle.kb_tenant.specs.OffsetFetch.{committed_answered, told, kept, fetched, fetched_topic, fetched_all};
-ghost use Rattle.kb_tenant.specs.OffsetFetch.{asked_as, code_in, has_code, offsets_as, topics_fetched};
+ghost use Rattle.kb_tenant.specs.OffsetFetch.{asked_as, code_in, has_code, offsets_as, offsets_until, topics_fetched};
+ghost use Rattle.kb_tenant.specs.Replies.{array_until, AreUntil};
 ghost use Rattle.kb_tenant_state.specs.Parts.{world_of};
 
 use crate::all_offsets::put_all;
@@ -149,38 +150,43 @@ fn fetch_topic<L: PartitionLog + Drop>(
     fetch_partitions(parts, group, instance, topic.partitions.as_slice(), sink)
 }
 
-/// Answers topics in order. An `Err` leaves a part of the answer written.
+/// Answers topics in order, until the sink has more than so many bytes. An `Err` leaves a part of the answer written.
 fn put_asked<L: PartitionLog + Drop>(
     parts: &Parts<L>,
     group: &str,
     topics: &[OffsetFetchTopic<'_>],
+    most: usize,
     sink: &mut Sink,
 ) -> Result<(), AllocError>
     requires { (array offset_fetch_topic).Fits topics.now }
-    ensures { (files : Files) → OnOk result (sink.new.bytes ≡ sink.old.bytes
-        ++ (array offset_fetch_topic_reply).written (map (fetched_topic (world_of L.log parts.now files) group.now) topics.now)) }
+    ensures { (files : Files) → OnOk result (sink.new.bytes ≡ array_until most offset_fetch_topic_reply sink.old.bytes
+        (map (fetched_topic (world_of L.log parts.now files) group.now) topics.now)) }
 {
     sink.put_count(topics.len())?;
     for topic in topics {
+        if sink.len() > most {
+            return Ok(());
+        }
         fetch_topic(parts, group, topic, sink)?;
     }
     Ok(())
 }
 
-/// Answers the topics that are asked, or all that the group committed to.
+/// Answers the topics that are asked, or all that the group committed to, until the sink has more than so many bytes.
 fn put_topics<L: PartitionLog + Drop>(
     parts: &Parts<L>,
     group: &str,
     topics: &Option<Array<OffsetFetchTopic<'_>>>,
+    most: usize,
     sink: &mut Sink,
 ) -> Result<(), AllocError>
     requires { (nullable_array offset_fetch_topic).Fits topics.now }
-    ensures { (files : Files) → OnOk result (sink.new.bytes ≡ sink.old.bytes
-        ++ (array offset_fetch_topic_reply).written (topics_fetched (world_of L.log parts.now files) group.now topics.now)) }
+    ensures { (files : Files) → OnOk result (sink.new.bytes ≡ array_until most offset_fetch_topic_reply sink.old.bytes
+        (topics_fetched (world_of L.log parts.now files) group.now topics.now)) }
 {
     match topics {
-        None => put_all(parts, group, sink),
-        Some(topics) => put_asked(parts, group, topics.as_slice(), sink),
+        None => put_all(parts, group, most, sink),
+        Some(topics) => put_asked(parts, group, topics.as_slice(), most, sink),
     }
 }
 
@@ -196,17 +202,22 @@ fn put_code(has_code: bool, sink: &mut Sink) -> Result<(), AllocError>
 
 /// Serves OffsetFetch: writes the reply of a version that has a code or not behind what the sink has.
 ///
-/// An `Err`, which is want of memory for the reply, leaves a part of it written.
+/// The writing of topics stops with the one that takes the sink past so many bytes. An `Err`, which is want of memory for the reply,
+/// leaves a part of it written.
 pub(crate) fn offset_fetch<L: PartitionLog + Drop>(
     parts: &Parts<L>,
     has_code: bool,
     request: &OffsetFetchRequestV2<'_>,
+    most: usize,
     sink: &mut Sink,
 ) -> Result<(), AllocError>
     requires { offset_fetch_request_v2.Fits request.now }
-    ensures { (files : Files) → OnOk result (sink.new.bytes ≡ sink.old.bytes
-        ++ offsets_as has_code (fetched_all (world_of L.log parts.now files) request.now)) }
+    ensures exact { (files : Files) → OnOk result (sink.new.bytes
+        ≡ offsets_until most has_code (fetched_all (world_of L.log parts.now files) request.now) sink.old.bytes) }
+    ensures whole { (files : Files) → OnOk result (AreUntil most (sink.old.bytes
+        ++ offsets_as has_code (fetched_all (world_of L.log parts.now files) request.now)) sink.new.bytes) }
 {
-    put_topics(parts, request.group_id.as_str(), &request.topics, sink)?;
+    let group = request.group_id.as_str();
+    put_topics(parts, group, &request.topics, most, sink)?;
     put_code(has_code, sink)
 }

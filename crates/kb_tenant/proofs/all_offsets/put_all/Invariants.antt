@@ -1,9 +1,10 @@
-use Rattle.std.proofs.Common.{◌≡◌, ◌++◌}
+use Rattle.std.proofs.Common.{◌≡◌}
 use Rattle.std.specs.List.{flat_map}
 use Rattle.kb_api_group.specs.Layouts.{offset_fetch_topic_reply}
 use Rattle.kb_store.specs.Disk.{Files}
 use Rattle.kb_tenant_state.specs.Parts.{world_of}
 use Rattle.kb_tenant.specs.OffsetFetch.{topic_told}
+use Rattle.kb_tenant.specs.Replies.{written_until}
 use Rattle.kb_tenant.proofs.all_offsets.put_all.Given as goal
 
 -- what was written, and what is still to come, is all
@@ -11,4 +12,4 @@ abbrev pub invariant-loop-instance : goal.invariant-loop-instance
 invariant-loop-instance g l =
     let write = offset_fetch_topic_reply.written in
     (files : Files) → let f = topic_told (world_of g.L.PartitionLog.log l.parts files) l.group in
-    l.sink.bytes ++ flat_map write (flat_map f l.instance-iterator) ≡ l.initial.sink.bytes ++ flat_map write (flat_map f l.initial.instance-iterator)
+    written_until l.most write l.sink.bytes (flat_map f l.instance-iterator) ≡ written_until l.most write l.initial.sink.bytes (flat_map f l.initial.instance-iterator)

@@ -3,7 +3,7 @@ use Rattle.std.specs.Int.{w16, w32}
 use Rattle.kb_tenant_state.specs.Parts.{world_of}
 use Rattle.kb_tenant.specs.Entries.{metadata_entries, within}
 use Rattle.kb_tenant.specs.Metadata.{asked_metadata, metadata_in, metadata_of}
-use Rattle.kb_tenant.specs.Replies.{begun}
+use Rattle.kb_tenant.specs.Replies.{begun, AreUntil}
 use Rattle.kb_tenant.specs.Serve.{if_read, of_metadata, IsServed}
 use Rattle.kb_tenant.proofs.dispatch.serve_metadata.Goals as goal
 
@@ -17,5 +17,13 @@ returns g c = λ files.
     let same : to_z w16 (of_z w16 version) ≡ version = search rules in
     let asked : within c.args.node.now.limits.request_entries metadata_entries (asked_metadata version c.args.request.now.body.now) ≡ Ok c.in_ok-asked.asked =
     ap (λ v. within c.args.node.now.limits.request_entries metadata_entries (asked_metadata v c.args.request.now.body.now)) (sym same) ∙ c.in_ok-asked.ensures.exact in
-    subst (λ r. IsServed c.args.request.now.correlation_id (if_read w r (of_metadata c.args.node.now version w)) w [] (Ok c.finish.result)) (sym asked)
-    (refl, refl, c.finish.ensures c.args.request.now.correlation_id body (c.in_ok-metadata.ensures files ∙ ap (λ v. c.in_ok-sink.sink.bytes ++ metadata_in v reply) same ∙ ap (λ s. s ++ body) (c.in_ok-sink.ensures ∙ ap begun id)))
+    let limit = c.args.node.now.limits.reply_bytes in
+    let made = c.metadata.new.sink.bytes in
+    let all : c.in_ok-sink.sink.bytes ++ metadata_in (to_z w16 (of_z w16 version)) reply ≡ begun c.args.request.now.correlation_id ++ body =
+    ap (λ v. c.in_ok-sink.sink.bytes ++ metadata_in v reply) same ∙ ap (λ s. s ++ body) (c.in_ok-sink.ensures ∙ ap begun id) in
+    subst (λ r. IsServed c.args.request.now.correlation_id (if_read w r (of_metadata c.args.node.now version w)) w [] (Ok c.finish_within.result)) (sym asked) (
+      refl,
+      refl,
+      c.finish_within.ensures c.args.request.now.correlation_id body
+          (subst (λ m. AreUntil m (begun c.args.request.now.correlation_id ++ body) made) c.most_bytes-most.ensures (subst (λ x. AreUntil c.most_bytes-most.result x made) all (c.in_ok-metadata.ensures.whole files))),
+    )

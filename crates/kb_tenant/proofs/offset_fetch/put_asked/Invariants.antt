@@ -1,9 +1,9 @@
-use Rattle.std.proofs.Common.{◌≡◌, ◌++◌, map, drop}
-use Rattle.std.specs.List.{flat_map}
+use Rattle.std.proofs.Common.{◌≡◌, map, drop}
 use Rattle.kb_api_group.specs.Layouts.{offset_fetch_topic_reply}
 use Rattle.kb_store.specs.Disk.{Files}
 use Rattle.kb_tenant_state.specs.Parts.{world_of}
 use Rattle.kb_tenant.specs.OffsetFetch.{fetched_topic}
+use Rattle.kb_tenant.specs.Replies.{written_until}
 use Rattle.kb_tenant.proofs.offset_fetch.put_asked.Given as goal
 
 -- what was written, and what the rest is still to be answered, is the whole answer
@@ -11,4 +11,4 @@ abbrev pub invariant-loop-topic : goal.invariant-loop-topic
 invariant-loop-topic g l =
     let write = offset_fetch_topic_reply.written in
     (files : Files) → let f = fetched_topic (world_of g.L.PartitionLog.log l.parts files) l.group in
-    l.sink.bytes ++ flat_map write (map f (drop l.topic-index l.topics)) ≡ l.initial.sink.bytes ++ flat_map write (map f l.topics)
+    written_until l.most write l.sink.bytes (map f (drop l.topic-index l.topics)) ≡ written_until l.most write l.initial.sink.bytes (map f l.topics)

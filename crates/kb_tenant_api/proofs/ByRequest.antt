@@ -37,8 +37,8 @@ unfolding served
 by_request P node w clock gs n key version body c =
     let shut = c.stays (silent gs) (Plain Shuts) in
     let others : Outcome = of_topics gs (tenant.plainly_served node w clock n key version body) in
-    let lists : Outcome = if_read w gs (whole list_groups_request body) (of_list w gs) in
-    let describes : Outcome = if_read w gs (within node.limits.request_entries describe_groups_entries (whole describe_groups_request body)) (of_describe w gs) in
+    let lists : Outcome = if_read w gs (whole list_groups_request body) (of_list node.limits.reply_bytes w gs) in
+    let describes : Outcome = if_read w gs (within node.limits.request_entries describe_groups_entries (whole describe_groups_request body)) (of_describe node.limits.reply_bytes w gs) in
     let syncs : Outcome = if_read w gs (whole sync_group_request body) (of_sync w clock n gs) in
     let leaves : Outcome = if_read w gs (whole leave_group_request body) (of_leave w clock gs) in
     let beats : Outcome = if_read w gs (whole heartbeat_request body) (of_heartbeat w clock gs) in
@@ -55,5 +55,5 @@ by_request P node w clock gs n key version body c =
     (either P (int_eq key HEARTBEAT) beats from_leave (read_by P w gs (whole heartbeat_request body) (of_heartbeat w clock gs) (λ r. c.stays (of_heartbeat w clock gs r).groups (of_heartbeat w clock gs r).reaction) shut)
     (either P (int_eq key LEAVE_GROUP) leaves from_sync (read_by P w gs (whole leave_group_request body) (of_leave w clock gs) (λ r. c.stays (of_leave w clock gs r).groups (of_leave w clock gs r).reaction) shut)
     (either P (int_eq key SYNC_GROUP) syncs from_describe (read_by P w gs (whole sync_group_request body) (of_sync w clock n gs) (λ r. c.stays (of_sync w clock n gs r).groups (of_sync w clock n gs r).reaction) shut)
-    (either P (int_eq key DESCRIBE_GROUPS) describes from_list (read_by P w gs (within node.limits.request_entries describe_groups_entries (whole describe_groups_request body)) (of_describe w gs) (λ r. c.stays (of_describe w gs r).groups (of_describe w gs r).reaction) shut)
-    (either P (int_eq key LIST_GROUPS) lists others (read_by P w gs (whole list_groups_request body) (of_list w gs) (λ r. c.stays (of_list w gs r).groups (of_list w gs r).reaction) shut) c.topics))))))
+    (either P (int_eq key DESCRIBE_GROUPS) describes from_list (read_by P w gs (within node.limits.request_entries describe_groups_entries (whole describe_groups_request body)) (of_describe node.limits.reply_bytes w gs) (λ r. c.stays (of_describe node.limits.reply_bytes w gs r).groups (of_describe node.limits.reply_bytes w gs r).reaction) shut)
+    (either P (int_eq key LIST_GROUPS) lists others (read_by P w gs (whole list_groups_request body) (of_list node.limits.reply_bytes w gs) (λ r. c.stays (of_list node.limits.reply_bytes w gs r).groups (of_list node.limits.reply_bytes w gs r).reaction) shut) c.topics))))))

@@ -34,11 +34,11 @@ pub served_sync : (node : Node) (w : World) (clock : ℕ) (gs : Groups) (n : ℕ
 unfolding served
 served_sync node w clock gs n key version body is = ap (λ k. served node w clock gs n k version body) is
 
-pub served_describe : (node : Node) (w : World) (clock : ℕ) (gs : Groups) (n : ℕ) (key version : ℤ) (body : List ℕ) → key ≡ DESCRIBE_GROUPS → served node w clock gs n key version body ≡ if_read w gs (within node.limits.request_entries describe_groups_entries (whole describe_groups_request body)) (of_describe w gs)
+pub served_describe : (node : Node) (w : World) (clock : ℕ) (gs : Groups) (n : ℕ) (key version : ℤ) (body : List ℕ) → key ≡ DESCRIBE_GROUPS → served node w clock gs n key version body ≡ if_read w gs (within node.limits.request_entries describe_groups_entries (whole describe_groups_request body)) (of_describe node.limits.reply_bytes w gs)
 unfolding served
 served_describe node w clock gs n key version body is = ap (λ k. served node w clock gs n k version body) is
 
-pub served_list : (node : Node) (w : World) (clock : ℕ) (gs : Groups) (n : ℕ) (key version : ℤ) (body : List ℕ) → key ≡ LIST_GROUPS → served node w clock gs n key version body ≡ if_read w gs (whole list_groups_request body) (of_list w gs)
+pub served_list : (node : Node) (w : World) (clock : ℕ) (gs : Groups) (n : ℕ) (key version : ℤ) (body : List ℕ) → key ≡ LIST_GROUPS → served node w clock gs n key version body ≡ if_read w gs (whole list_groups_request body) (of_list node.limits.reply_bytes w gs)
 unfolding served
 served_list node w clock gs n key version body is = ap (λ k. served node w clock gs n k version body) is
 

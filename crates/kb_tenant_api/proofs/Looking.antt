@@ -1,12 +1,13 @@
 -- What the requests of tools come to, which change no group.
 use Rattle.std.proofs.Common.{inl, ◌≡◌, ◌∙◌, ℤ, List, ℕ, [], refl, ap, subst, sym}
-use Rattle.std.specs.Prelude.{Result, Ok, Err}
+use Rattle.std.specs.Prelude.{◌++◌, Option, Result, Ok, Err}
 use Rattle.kb_wire.specs.declared.fault.WireFault.{WireFault}
 use Rattle.kb_wire.specs.declared.fault.ReadFault.{ReadFault}
 use Rattle.kb_wire.specs.declared.fault.ReadFault.TheVariants as faults
 use Rattle.kb_coordinator.specs.Groups.{Groups, silent}
 use Rattle.kb_tenant_state.specs.World.{World}
-use Rattle.kb_tenant_api.specs.Replies.{IsAnswer, replies}
+use Rattle.kb_tenant.specs.Replies.{AreUntil, begun}
+use Rattle.kb_tenant_api.specs.Replies.{IsAnswer, short_replies}
 use Rattle.kb_tenant_api.specs.Serve.{Outcome, if_read, of_groups, AreGroupsBy, IsOutcome}
 use Rattle.kb_tenant_api.specs.declared.answer.Answer.{Answer}
 
@@ -22,6 +23,11 @@ looked_groups old new made (Err (faults.Wire fault)) a b = b ∙ sym a
 looked_groups old new made (Err faults.Memory) a b = inl (b ∙ sym a)
 
 -- a reply of what was looked at, where the last replies were forgotten first
-pub looked : (id : ℤ) (w : World) (gs quiet : Groups) (body : Groups → List ℕ) (answer : Answer) → quiet ≡ silent gs → body (silent gs) ≡ body gs → IsAnswer id (replies (body quiet)) answer
-    → IsOutcome id (of_groups w (silent gs) (replies (body gs))) w quiet [] answer
-looked id w gs quiet body answer is same h = (refl, is, refl, subst (λ x. IsAnswer id (replies x) answer) (ap body is ∙ same) h)
+pub looked : (limit : Option ℕ) (id : ℤ) (w : World) (gs quiet : Groups) (body : Groups → List ℕ) (answer : Answer) → quiet ≡ silent gs → body (silent gs) ≡ body gs
+    → IsAnswer id (short_replies limit (body quiet)) answer → IsOutcome id (of_groups w (silent gs) (short_replies limit (body gs))) w quiet [] answer
+looked limit id w gs quiet body answer is same h = (refl, is, refl, subst (λ x. IsAnswer id (short_replies limit x) answer) (ap body is ∙ same) h)
+
+-- what was written behind a reply that was begun
+pub behind_begun : (most room : ℕ) (id z : ℤ) (front body made : List ℕ) → room ≡ most → front ≡ begun z → z ≡ id → AreUntil room (front ++ body) made → AreUntil most (begun id ++ body) made
+behind_begun most room id z front body made is from same until =
+    subst (λ m. AreUntil m (begun id ++ body) made) is (subst (λ x. AreUntil room (x ++ body) made) (from ∙ ap begun same) until)

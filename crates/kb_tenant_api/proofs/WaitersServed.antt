@@ -145,8 +145,8 @@ pub served_told : (node : Node) (w : World) (clock : ℕ) (gs : Groups) (n : ℕ
 unfolding served
 served_told node w clock gs n key version body =
     let others : Outcome = of_topics gs (tenant.plainly_served node w clock n key version body) in
-    let lists : Outcome = if_read w gs (whole list_groups_request body) (of_list w gs) in
-    let describes : Outcome = if_read w gs (within node.limits.request_entries describe_groups_entries (whole describe_groups_request body)) (of_describe w gs) in
+    let lists : Outcome = if_read w gs (whole list_groups_request body) (of_list node.limits.reply_bytes w gs) in
+    let describes : Outcome = if_read w gs (within node.limits.request_entries describe_groups_entries (whole describe_groups_request body)) (of_describe node.limits.reply_bytes w gs) in
     let syncs : Outcome = if_read w gs (whole sync_group_request body) (of_sync w clock n gs) in
     let leaves : Outcome = if_read w gs (whole leave_group_request body) (of_leave w clock gs) in
     let beats : Outcome = if_read w gs (whole heartbeat_request body) (of_heartbeat w clock gs) in
@@ -163,8 +163,8 @@ served_told node w clock gs n key version body =
     (either n gs (int_eq key HEARTBEAT) beats from_leave (read_told w n gs (whole heartbeat_request body) (of_heartbeat w clock gs) (heartbeat_told w clock n gs))
     (either n gs (int_eq key LEAVE_GROUP) leaves from_sync (read_told w n gs (whole leave_group_request body) (of_leave w clock gs) (leave_told w clock n gs))
     (either n gs (int_eq key SYNC_GROUP) syncs from_describe (read_told w n gs (whole sync_group_request body) (of_sync w clock n gs) (sync_told w clock n gs))
-    (either n gs (int_eq key DESCRIBE_GROUPS) describes from_list (read_told w n gs (within node.limits.request_entries describe_groups_entries (whole describe_groups_request body)) (of_describe w gs) (λ r. silent_served n false gs))
-    (either n gs (int_eq key LIST_GROUPS) lists others (read_told w n gs (whole list_groups_request body) (of_list w gs) (λ r. silent_served n false gs)) (silent_served n false gs)))))))
+    (either n gs (int_eq key DESCRIBE_GROUPS) describes from_list (read_told w n gs (within node.limits.request_entries describe_groups_entries (whole describe_groups_request body)) (of_describe node.limits.reply_bytes w gs) (λ r. silent_served n false gs))
+    (either n gs (int_eq key LIST_GROUPS) lists others (read_told w n gs (whole list_groups_request body) (of_list node.limits.reply_bytes w gs) (λ r. silent_served n false gs)) (silent_served n false gs)))))))
 
 -- 3. A moment, and a connection that is gone
 

@@ -5,7 +5,7 @@ use Rattle.kb_coordinator.specs.Groups.{Groups}
 use Rattle.kb_coordinator.specs.Replies.{spelled}
 use Rattle.kb_groups.specs.declared.reply.Reply.{Reply}
 use Rattle.kb_tenant.specs.Replies as tenant
-use Rattle.kb_tenant.specs.Replies.{Replies, Silent}
+use Rattle.kb_tenant.specs.Replies.{Replies, Silent, replies_within}
 use Rattle.kb_tenant_api.specs.declared.answer.Answer.{Answer}
 use Rattle.kb_tenant_api.specs.declared.answer.Answer.TheVariants as answers
 
@@ -18,6 +18,10 @@ pub data Reaction : Type 0 where
 -- a reply with that body
 abbrev pub replies : List ℕ → Reaction
 replies body = Plain (Replies body)
+
+-- the same, unless its size is past a limit: then the connection is shut
+abbrev pub short_replies : Option ℕ → List ℕ → Reaction
+short_replies limit body = Plain (replies_within limit body)
 
 -- The answer is that reaction's.
 abbrev pub IsAnswer : ℤ → Reaction → Answer → Type 0

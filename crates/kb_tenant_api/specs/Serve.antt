@@ -35,7 +35,7 @@ use Rattle.kb_tenant.specs.Replies.{Shuts}
 use Rattle.kb_tenant.specs.Serve as tenant
 use Rattle.kb_tenant.specs.declared.limits.DataLimits.{DataLimits}
 use Rattle.kb_tenant.specs.declared.node.Node.{Node}
-use Rattle.kb_tenant_api.specs.Replies.{Reaction, Plain, Rebalances, IsAnswer, replies}
+use Rattle.kb_tenant_api.specs.Replies.{Reaction, Plain, Rebalances, IsAnswer, replies, short_replies}
 use Rattle.kb_tenant_api.specs.declared.answer.Answer.{Answer}
 use Rattle.kb_tenant_api.specs.declared.answer.Answer.TheVariants as answers
 use Rattle.kb_tenant.specs.declared.answer.Answer.TheVariants as plain
@@ -76,12 +76,12 @@ of_leave w clock gs r =
 
 -- ---- DescribeGroups, ListGroups
 
--- Tools look at the groups, and change none.
-abbrev pub of_describe : World → Groups → DescribeGroupsRequest → Outcome
-of_describe w gs r = of_groups w (silent gs) (replies (describe_groups_reply.written (descriptions gs r)))
+-- Tools look at the groups, and change none. A reply that is past their tenant's limit is not sent.
+abbrev pub of_describe : Option ℕ → World → Groups → DescribeGroupsRequest → Outcome
+of_describe limit w gs r = of_groups w (silent gs) (short_replies limit (describe_groups_reply.written (descriptions gs r)))
 
-abbrev pub of_list : World → Groups → ListGroupsRequest → Outcome
-of_list w gs r = of_groups w (silent gs) (replies (list_groups_reply.written (group_list gs)))
+abbrev pub of_list : Option ℕ → World → Groups → ListGroupsRequest → Outcome
+of_list limit w gs r = of_groups w (silent gs) (short_replies limit (list_groups_reply.written (group_list gs)))
 
 -- ---- OffsetCommit
 
@@ -125,8 +125,8 @@ served node w clock gs n key version body =
     else if int_eq key LEAVE_GROUP then if_read w gs (whole leave_group_request body) (of_leave w clock gs)
     else if int_eq key SYNC_GROUP then if_read w gs (whole sync_group_request body) (of_sync w clock n gs)
     else if int_eq key DESCRIBE_GROUPS then if_read w gs (within limit describe_groups_entries (whole describe_groups_request body))
-    (of_describe w gs)
-    else if int_eq key LIST_GROUPS then if_read w gs (whole list_groups_request body) (of_list w gs)
+    (of_describe node.limits.reply_bytes w gs)
+    else if int_eq key LIST_GROUPS then if_read w gs (whole list_groups_request body) (of_list node.limits.reply_bytes w gs)
     else of_topics gs (tenant.plainly_served node w clock n key version body)
 
 -- whether the last request or moment answered requests that waited

@@ -60,17 +60,17 @@ fn serve_by_key<L: PartitionLog + Drop, S: Store>(
         request.now.api_version request.now.body.now).groups result groups.new }
     ensures waits { IsWaitToldBy request.now.connection groups.old result groups.new }
 {
-    let limit = node.limits.request_entries;
+    let limits = node.limits;
     match request.api_key {
         api_key::OFFSET_COMMIT => {
-            commit_offsets(alloc, parts, groups, shelf, clock, node.limits, request)
+            commit_offsets(alloc, parts, groups, shelf, clock, limits, request)
         }
         api_key::JOIN_GROUP => join_group(alloc, groups, clock, request),
         api_key::HEARTBEAT => heartbeat(alloc, groups, clock, request),
         api_key::LEAVE_GROUP => leave_group(alloc, groups, clock, request),
         api_key::SYNC_GROUP => sync_group(alloc, groups, clock, request),
-        group_key::DESCRIBE_GROUPS => describe_groups(alloc, groups, limit, request),
-        group_key::LIST_GROUPS => list_groups(alloc, groups, request),
+        group_key::DESCRIBE_GROUPS => describe_groups(alloc, groups, limits, request),
+        group_key::LIST_GROUPS => list_groups(alloc, groups, limits.reply_bytes, request),
         _ => {
             groups.silence();
             let served = kb_tenant::serve(alloc, parts, shelf, node, clock, request);
@@ -97,7 +97,7 @@ fn served_with(answer: Answer, touched: Vec<TopicPartition>, groups: &Coordinato
 /// Serves a request of a tenant, at a time of the clock in milliseconds.
 ///
 /// A body that is not the API's, one that names more entries than the tenant's limit allows, a key that is not a tenant's and a reply
-/// whose size does not fit an INT32 shut the connection. So does want of memory for the read request, the reply or a wait, which is
+/// that is too long shut the connection. So does want of memory for the read request, the reply or a wait, which is
 /// counted. Whatever was refused, and on any store, the groups are then those that the request makes, or those of before without the
 /// last replies. The host is to fit a STRING.
 pub fn serve<L: PartitionLog + Drop, S: Store>(

@@ -155,7 +155,7 @@ returns-in-15-clause-groups g c =
     let gs = c.args.groups.now in
     let key : request.api_key ≡ DESCRIBE_GROUPS = search rules in
     subst (λ o. AreGroupsBy gs o.groups c.describe_groups.result c.describe_groups.new.groups) (sym (served_describe c.args.node.now w c.args.clock gs request.connection request.api_key request.api_version request.body.now key))
-    (looked_groups gs c.describe_groups.new.groups (if_read w gs (within c.args.node.now.limits.request_entries describe_groups_entries (whole describe_groups_request request.body.now)) (of_describe w gs)).groups c.describe_groups.result (only_silent w gs (within c.args.node.now.limits.request_entries describe_groups_entries (whole describe_groups_request request.body.now)) (of_describe w gs) (λ r. refl)) c.describe_groups.ensures.groups)
+    (looked_groups gs c.describe_groups.new.groups (if_read w gs (within c.args.node.now.limits.request_entries describe_groups_entries (whole describe_groups_request request.body.now)) (of_describe c.args.node.now.limits.reply_bytes w gs)).groups c.describe_groups.result (only_silent w gs (within c.args.node.now.limits.request_entries describe_groups_entries (whole describe_groups_request request.body.now)) (of_describe c.args.node.now.limits.reply_bytes w gs) (λ r. refl)) c.describe_groups.ensures.groups)
 
 pub returns-in-16-clause-groups : goal.returns-in-16-clause-groups
 returns-in-16-clause-groups g c =
@@ -164,7 +164,7 @@ returns-in-16-clause-groups g c =
     let gs = c.args.groups.now in
     let key : request.api_key ≡ LIST_GROUPS = search rules in
     subst (λ o. AreGroupsBy gs o.groups c.list_groups.result c.list_groups.new.groups) (sym (served_list c.args.node.now w c.args.clock gs request.connection request.api_key request.api_version request.body.now key))
-    (looked_groups gs c.list_groups.new.groups (if_read w gs (whole list_groups_request request.body.now) (of_list w gs)).groups c.list_groups.result (only_silent w gs (whole list_groups_request request.body.now) (of_list w gs) (λ r. refl)) c.list_groups.ensures.groups)
+    (looked_groups gs c.list_groups.new.groups (if_read w gs (whole list_groups_request request.body.now) (of_list c.args.node.now.limits.reply_bytes w gs)).groups c.list_groups.result (only_silent w gs (whole list_groups_request request.body.now) (of_list c.args.node.now.limits.reply_bytes w gs) (λ r. refl)) c.list_groups.ensures.groups)
 
 pub returns-in_default-clause-groups : goal.returns-in_default-clause-groups
 returns-in_default-clause-groups g c =

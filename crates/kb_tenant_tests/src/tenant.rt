@@ -2,9 +2,15 @@
 //!
 //! How a frame is written is said in `words.rt`.
 
+ghost use Rattle.std.specs.Prelude.{IfOk};
+ghost use Rattle.kb_store.specs.Memory.{memory_disk};
+ghost use Rattle.kb_log.specs.ListLog.{list_log};
+ghost use Rattle.kb_tenant_state.specs.Parts.{scene};
+
 mod steps;
 
 use kb_tenant::DataLimits;
+use std::alloc::Global;
 use std::test::Fail;
 use steps::Tenant;
 
@@ -121,4 +127,29 @@ fn limits_are_told(rt: HostRuntime) -> Result<(), Fail> {
     let mut tenant = Tenant::new(rt.alloc(), limits)?;
     tenant.is_refused(&rt, rt.alloc(), &AT_LIMITS)?;
     Ok(())
+}
+
+/// A tenant whose replies may be so large.
+fn tenant_of(alloc: Global, reply_bytes: u64) -> Result<Tenant, Fail>
+    ensures { IfOk result (λ t. (scene list_log (λ s. memory_disk s.files.entries) t.parts t.shelf).sound) }
+{
+    let limits = DataLimits {
+        topics: None,
+        partitions: None,
+        offsets: None,
+        bytes: None,
+        request_entries: None,
+        fetch_bytes: None,
+        reply_bytes: Some(reply_bytes),
+    };
+    Tenant::new(alloc, limits)
+}
+
+/// A reply of 31 bytes behind its size is sent where it may be so large, and not where it may have 30.
+#[test]
+fn a_reply_past_its_limit_is_not_sent(rt: HostRuntime) -> Result<(), Fail> {
+    let mut tenant = tenant_of(rt.alloc(), 31)?;
+    tenant.has_one_of(&rt, rt.alloc(), FETCH_OFFSET, NO_OFFSET_OR_5)?;
+    let mut other = tenant_of(rt.alloc(), 30)?;
+    other.shuts(&rt, rt.alloc(), FETCH_OFFSET)
 }

@@ -146,6 +146,16 @@ impl Tenant {
         Ok(false)
     }
 
+    /// Takes a request, and sees that it shuts its connection.
+    pub(super) fn shuts(&mut self, rt: &impl Abort, alloc: Global, text: &str) -> Result<(), Fail>
+        requires { (scene list_log (λ s. memory_disk s.files.entries) self.old.parts self.old.shelf).sound }
+        ensures { (scene list_log (λ s. memory_disk s.files.entries) self.new.parts self.new.shelf).sound }
+    {
+        let served = self.ask(rt, alloc, text)?;
+        assert!(rt; matches!(served.answer, Answer::Shut), "{text}");
+        Ok(())
+    }
+
     /// Takes a request, and sees that it has one of two replies.
     pub(super) fn has_one_of(
         &mut self,

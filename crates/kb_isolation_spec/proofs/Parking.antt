@@ -9,10 +9,11 @@ use Rattle.kb_api_data.specs.Layouts.{produce_reply}
 use Rattle.kb_api_data.specs.declared.fetch.FetchRequest.{FetchRequest}
 use Rattle.kb_api_data.specs.declared.fetch_v5.FetchReplyV5.{FetchReplyV5}
 use Rattle.kb_api_group.specs.declared.group_key.TheConstants.{DESCRIBE_GROUPS, LIST_GROUPS}
-use Rattle.kb_api_group.specs.Layouts.{describe_groups_request, list_groups_request}
+use Rattle.kb_api_group.specs.Layouts.{describe_groups_reply, describe_groups_request, list_groups_reply, list_groups_request}
 use Rattle.kb_api_group.specs.Layouts.{heartbeat_request, join_group_request, leave_group_request, offset_commit_request, sync_group_request}
 use Rattle.kb_coordinator.specs.Calls.{is_accepted, join_code, sync_answer}
-use Rattle.kb_coordinator.specs.Groups.{Groups}
+use Rattle.kb_coordinator.specs.Groups.{Groups, silent}
+use Rattle.kb_coordinator.specs.Tools.{descriptions, group_list}
 use Rattle.kb_groups.specs.declared.reply.SyncAnswer.{SyncAnswer}
 use Rattle.kb_groups.specs.declared.reply.SyncAnswer.TheVariants as sync
 use Rattle.kb_tenant_state.specs.World.{World}
@@ -21,12 +22,15 @@ use Rattle.kb_tenant.specs.CreateTopics.{checked_all, created_all, creations_in,
 use Rattle.kb_tenant.specs.Entries.{commit_entries, describe_groups_entries, within}
 use Rattle.kb_tenant.specs.Fetch.{asked_fetch, deadline_of, fetch_answer, places_of, fetched_in}
 use Rattle.kb_tenant.specs.Produce.{produced, is_due}
-use Rattle.kb_tenant.specs.Replies.{Reaction, Replies, Waits, Silent}
+use Rattle.kb_tenant.specs.Limits.{is_past}
+use Rattle.kb_tenant.specs.Metadata.{metadata_in, metadata_of}
+use Rattle.kb_tenant.specs.OffsetFetch.{fetched_all, offsets_in}
+use Rattle.kb_tenant.specs.Replies.{Reaction, Replies, Waits, Silent, Shuts, reply_size, replies_within}
 use Rattle.kb_tenant.specs.Serve as tenant
 use Rattle.kb_tenant.specs.Serve.{stays, fetch_reaction, of_fetch, looked, looked_at}
 use Rattle.kb_tenant.specs.declared.node.Node.{Node}
 use Rattle.kb_tenant.proofs.ByRequest.{by_request}
-use Rattle.kb_tenant_api.specs.Replies.{Plain, Rebalances, replies}
+use Rattle.kb_tenant_api.specs.Replies.{Plain, Rebalances, replies, short_replies}
 use Rattle.kb_tenant_api.specs.Serve.{Outcome, if_read, of_describe, of_groups, of_heartbeat, of_join, of_leave, of_list, of_offset_commit, of_sync, of_topics, sync_reaction, served}
 use Rattle.kb_isolation_spec.specs.Tenant.{asked_in}
 
@@ -66,15 +70,23 @@ fetch-parks w clock version body r read = by (fetch_answer w clock r (deadline_o
           asks = sym same ∙ sym (ap (asked_in w) read);
         }
 
+-- a reply that is sent where it is not too long
+short-parks : (version : ℤ) (body : List ℕ) (clock : ℕ) (w : World) (limit : Option ℕ) (reply : List ℕ) → ParksPlain version body clock (stays w (replies_within limit reply))
+short-parks version body clock w limit reply = by (is_past limit (reply_size reply))
+  where
+    by : (b : Bool) → ParksPlain version body clock (stays w (if b then Shuts else Replies reply))
+    by true deadline places e = absurd (cc)
+    by false deadline places e = absurd (cc)
+
 plain-parks : (node : Node) (w : World) (clock n : ℕ) (key version : ℤ) (body : List ℕ) → ParksPlain version body clock (tenant.plainly_served node w clock n key version body)
 plain-parks node w clock n key version body =
     by_request (ParksPlain version body clock) node w clock n key version body (record {
       produce = λ r read. produce-parks version body clock (produced node.limits.bytes w [] r).0.world (produced node.limits.bytes w [] r).0.touched (produce_reply.written (produced node.limits.bytes w [] r).1) (is_due r.acks);
       fetch = λ r read. fetch-parks w clock version body r read;
       list_offsets = λ r read deadline places e. absurd (cc);
-      metadata = λ r read deadline places e. absurd (cc);
+      metadata = λ r read. short-parks version body clock w node.limits.reply_bytes (metadata_in version (metadata_of w node r));
       offset_commit = λ r read deadline places e. absurd (cc);
-      offset_fetch = λ r read deadline places e. absurd (cc);
+      offset_fetch = λ r read. short-parks version body clock w node.limits.reply_bytes (offsets_in version (fetched_all w r));
       find_coordinator = λ r read deadline places e. absurd (cc);
       create_topics = λ r read.
           let made = created_all node.limits w (made_of r) in
@@ -108,6 +120,14 @@ sync-parks version body clock w gs (sync.Refused code) deadline places e = absur
 sync-parks version body clock w gs (sync.Got assignment) deadline places e = absurd (cc)
 sync-parks version body clock w gs sync.Waits deadline places e = absurd (cc)
 
+-- a reply to a tool
+tool-parks : (version : ℤ) (body : List ℕ) (clock : ℕ) (w : World) (gs : Groups) (limit : Option ℕ) (reply : List ℕ) → Parks version body clock (of_groups w gs (short_replies limit reply))
+tool-parks version body clock w gs limit reply = by (is_past limit (reply_size reply))
+  where
+    by : (b : Bool) → Parks version body clock (of_groups w gs (Plain (if b then Shuts else Replies reply)))
+    by true deadline places e = absurd (cc)
+    by false deadline places e = absurd (cc)
+
 -- one that is for no group
 topics-parks : (node : Node) (w : World) (clock : ℕ) (gs : Groups) (n : ℕ) (key version : ℤ) (body : List ℕ) → Parks version body clock (of_topics gs (tenant.plainly_served node w clock n key version body))
 topics-parks node w clock gs n key version body deadline places e = (let f : (tenant.plainly_served node w clock n key version body).reaction ≡ Waits deadline places = cc in plain-parks node w clock n key version body deadline places f)
@@ -116,8 +136,9 @@ pub parks : (node : Node) (w : World) (clock : ℕ) (gs : Groups) (n : ℕ) (key
 unfolding served
 parks node w clock gs n key version body =
     let others : Outcome = of_topics gs (tenant.plainly_served node w clock n key version body) in
-    let lists : Outcome = if_read w gs (whole list_groups_request body) (of_list w gs) in
-    let describes : Outcome = if_read w gs (within node.limits.request_entries describe_groups_entries (whole describe_groups_request body)) (of_describe w gs) in
+    let limit : Option ℕ = node.limits.reply_bytes in
+    let lists : Outcome = if_read w gs (whole list_groups_request body) (of_list limit w gs) in
+    let describes : Outcome = if_read w gs (within node.limits.request_entries describe_groups_entries (whole describe_groups_request body)) (of_describe limit w gs) in
     let syncs : Outcome = if_read w gs (whole sync_group_request body) (of_sync w clock n gs) in
     let leaves : Outcome = if_read w gs (whole leave_group_request body) (of_leave w clock gs) in
     let beats : Outcome = if_read w gs (whole heartbeat_request body) (of_heartbeat w clock gs) in
@@ -134,6 +155,6 @@ parks node w clock gs n key version body =
     (either version body clock (int_eq key HEARTBEAT) beats from_leave (read-parks version body clock w gs (whole heartbeat_request body) (of_heartbeat w clock gs) (λ r deadline places e. absurd (cc)))
     (either version body clock (int_eq key LEAVE_GROUP) leaves from_sync (read-parks version body clock w gs (whole leave_group_request body) (of_leave w clock gs) (λ r deadline places e. absurd (cc)))
     (either version body clock (int_eq key SYNC_GROUP) syncs from_describe (read-parks version body clock w gs (whole sync_group_request body) (of_sync w clock n gs) (λ r. sync-parks version body clock w (of_sync w clock n gs r).groups (sync_answer clock n r gs)))
-    (either version body clock (int_eq key DESCRIBE_GROUPS) describes from_list (read-parks version body clock w gs (within node.limits.request_entries describe_groups_entries (whole describe_groups_request body)) (of_describe w gs) (λ r deadline places e. absurd (cc)))
-    (either version body clock (int_eq key LIST_GROUPS) lists others (read-parks version body clock w gs (whole list_groups_request body) (of_list w gs) (λ r deadline places e. absurd (cc)))
+    (either version body clock (int_eq key DESCRIBE_GROUPS) describes from_list (read-parks version body clock w gs (within node.limits.request_entries describe_groups_entries (whole describe_groups_request body)) (of_describe limit w gs) (λ r. tool-parks version body clock w (silent gs) limit (describe_groups_reply.written (descriptions gs r))))
+    (either version body clock (int_eq key LIST_GROUPS) lists others (read-parks version body clock w gs (whole list_groups_request body) (of_list limit w gs) (λ r. tool-parks version body clock w (silent gs) limit (list_groups_reply.written (group_list gs))))
     (topics-parks node w clock gs n key version body)))))))

@@ -20,7 +20,7 @@ use crate::broker::Broker;
 use crate::engine::Engine;
 use crate::nodes::{node_unnamed, nodes_named};
 use kb_api_group::{ApiVersion, group_key};
-use kb_connection::{Login, Setup};
+use kb_connection::{Account, Setup};
 use kb_log::{ListLog, PartitionLog, Shelf, ShelfRefused};
 use kb_settings::{Settings, User, tenant_names};
 use kb_store::{Store, StoreFault};
@@ -288,7 +288,7 @@ fn logins_of<'a>(
     alloc: Global,
     users: &'a [User],
     names: &[&'a str],
-) -> Result<Vec<Login>, AllocError>
+) -> Result<Vec<Account>, AllocError>
     requires { map (λ name. name.now) names.now ≡ tenants_of users.now }
     ensures { IfOk result (λ logins. logins.items ≡ map (login_of (tenants_of users.now)) users.now) }
 {
@@ -297,7 +297,7 @@ fn logins_of<'a>(
         let name = user.name.as_bytes().to_vec(alloc)?;
         let password = user.password.as_bytes().to_vec(alloc)?;
         let tenant = place_of(names, user.tenant.as_str());
-        logins.push(Login::new(name, password, tenant))?;
+        logins.push(Account::new(name, password, tenant))?;
     }
     Ok(logins)
 }

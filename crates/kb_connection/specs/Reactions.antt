@@ -1,11 +1,10 @@
 -- What each reaction does to a connection.
-use Rattle.std.specs.Prelude.{None, Some, Result, Ok, Err, codes}
+use Rattle.std.specs.Prelude.{None, Result, Ok, Err}
 use Rattle.std.specs.declared.alloc.AllocError.{AllocError}
 use Rattle.kb_wire.specs.declared.error_code.ErrorCode.TheVariants as errors
 use Rattle.kb_isolation_spec.specs.declared.head.Head.{Head}
-use Rattle.kb_isolation_spec.specs.declared.shut.Shut.TheVariants as causes
-use Rattle.kb_isolation_spec.specs.Session.{Greets, BoundTo, Session, shut_down, replied}
-use Rattle.kb_isolation_spec.specs.Greeting.{Setup, versions_reply, handshake_reply, authenticate_reply, illegal_state, bare_login}
+use Rattle.kb_isolation_spec.specs.Session.{Greets, Session, shut_down, replied}
+use Rattle.kb_isolation_spec.specs.Greeting.{Setup, versions_reply, handshake_reply, illegal_state, bare_login, logged_in}
 use Rattle.kb_connection.specs.declared.reaction.Reaction.{Reaction}
 use Rattle.kb_connection.specs.declared.reaction.Reaction.TheVariants as reactions
 use Rattle.kb_connection.specs.View.{greeting_of}
@@ -17,10 +16,10 @@ reacted setup (reactions.Accepts greeting) head s =
     replied head (handshake_reply errors.None) (record s { stage = Greets (greeting_of greeting) })
 reacted setup (reactions.Handshake code) head s = replied head (handshake_reply code) s
 reacted setup reactions.IllegalState head s = replied head illegal_state s
-reacted setup (reactions.LogsIn tenant) head s = replied head (authenticate_reply errors.None None) (record s { stage = BoundTo tenant None })
-reacted setup (reactions.LogsInBare tenant) head s = bare_login (Some tenant) s
-reacted setup reactions.Denies head s =
-    shut_down causes.Denied (replied head (authenticate_reply errors.SaslAuthenticationFailed (Some (codes "authentication failed"))) s)
+reacted setup (reactions.LogsIn known) head s = logged_in (Ok known) head s
+reacted setup (reactions.LogsInBare known) head s = bare_login (Ok known) s
+reacted setup (reactions.Denies name) head s = logged_in (Err name) head s
+reacted setup (reactions.DeniesBare name) head s = bare_login (Err name) s
 reacted setup (reactions.Shuts cause) head s = shut_down cause s
 
 -- a reaction was worked out, and the fact holds of its head and of it

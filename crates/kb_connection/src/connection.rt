@@ -13,7 +13,7 @@ ghost use Rattle.kb_isolation_spec.specs.declared.shut.Shut.TheVariants as cause
 ghost use Rattle.kb_isolation_spec.specs.Tenant.{Wait};
 ghost use Rattle.kb_api_group.specs.declared.api_versions.ApiVersion.{ApiVersion};
 ghost use Rattle.kb_isolation_spec.specs.Session.{has_member, is_free, can};
-ghost use Rattle.kb_isolation_spec.specs.Greeting.{Setup, for_tenant, greeted};
+ghost use Rattle.kb_isolation_spec.specs.Greeting.{Setup, bound, failed, for_tenant, greeted};
 ghost use Rattle.kb_isolation_spec.specs.Machine.{after_reaction, after_turn, told};
 ghost use Rattle.kb_isolation_spec.specs.Calls.{without_output};
 ghost use Rattle.kb_tenant_api.specs.declared.answer.Answer.TheVariants as any;
@@ -32,7 +32,7 @@ use crate::setup::Setup;
 use crate::stage::{Awaited, Phase, Stage, Waiting};
 use crate::version::{NO_HEAD, head_of_frame};
 use kb_api_group::{FrameFeed, Next};
-use kb_isolation_spec::{Head, Shut};
+use kb_isolation_spec::{Head, Known, Login, Name, Shut};
 use kb_tenant_api::Answer;
 use kb_wire::{ErrorCode, Text};
 use std::alloc::{AllocError, Global};
@@ -56,6 +56,7 @@ pub struct Connection {
     unread: FrameFeed,
     output: Vec<u8>,
     shut: Option<Shut>,
+    login: Login,
 }
 
 impl Model for Connection {
@@ -67,7 +68,14 @@ impl Model for Connection {
 
     ghost view = { λ c. record {
       number = c.number;
-      session = record { stage = stage_with_wait c.stage; unread = c.unread; output = c.output.items; shut = is_some c.shut; why = c.shut };
+      session = record {
+        stage = stage_with_wait c.stage;
+        unread = c.unread;
+        output = c.output.items;
+        shut = is_some c.shut;
+        why = c.shut;
+        login = c.login;
+      };
     } };
 
     ghost invariant = { λ c. IsLimited c.unread (stage_with_wait c.stage) (is_some c.shut) };
@@ -84,6 +92,7 @@ impl Connection {
             unread: FrameFeed::new(alloc),
             output: Vec::new(alloc),
             shut: None,
+            login: Login::Nobody,
         }
     }
 
@@ -138,6 +147,13 @@ impl Connection {
         ensures tied { self.now.session.shut ≡ is_some self.now.session.why }
     {
         self.shut
+    }
+
+    /// Who logged in on it.
+    pub fn login(&self) -> Login
+        ensures { result ≡ self.now.session.login }
+    {
+        self.login
     }
 
     /// Whether it has something to tell: output that was not taken, or that it was shut.
@@ -554,18 +570,18 @@ impl Connection {
                 let body = authenticate_body(alloc, ErrorCode::IllegalSaslState, Some(text))?;
                 self.reply(head, &body)
             }
-            Reaction::LogsIn(tenant) => {
+            Reaction::LogsIn(known) => {
                 let body = authenticate_body(alloc, ErrorCode::None, None)?;
                 self.reply(head, &body)?;
-                self.stage = Stage::Bound(tenant);
+                self.bind(known);
                 Ok(())
             }
-            Reaction::LogsInBare(tenant) => {
+            Reaction::LogsInBare(known) => {
                 self.output.extend_from_slice(&EMPTY_FRAME)?;
-                self.stage = Stage::Bound(tenant);
+                self.bind(known);
                 Ok(())
             }
-            Reaction::Denies => {
+            Reaction::Denies(name) => {
                 let text = Text::new("authentication failed");
                 let body = authenticate_body(
                     alloc,
@@ -573,7 +589,11 @@ impl Connection {
                     Some(text),
                 )?;
                 self.reply(head, &body)?;
-                self.shut_down(Shut::Denied);
+                self.deny(name);
+                Ok(())
+            }
+            Reaction::DeniesBare(name) => {
+                self.deny(name);
                 Ok(())
             }
             Reaction::Shuts(cause) => {
@@ -581,6 +601,22 @@ impl Connection {
                 Ok(())
             }
         }
+    }
+
+    /// A user logged in on it: it is bound to the user's tenant.
+    fn bind(&mut self, known: Known)
+        ensures { self.new ≡ with_session self.old (bound known self.old.session) }
+    {
+        self.stage = Stage::Bound(known.tenant);
+        self.login = Login::User(known.user);
+    }
+
+    /// A login of that name failed on it: it is shut.
+    fn deny(&mut self, name: Name)
+        ensures { self.new ≡ with_session self.old (shut_down causes.Denied (failed name self.old.session)) }
+    {
+        self.login = Login::Failed(name);
+        self.shut_down(Shut::Denied);
     }
 
     /// Adds the reply of that head and body to the output. One whose size fits no INT32 is not sent and shuts the connection. An `Err`

@@ -21,6 +21,6 @@ mod version;
 
 pub use connection::Connection;
 pub use greeting::Greeting;
-pub use setup::{Login, Setup};
+pub use setup::{Account, Setup};
 pub use stage::{Awaited, Phase, Waiting};
 pub use tenant_node::TenantNode;

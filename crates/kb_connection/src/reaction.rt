@@ -15,12 +15,12 @@ use crate::greeting::Greeting;
 use crate::request::{Asked, Request, unserved};
 use crate::setup::Setup;
 use crate::version::NO_HEAD;
-use kb_isolation_spec::{Head, Shut};
+use kb_isolation_spec::{Head, Known, Name, Shut};
 use kb_wire::ErrorCode;
 use std::alloc::{AllocError, Global};
 
 /// What a request comes to for its connection.
-#[derive(Clone, Copy, Debug, PartialEq, Eq)]
+#[derive(Clone, Copy)]
 pub enum Reaction {
     /// The versions are listed, under a code.
     Versions(ErrorCode),
@@ -30,12 +30,14 @@ pub enum Reaction {
     Handshake(ErrorCode),
     /// The SASL request came out of turn.
     IllegalState,
-    /// The connection is bound to a tenant.
-    LogsIn(usize),
-    /// The connection is bound to a tenant, and answered with a frame of no bytes.
-    LogsInBare(usize),
-    /// The login is answered with a refusal, and the connection is shut.
-    Denies,
+    /// The connection is bound to the tenant of a user, who logged in.
+    LogsIn(Known),
+    /// The same, and it is answered with a frame of no bytes.
+    LogsInBare(Known),
+    /// The login of that name is answered with a refusal, and the connection is shut.
+    Denies(Name),
+    /// The connection is shut without a reply, since the login of that name failed.
+    DeniesBare(Name),
     /// The connection is shut without a reply, for that cause.
     Shuts(Shut),
 }
@@ -55,8 +57,8 @@ impl Reaction {
             Asked::Handshake { .. } => Reaction::Handshake(ErrorCode::UnsupportedSaslMechanism),
             Asked::Authenticate(_) if !handshaken => Reaction::IllegalState,
             Asked::Authenticate(message) => match setup.login(message.as_slice()) {
-                Some(tenant) => Reaction::LogsIn(tenant),
-                None => Reaction::Denies,
+                Ok(known) => Reaction::LogsIn(known),
+                Err(name) => Reaction::Denies(name),
             },
             Asked::Another { .. } => Reaction::Shuts(Shut::NotLoggedIn {
                 api_key: head.api_key,
@@ -71,8 +73,8 @@ impl Reaction {
         ensures { (head : Head) (s : Session) → reacted setup.now result head s ≡ bare_login (login setup.now.users message.now) s }
     {
         match setup.login(message) {
-            Some(tenant) => Reaction::LogsInBare(tenant),
-            None => Reaction::Shuts(Shut::Denied),
+            Ok(known) => Reaction::LogsInBare(known),
+            Err(name) => Reaction::DeniesBare(name),
         }
     }
 

@@ -3,23 +3,24 @@
 ghost use Rattle.std.specs.Prelude.{◌≡◌};
 ghost use Rattle.kb_wire.specs.Codec.{array, string};
 ghost use Rattle.kb_api_group.specs.Layouts.{api_version};
-ghost use Rattle.kb_isolation_spec.specs.Greeting.{tenant_of, login, node_of};
+ghost use Rattle.kb_isolation_spec.specs.Greeting.{known_from, login, node_of};
 
 use crate::tenant_node::TenantNode;
-use kb_api_group::{ApiVersion, PlainLogin, read_plain};
+use kb_api_group::{ApiVersion, read_plain};
+use kb_isolation_spec::{Known, Name};
 use kb_tenant::Node;
 use kb_wire::Array;
 use std::marker::Model;
 
-/// A user: the name and password of its login, and the place of its tenant.
+/// A user's account: the name and password of its login, and the place of its tenant.
 #[derive(Drop)]
-pub struct Login {
+pub struct Account {
     name: Vec<u8>,
     password: Vec<u8>,
     tenant: usize,
 }
 
-impl Model for Login {
+impl Model for Account {
     ghost use Rattle.kb_isolation_spec.specs.Greeting.{User};
 
     ghost Value = { User };
@@ -27,12 +28,12 @@ impl Model for Login {
     ghost view = { λ u. record { name = u.name.items; password = u.password.items; tenant = u.tenant } };
 }
 
-impl Login {
-    /// A user.
-    pub fn new(name: Vec<u8>, password: Vec<u8>, tenant: usize) -> Login
+impl Account {
+    /// An account.
+    pub fn new(name: Vec<u8>, password: Vec<u8>, tenant: usize) -> Account
         ensures { result ≡ record { name = name.items; password = password.items; tenant = tenant } }
     {
-        Login {
+        Account {
             name,
             password,
             tenant,
@@ -44,7 +45,7 @@ impl Login {
 #[derive(Drop)]
 pub struct Setup {
     versions: Array<ApiVersion>,
-    logins: Vec<Login>,
+    accounts: Vec<Account>,
     nodes: Vec<TenantNode>,
     node: TenantNode,
 }
@@ -58,7 +59,7 @@ impl Model for Setup {
 
     ghost view = { λ s. record {
       versions = s.versions;
-      users = s.logins.items;
+      users = s.accounts.items;
       nodes = s.nodes.items;
       node = s.node;
     } };
@@ -71,16 +72,16 @@ impl Setup {
     /// tenant has.
     pub fn new(
         versions: Array<ApiVersion>,
-        logins: Vec<Login>,
+        accounts: Vec<Account>,
         nodes: Vec<TenantNode>,
         node: TenantNode,
     ) -> Setup
         requires versions { (array api_version).Fits versions }
-        ensures { result ≡ record { versions = versions; users = logins.items; nodes = nodes.items; node = node } }
+        ensures { result ≡ record { versions = versions; users = accounts.items; nodes = nodes.items; node = node } }
     {
         Setup {
             versions,
-            logins,
+            accounts,
             nodes,
             node,
         }
@@ -105,27 +106,32 @@ impl Setup {
         &self.versions
     }
 
-    /// The tenant that a PLAIN message names with its password (RFC 4616).
+    /// The user that a PLAIN message names with its password (RFC 4616). An `Err` is the name in it, as far as it is kept.
     #[tactic(auto, unfolding(kb_isolation_spec::specs::Greeting::login))]
-    pub fn login(&self, message: &[u8]) -> Option<usize>
+    pub fn login(&self, message: &[u8]) -> Result<Known, Name>
         ensures { result ≡ login self.now.users message.now }
     {
-        let plain = read_plain(message)?;
-        tenant_of(
-            &self.logins,
-            plain.authcid.as_slice(),
-            plain.passwd.as_slice(),
-        )
+        let Some(plain) = read_plain(message) else {
+            return Err(Name::new(&[]));
+        };
+        let name = plain.authcid.as_slice();
+        match known_among(&self.accounts, name, plain.passwd.as_slice()) {
+            Some(known) => Ok(known),
+            None => Err(Name::new(name)),
+        }
     }
 }
 
-/// The tenant of the first user of that name and password.
-fn tenant_of(logins: &[Login], name: &[u8], password: &[u8]) -> Option<usize>
-    ensures { result ≡ tenant_of logins.now name.now password.now }
+/// The first user of that name and password.
+fn known_among(accounts: &[Account], name: &[u8], password: &[u8]) -> Option<Known>
+    ensures { result ≡ known_from 0 accounts.now name.now password.now }
 {
-    for login in logins {
-        if login.name.as_slice() == name && login.password.as_slice() == password {
-            return Some(login.tenant);
+    for (user, account) in accounts.iter().enumerate() {
+        if account.name.as_slice() == name && account.password.as_slice() == password {
+            return Some(Known {
+                user,
+                tenant: account.tenant,
+            });
         }
     }
     None

@@ -5,6 +5,8 @@ use Rattle.kb_isolation_spec.specs.Machine.{each, on, those, find_line}
 use Rattle.kb_tenant_state.specs.Counts.{counted_once}
 use Rattle.kb_tenant_api.specs.Hosted.{TenantState, kept_of, left}
 use Rattle.kb_tenant_api.specs.Turns.{with_kept, count_named, all_calm}
+use Rattle.kb_isolation_spec.specs.declared.login.Login.{Login}
+use Rattle.kb_isolation_spec.specs.declared.login.Login.TheVariants as logins
 use Rattle.kb_isolation_spec.specs.declared.shut.Shut.{Shut}
 use Rattle.kb_isolation_spec.specs.Broker.{BrokerState}
 
@@ -67,6 +69,14 @@ why_in (Some s) = s.why
 
 abbrev pub why_of : ℕ → BrokerState → Option Shut
 why_of n b = why_in (find_line n b.lines)
+
+-- who logged in on it
+abbrev pub login_in : Option Session → Login
+login_in None = logins.Nobody
+login_in (Some s) = s.login
+
+abbrev pub login_of : ℕ → BrokerState → Login
+login_of n b = login_in (find_line n b.lines)
 
 -- whether the broker shut it
 abbrev pub is_shut : ℕ → BrokerState → Bool

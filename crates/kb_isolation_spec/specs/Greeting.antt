@@ -1,5 +1,6 @@
 -- The requests that need no tenant: ApiVersions, and the SASL greeting (Kafka protocol guide, "SASL Authentication Sequence"; RFC 4616).
-use Rattle.std.specs.Prelude.{ℕ, ℤ, pos, List, [], ◌∷◌, ◌++◌, get_or, Bool, true, false, ◌&&◌, if◌then◌else◌, Option, Some, None, codes}
+use Rattle.std.specs.Prelude.{ℕ, suc, ℤ, pos, List, [], ◌∷◌, ◌++◌, get_or, Bool, true, false, ◌&&◌, if◌then◌else◌, Option, Some, None, codes}
+use Rattle.std.specs.Prelude.{Result, Ok, Err}
 use Rattle.std.specs.Ordering.{int_eq}
 use Rattle.std.specs.Str.{bytes_eq}
 use Rattle.kb_api_group.specs.Plain.{plain}
@@ -12,7 +13,10 @@ use Rattle.kb_api_group.specs.declared.plain.PlainLogin.{PlainLogin}
 use Rattle.kb_api_group.specs.declared.api_versions.ApiVersion.{ApiVersion}
 use Rattle.kb_tenant.specs.declared.node.Node.{Node}
 use Rattle.kb_isolation_spec.specs.declared.head.Head.{Head}
+use Rattle.kb_isolation_spec.specs.declared.login.Known.{Known}
+use Rattle.kb_isolation_spec.specs.declared.login.Login.TheVariants as logins
 use Rattle.kb_isolation_spec.specs.declared.shut.Shut.TheVariants as causes
+use Rattle.kb_isolation_spec.specs.Names.{kept_name}
 use Rattle.kb_isolation_spec.specs.Requests.{Asked, Versions, OtherVersions, Handshake, Authenticate, Another, Malformed, request, unserved}
 use Rattle.kb_isolation_spec.specs.Session.{Greeting, Unshaken, Shaken, Bare, Greets, BoundTo, Session, shut_down, replied}
 
@@ -38,19 +42,24 @@ node_of setup tenant = get_or setup.nodes tenant setup.node
 abbrev pub for_tenant : Setup → ℕ → Setup
 for_tenant setup tenant = record setup { nodes = []; node = node_of setup tenant }
 
--- the tenant of the first user of that name and password
-abbrev pub tenant_of : List User → List ℕ → List ℕ → Option ℕ
-tenant_of [] name password = None
-tenant_of (u ∷ us) name password =
-    if bytes_eq u.name name && bytes_eq u.password password then Some u.tenant else tenant_of us name password
+-- the first user of that name and password, with its place, where the first of these users has that place
+abbrev pub known_from : ℕ → List User → List ℕ → List ℕ → Option Known
+known_from place [] name password = None
+known_from place (u ∷ us) name password =
+    if bytes_eq u.name name && bytes_eq u.password password then Some (record { user = place; tenant = u.tenant })
+    else known_from (suc place) us name password
 
-abbrev pub tenant_at : List User → Option PlainLogin → Option ℕ
-tenant_at users None = None
-tenant_at users (Some p) = tenant_of users p.authcid p.passwd
+abbrev pub known_or : List ℕ → Option Known → Result Known (List ℕ)
+known_or name None = Err (kept_name name)
+known_or name (Some known) = Ok known
 
--- the tenant that a PLAIN message names with its password
-unfoldable pub login : List User → List ℕ → Option ℕ
-login users message = tenant_at users (plain message)
+abbrev pub login_by : List User → Option PlainLogin → Result Known (List ℕ)
+login_by users None = Err []
+login_by users (Some p) = known_or p.authcid (known_from 0 users p.authcid p.passwd)
+
+-- the user that a PLAIN message names with its password, or else the name in it, as much of it as is kept
+unfoldable pub login : List User → List ℕ → Result Known (List ℕ)
+login users message = login_by users (plain message)
 
 -- 1. The replies
 
@@ -76,11 +85,22 @@ empty_frame = 0 ∷ 0 ∷ 0 ∷ 0 ∷ []
 
 -- 2. Before authentication
 
+-- a connection on which that user logged in
+abbrev pub bound : Known → Session → Session
+bound known s = record s { stage = BoundTo known.tenant None; login = logins.User known.user }
+
+-- a connection on which a login of that name failed
+abbrev pub failed : List ℕ → Session → Session
+failed name s = record s { login = logins.Failed name }
+
+-- SaslAuthenticate where the login failed
+abbrev pub failed_reply : List ℕ
+failed_reply = authenticate_reply errors.SaslAuthenticationFailed (Some (codes "authentication failed"))
+
 -- a login that names a user with its password binds the connection, any other shuts it after the reply
-abbrev pub logged_in : Option ℕ → Head → Session → Session
-logged_in (Some tenant) head s = replied head (authenticate_reply errors.None None) (record s { stage = BoundTo tenant None })
-logged_in None head s =
-    shut_down causes.Denied (replied head (authenticate_reply errors.SaslAuthenticationFailed (Some (codes "authentication failed"))) s)
+abbrev pub logged_in : Result Known (List ℕ) → Head → Session → Session
+logged_in (Ok known) head s = replied head (authenticate_reply errors.None None) (bound known s)
+logged_in (Err name) head s = shut_down causes.Denied (replied head failed_reply (failed name s))
 
 -- how far the greeting is after a handshake of that version which accepted PLAIN
 abbrev pub greeting_after : ℤ → Greeting
@@ -96,9 +116,9 @@ authenticated setup true head message s = logged_in (login setup.users message) 
 authenticated setup false head message s = replied head illegal_state s
 
 -- a bare message that names a user with its password binds the connection, any other shuts it without a reply
-abbrev pub bare_login : Option ℕ → Session → Session
-bare_login (Some tenant) s = record s { stage = BoundTo tenant None; output = s.output ++ empty_frame }
-bare_login None s = shut_down causes.Denied s
+abbrev pub bare_login : Result Known (List ℕ) → Session → Session
+bare_login (Ok known) s = bound known (record s { output = s.output ++ empty_frame })
+bare_login (Err name) s = shut_down causes.Denied (failed name s)
 
 -- what a request of a greeting connection does to it, where a mechanism was accepted or not; s is the connection without the request
 unfoldable pub greeted_by : Setup → Bool → Head → Asked → Session → Session

@@ -8,6 +8,7 @@ pub mod Isolation
 pub mod Left
 pub mod LimitsKept
 pub mod Machine
+pub mod Names
 pub mod Owners
 pub mod Requests
 pub mod Session

@@ -5,6 +5,8 @@ use Rattle.kb_tenant.specs.Replies.{framed, reply_size}
 use Rattle.kb_wire.specs.Codec.{int32}
 use Rattle.kb_isolation_spec.specs.Tenant.{Wait, is_members}
 use Rattle.kb_isolation_spec.specs.declared.head.Head.{Head}
+use Rattle.kb_isolation_spec.specs.declared.login.Login.{Login}
+use Rattle.kb_isolation_spec.specs.declared.login.Login.TheVariants as logins
 use Rattle.kb_isolation_spec.specs.declared.shut.Shut.{Shut}
 use Rattle.kb_isolation_spec.specs.declared.shut.Shut.TheVariants as causes
 
@@ -20,16 +22,17 @@ pub data Stage : Type 0 where
   Greets : (greeting : Greeting) → Stage
   BoundTo : (tenant : ℕ) (wait : Option Wait) → Stage
 
--- what a connection has, but for its number: unread bytes, untaken output, whether the broker shut it, and then why
+-- what a connection has, but for its number: unread bytes, untaken output, whether the broker shut it, and then why; and who logged in
 pub record Session : Type 0 where
   pub stage : Stage
   pub unread : List ℕ
   pub output : List ℕ
   pub shut : Bool
   pub why : Option Shut
+  pub login : Login
 
 abbrev pub fresh : Session
-fresh = record { stage = Greets Unshaken; unread = []; output = []; shut = false; why = None }
+fresh = record { stage = Greets Unshaken; unread = []; output = []; shut = false; why = None; login = logins.Nobody }
 
 abbrev pub without_wait : Stage → Stage
 without_wait (Greets greeting) = Greets greeting
@@ -40,9 +43,9 @@ abbrev pub waiting : Wait → Stage → Stage
 waiting wait (Greets greeting) = Greets greeting
 waiting wait (BoundTo tenant earlier) = BoundTo tenant (Some wait)
 
--- the broker shuts it, for that cause: unread bytes and wait are dropped, untaken output stays
+-- the broker shuts it, for that cause: unread bytes and wait are dropped, untaken output and who logged in stay
 abbrev pub shut_down : Shut → Session → Session
-shut_down cause s = record { stage = without_wait s.stage; unread = []; output = s.output; shut = true; why = Some cause }
+shut_down cause s = record { stage = without_wait s.stage; unread = []; output = s.output; shut = true; why = Some cause; login = s.login }
 
 -- how many unread bytes a connection may have: a size and the largest request, twice
 abbrev pub LIMIT : ℕ

@@ -1,5 +1,5 @@
 //! What the broker's headline speaks of: definitions and their laws, and no code but the words
-//! [`Head`], [`Base`], [`Shut`] and [`Whom`].
+//! [`Head`], [`Base`], [`Login`], [`Known`], [`Name`], [`Shut`] and [`Whom`].
 //!
 //! `specs/Versions.antt` says which versions are laid out as an earlier one,
 //! `specs/Requests.antt` what a connection's bytes ask, `specs/Session.antt` what a connection has,
@@ -12,12 +12,14 @@
 
 mod base;
 mod head;
+mod login;
 mod promises;
 mod shut;
 mod whom;
 
 pub use base::Base;
 pub use head::Head;
+pub use login::{Known, Login, Name};
 pub use promises::{
     alone_is_the_same, batches_are_of_each_turn, bound_for_good, fetches_end_at_their_deadline,
     fetches_get_batches_in_runs, fetches_get_whole_batches, first_event, limits_are_kept,

@@ -1,19 +1,20 @@
 -- Laws of the one-tenant machine.
-use Rattle.std.proofs.Common.{◌≡◌, ℕ, ℤ, pos, negsuc, zero, suc, ◌<◌, ◌≤◌, List, [], ◌∷◌, length, take, drop, Bool, true, false, Some, None, Option, refl, sym, ◌∙◌, ap, arith, length-drop}
+use Rattle.std.proofs.Common.{◌≡◌, ℕ, ℤ, pos, negsuc, zero, suc, ◌<◌, ◌≤◌, List, [], ◌∷◌, ◌++◌, length, take, drop, Bool, true, false, Some, None, Option, Result, Ok, Err, refl, sym, ◌∙◌, ap, arith, length-drop}
 use Rattle.std.specs.Prelude.{nat_lt, cond}
 use Rattle.std.proofs.lemmas.Bool.Decides.{nat_tests}
 use Rattle.std.specs.Int.{w32, cast_signed, from_be_bytes}
 use Rattle.kb_wire.specs.Codec.{int}
 use Rattle.kb_api_group.specs.Frames.{Front, Whole, Partial, TooSmall, TooLarge, front, front_by}
 use Rattle.kb_isolation_spec.specs.declared.head.Head.{Head}
+use Rattle.kb_isolation_spec.specs.declared.login.Known.{Known}
 use Rattle.kb_isolation_spec.specs.Requests.{Asked, Versions, OtherVersions, Handshake, Authenticate, Another, Malformed, request}
 use Rattle.kb_tenant_api.specs.Hosted.{Kept}
 use Rattle.kb_tenant.specs.Replies as tenant
-use Rattle.kb_tenant.specs.Replies.{Replies, Waits, Silent, Shuts}
+use Rattle.kb_tenant.specs.Replies.{Replies, Waits, Silent, Shuts, framed, reply_size}
 use Rattle.kb_tenant_api.specs.Replies.{Reaction, Plain, Rebalances}
 use Rattle.kb_isolation_spec.specs.Tenant.{answer, ready}
-use Rattle.kb_isolation_spec.specs.Session.{Greeting, Unshaken, Shaken, Bare, Stage, Greets, BoundTo, Session, replied, is_turn, can}
-use Rattle.kb_isolation_spec.specs.Greeting.{Setup, for_tenant, greeted_by, greeted_frame, greeted_at, greeted, greeting_after, shaken, authenticated, logged_in, bare_login, login}
+use Rattle.kb_isolation_spec.specs.Session.{Greeting, Unshaken, Shaken, Bare, Stage, Greets, BoundTo, Session, shut_down, replied, throttled, unanswerable, is_turn, can}
+use Rattle.kb_isolation_spec.specs.Greeting.{Setup, for_tenant, greeted_by, greeted_frame, greeted_at, greeted, greeting_after, shaken, authenticated, logged_in, bare_login, bound, login}
 use Rattle.kb_isolation_spec.specs.Machine.{Line, View, plainly, after_reaction, served_by, served_at, after_turn, put, told, woken_by, woken, each, on, those, first_able, turn_at, turn_of, turn, again, work, turns}
 
 -- 1. Lists of connections
@@ -74,6 +75,15 @@ pub replied-le : (head : Head) (body : List ℕ) (s : Session) → length (repli
 unfolding replied
 replied-le head body s = grind (arith, nat_tests)
 
+-- a reply changes nothing of who logged in
+pub login-replied : (head : Head) (body : List ℕ) (s : Session) → (replied head body s).login ≡ s.login
+unfolding replied
+login-replied head body s = by (nat_lt 2147483647 (reply_size (throttled head body))) (s.output ++ framed head.correlation_id (throttled head body))
+  where
+    by : (a : Bool) (bytes : List ℕ) → (let x : Session = cond a (shut_down (unanswerable head) s) (record s { output = bytes }) in x).login ≡ s.login
+    by true bytes = refl
+    by false bytes = refl
+
 pub greeted_by-le : (setup : Setup) (h : Bool) (head : Head) (a : Asked) (s : Session) → length (greeted_by setup h head a s).unread ≤ length s.unread
 unfolding greeted_by
 greeted_by-le setup h head Versions s = replied-le head _ s
@@ -85,9 +95,9 @@ greeted_by-le setup h head (Handshake v m) s = shaken-le _ head v s
     shaken-le false head v s = replied-le head _ s
 greeted_by-le setup h head (Authenticate m) s = authenticated-le setup h head m s
   where
-    logged_in-le : (o : Option ℕ) (head : Head) (s : Session) → length (logged_in o head s).unread ≤ length s.unread
-    logged_in-le (Some t) head s = replied-le head _ (record s { stage = BoundTo t None })
-    logged_in-le None head s = omega arith
+    logged_in-le : (o : Result Known (List ℕ)) (head : Head) (s : Session) → length (logged_in o head s).unread ≤ length s.unread
+    logged_in-le (Ok known) head s = replied-le head _ (bound known s)
+    logged_in-le (Err name) head s = omega arith
 
     authenticated-le : (setup : Setup) (h : Bool) (head : Head) (m : List ℕ) (s : Session) → length (authenticated setup h head m s).unread ≤ length s.unread
     authenticated-le setup true head m s = logged_in-le (login setup.users m) head s
@@ -114,9 +124,9 @@ served_by-le setup kept clock n head (Authenticate m) s = replied-le head _ s
 served_by-le setup kept clock n head (Another k v b) s = answered-le (answer setup.node kept clock n k v b) head v b s
 served_by-le setup kept clock n head Malformed s = omega arith
 
-bare_login-le : (o : Option ℕ) (s : Session) → length (bare_login o s).unread ≤ length s.unread
-bare_login-le (Some t) s = omega arith
-bare_login-le None s = omega arith
+bare_login-le : (o : Result Known (List ℕ)) (s : Session) → length (bare_login o s).unread ≤ length s.unread
+bare_login-le (Ok known) s = omega arith
+bare_login-le (Err name) s = omega arith
 
 greeted_frame-le : (setup : Setup) (h : Greeting) (frame : List ℕ) (s : Session) → length (greeted_frame setup h frame s).unread ≤ length s.unread
 greeted_frame-le setup Unshaken frame s = let r = request setup.versions frame in greeted_by-le setup false r.head r.asked s

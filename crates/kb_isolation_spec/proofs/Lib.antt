@@ -3,6 +3,8 @@ pub mod Laws
 pub mod LimitsKept
 pub mod OwnMachine
 pub mod Leaving
+pub mod LoggedIn
+pub mod Logins
 pub mod Owned
 pub mod Owners
 pub mod Parking
@@ -23,4 +25,5 @@ pub mod Turns
 pub mod Wakes
 pub mod Pinned
 pub mod Moments
+pub mod Names
 pub mod Throttled

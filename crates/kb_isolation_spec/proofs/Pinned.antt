@@ -1,18 +1,20 @@
 -- What the public laws say, where no lemma beside has it yet.
-use Rattle.std.proofs.Common.{◌≡◌, ◌∙◌, ◌≤◌, ℕ, ℤ, zero, suc, List, ◌++◌, length, Bool, true, false, cond, nat_lt, Option, Some, None, refl, sym, ap, arith}
+use Rattle.std.proofs.Common.{◌≡◌, ◌∙◌, ◌≤◌, ℕ, ℤ, zero, suc, List, ◌++◌, length, Bool, true, false, cond, nat_lt, Option, Some, None, Result, Err, refl, sym, ap, arith}
 use Rattle.std.proofs.lemmas.Bool.Decides.{nat_tests}
 use Rattle.std.proofs.lemmas.List.{length-append}
 use Rattle.kb_api_group.specs.Frames.{Whole, front}
 use Rattle.kb_isolation_spec.specs.declared.shut.Shut.TheVariants as causes
 use Rattle.kb_isolation_spec.specs.declared.head.Head.{Head}
+use Rattle.kb_isolation_spec.specs.declared.login.Known.{Known}
+use Rattle.kb_isolation_spec.specs.declared.login.Login.TheVariants as logins
 use Rattle.kb_isolation_spec.specs.Session.{Stage, Bare, Greets, BoundTo, Session, LIMIT, room, without_wait, shut_down, fed, has_member, overruns}
 use Rattle.kb_isolation_spec.specs.Requests.{Another, Authenticate}
 use Rattle.kb_coordinator.specs.Calls as groups
 use Rattle.kb_tenant_api.specs.Hosted.{Kept, left}
-use Rattle.kb_isolation_spec.specs.Greeting.{Setup, greeted, greeted_by, greeted_at, logged_in, bare_login, login}
+use Rattle.kb_isolation_spec.specs.Greeting.{Setup, greeted, greeted_by, greeted_at, logged_in, bare_login, failed, failed_reply, login}
 use Rattle.kb_isolation_spec.specs.Machine.{View, Closes, Line, find_line, first_able, turn, turns, again, work, after_turn, kept_without, kept_closed, kept_fed, step}
 use Rattle.kb_isolation_spec.specs.Owners.{whose}
-use Rattle.kb_isolation_spec.proofs.Laws.{work-turn, again-none}
+use Rattle.kb_isolation_spec.proofs.Laws.{login-replied, work-turn, again-none}
 use Rattle.kb_isolation_spec.proofs.Owners.{stage-served}
 
 fed_by : (shut over : Bool) (piece : List ℕ) (s : Session) → s.shut ≡ shut → nat_lt (room s) (length piece) ≡ over → length s.unread ≤ LIMIT → length (cond shut s (cond over (shut_down causes.Overrun s) (record s { unread = s.unread ++ piece }))).unread ≤ LIMIT
@@ -32,13 +34,15 @@ pub another-shuts : (setup : Setup) (h : Bool) (head : Head) (key version : ℤ)
 unfolding greeted_by
 another-shuts setup h head key version body s = refl
 
-pub denied-shuts : (setup : Setup) (head : Head) (message : List ℕ) (s : Session) → login setup.users message ≡ None → (greeted_by setup true head (Authenticate message) s).shut ≡ true
+pub denied-shuts : (setup : Setup) (head : Head) (message name : List ℕ) (s : Session) → login setup.users message ≡ Err name → let after : Session = greeted_by setup true head (Authenticate message) s in (after.shut ≡ true) × (after.login ≡ logins.Failed name)
 unfolding greeted_by
-denied-shuts setup head message s e = ap (λ (o : Option ℕ). (logged_in o head s).shut) e
+denied-shuts setup head message name s e =
+    let is = ap (λ (o : Result Known (List ℕ)). logged_in o head s) e in
+    (ap (λ (x : Session). x.shut) is, ap (λ (x : Session). x.login) is ∙ login-replied head failed_reply (failed name s))
 
-pub bare-shuts : (setup : Setup) (frame rest : List ℕ) (s : Session) → front s.unread ≡ Whole frame rest → login setup.users frame ≡ None → greeted setup Bare s ≡ shut_down causes.Denied s
+pub bare-shuts : (setup : Setup) (frame rest name : List ℕ) (s : Session) → front s.unread ≡ Whole frame rest → login setup.users frame ≡ Err name → greeted setup Bare s ≡ shut_down causes.Denied (failed name s)
 unfolding greeted
-bare-shuts setup frame rest s at e = ap (greeted_at setup Bare s) at ∙ ap (λ (o : Option ℕ). bare_login o (record s { unread = rest })) e
+bare-shuts setup frame rest name s at e = ap (greeted_at setup Bare s) at ∙ ap (λ (o : Result Known (List ℕ)). bare_login o (record s { unread = rest })) e
 
 whose-without_wait : (st : Stage) → whose (without_wait st) ≡ whose st
 whose-without_wait (Greets h) = refl

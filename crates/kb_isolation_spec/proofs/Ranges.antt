@@ -1,5 +1,5 @@
 -- A connection is bound to a tenant of the broker.
-use Rattle.std.proofs.Common.{◌≡◌, ◌<◌, ℕ, zero, suc, List, [], ◌∷◌, ◌++◌, length, Bool, true, false, Option, Some, None, refl, sym, subst}
+use Rattle.std.proofs.Common.{◌≡◌, ◌<◌, ℕ, zero, suc, List, [], ◌∷◌, ◌++◌, length, Bool, true, false, Option, Some, None, Result, Ok, Err, refl, sym, subst}
 use Rattle.std.specs.Prelude.{cond, nat_lt, ⊤, ◌&&◌}
 use Rattle.std.specs.List.{AllByRecursion}
 use Rattle.std.specs.Str.{bytes_eq}
@@ -8,17 +8,22 @@ use Rattle.kb_api_group.specs.declared.plain.PlainLogin.{PlainLogin}
 use Rattle.kb_api_group.specs.Frames.{Front, Whole, Partial, TooSmall, TooLarge, front}
 use Rattle.kb_tenant.specs.Replies.{framed, reply_size}
 use Rattle.kb_isolation_spec.specs.declared.head.Head.{Head}
+use Rattle.kb_isolation_spec.specs.declared.login.Known.{Known}
 use Rattle.kb_isolation_spec.specs.Requests.{Asked, Versions, OtherVersions, Handshake, Authenticate, Another, Malformed, request}
 use Rattle.kb_isolation_spec.specs.Session.{Greeting, Unshaken, Shaken, Bare, Stage, Greets, BoundTo, Session, shut_down, replied, throttled, without_wait, fed, unanswerable}
-use Rattle.kb_isolation_spec.specs.Greeting.{Setup, User, greeted_by, greeted_frame, greeted_at, greeted, greeting_after, shaken, authenticated, logged_in, bare_login, login, tenant_of, tenant_at}
+use Rattle.kb_isolation_spec.specs.Greeting.{Setup, User, greeted_by, greeted_frame, greeted_at, greeted, greeting_after, shaken, authenticated, logged_in, bare_login, bound, failed, login, login_by, known_from, known_or}
 use Rattle.kb_isolation_spec.specs.Owners.{greet_turn, greet_turn_at, heard}
 use Rattle.kb_isolation_spec.specs.Machine.{again}
 use Rattle.kb_isolation_spec.specs.Broker.{InRange}
 use Rattle.kb_isolation_spec.proofs.Owners.{stage-fed}
 
 abbrev pub IsBelow : ℕ → Option ℕ → Type 0
-IsBelow users None = ⊤
-IsBelow users (Some u) = u < users
+IsBelow tenants None = ⊤
+IsBelow tenants (Some t) = t < tenants
+
+abbrev NamesBelow : ℕ → Result Known (List ℕ) → Type 0
+NamesBelow tenants (Ok known) = known.tenant < tenants
+NamesBelow tenants (Err name) = ⊤
 
 abbrev pub AreUsers : ℕ → List User → Type 0
 AreUsers tenants users = AllByRecursion (λ (u : User). u.tenant < tenants) users
@@ -41,19 +46,19 @@ range-replied n head body s r = by (nat_lt 2147483647 (reply_size (throttled hea
     by true bytes = range-without n s.stage r
     by false bytes = r
 
-below-of : (n : ℕ) (us : List User) (name password : List ℕ) → AreUsers n us → IsBelow n (tenant_of us name password)
-below-of n [] name password h = tt
-below-of n (u ∷ us) name password h = by (bytes_eq u.name name && bytes_eq u.password password) (below-of n us name password h.1)
+below-of : (n place : ℕ) (us : List User) (name password : List ℕ) → AreUsers n us → NamesBelow n (known_or name (known_from place us name password))
+below-of n place [] name password h = tt
+below-of n place (u ∷ us) name password h = by (bytes_eq u.name name && bytes_eq u.password password) (below-of n (suc place) us name password h.1)
   where
-    by : (b : Bool) → IsBelow n (tenant_of us name password) → IsBelow n (cond b (Some u.tenant) (tenant_of us name password))
+    by : (b : Bool) → NamesBelow n (known_or name (known_from (suc place) us name password)) → NamesBelow n (known_or name (cond b (Some (record { user = place; tenant = u.tenant })) (known_from (suc place) us name password)))
     by true rest = h.0
     by false rest = rest
 
-below-at : (n : ℕ) (us : List User) (o : Option PlainLogin) → AreUsers n us → IsBelow n (tenant_at us o)
+below-at : (n : ℕ) (us : List User) (o : Option PlainLogin) → AreUsers n us → NamesBelow n (login_by us o)
 below-at n us None h = tt
-below-at n us (Some p) h = below-of n us p.authcid p.passwd h
+below-at n us (Some p) h = below-of n zero us p.authcid p.passwd h
 
-below-login : (n : ℕ) (us : List User) (message : List ℕ) → AreUsers n us → IsBelow n (login us message)
+below-login : (n : ℕ) (us : List User) (message : List ℕ) → AreUsers n us → NamesBelow n (login us message)
 unfolding login
 below-login n us message h = below-at n us (plain message) h
 
@@ -68,9 +73,9 @@ range-by n setup h head (Handshake v m) s us r = by (bytes_eq m _)
     by false = range-replied n head _ s r
 range-by n setup h head (Authenticate m) s us r = by h
   where
-    logs : (o : Option ℕ) → IsBelow n o → InRange n (logged_in o head s).stage
-    logs (Some t) b = range-replied n head _ (record s { stage = BoundTo t None }) b
-    logs None b = range-without n (replied head _ s).stage (range-replied n head _ s r)
+    logs : (o : Result Known (List ℕ)) → NamesBelow n o → InRange n (logged_in o head s).stage
+    logs (Ok known) b = range-replied n head _ (bound known s) b
+    logs (Err name) b = range-without n (replied head _ (failed name s)).stage (range-replied n head _ (failed name s) r)
 
     by : (b : Bool) → InRange n (authenticated setup b head m s).stage
     by true = logs (login setup.users m) (below-login n setup.users m us)
@@ -78,9 +83,9 @@ range-by n setup h head (Authenticate m) s us r = by h
 range-by n setup h head (Another k v b) s us r = range-without n s.stage r
 range-by n setup h head Malformed s us r = range-without n s.stage r
 
-range-bare : (n : ℕ) (o : Option ℕ) (s : Session) → IsBelow n o → InRange n s.stage → InRange n (bare_login o s).stage
-range-bare n (Some t) s b r = b
-range-bare n None s b r = range-without n s.stage r
+range-bare : (n : ℕ) (o : Result Known (List ℕ)) (s : Session) → NamesBelow n o → InRange n s.stage → InRange n (bare_login o s).stage
+range-bare n (Ok known) s b r = b
+range-bare n (Err name) s b r = range-without n s.stage r
 
 range-frame : (n : ℕ) (setup : Setup) (h : Greeting) (frame : List ℕ) (s : Session) → AreUsers n setup.users → InRange n s.stage → InRange n (greeted_frame setup h frame s).stage
 range-frame n setup Unshaken frame s us r = let q = request setup.versions frame in range-by n setup false q.head q.asked s us r

@@ -1,11 +1,12 @@
 -- The turns of connections.
-use Rattle.std.proofs.Common.{◌≡◌, ◌≢◌, ◌≤◌, ◌++◌, ℕ, ℤ, List, length, set, eqb, Bool, true, false, Option, Some, None, refl, sym, ◌∙◌, ap, subst, arith, inl, inr}
+use Rattle.std.proofs.Common.{◌≡◌, ◌≢◌, ◌≤◌, ◌++◌, ℕ, ℤ, List, length, set, eqb, Bool, true, false, Option, Some, None, Result, Ok, Err, refl, sym, ◌∙◌, ap, subst, arith, inl, inr}
 use Rattle.std.specs.Prelude.{cond, nat_lt, codes}
 use Rattle.std.specs.Str.{bytes_eq}
 use Rattle.kb_api_group.specs.Frames.{Front, Whole, Partial, TooSmall, TooLarge, front}
 use Rattle.kb_tenant.specs.Replies.{framed, reply_size}
 use Rattle.kb_isolation_spec.specs.declared.shut.Shut.TheVariants as causes
 use Rattle.kb_isolation_spec.specs.declared.head.Head.{Head}
+use Rattle.kb_isolation_spec.specs.declared.login.Known.{Known}
 use Rattle.kb_isolation_spec.specs.Requests.{Asked, Versions, OtherVersions, Handshake, Authenticate, Another, Malformed, request}
 use Rattle.std.proofs.lemmas.Bool.Decides.{nat_tests}
 use Rattle.kb_tenant_state.specs.Counts.{IsCalm}
@@ -15,7 +16,7 @@ use Rattle.kb_tenant_api.specs.Turns.{IsTurn}
 use Rattle.kb_tenant.specs.Replies.{Silent}
 use Rattle.kb_isolation_spec.specs.Tenant.{Wait, ready}
 use Rattle.kb_isolation_spec.specs.Session.{Greeting, Unshaken, Shaken, Bare, Stage, Session, Greets, BoundTo, shut_down, replied, throttled, without_wait, is_free, can, unanswerable}
-use Rattle.kb_isolation_spec.specs.Greeting.{Setup, for_tenant, login, logged_in, bare_login, greeting_after, shaken, greeted_by, greeted_frame, greeted_at, greeted}
+use Rattle.kb_isolation_spec.specs.Greeting.{Setup, for_tenant, login, logged_in, bare_login, bound, greeting_after, shaken, greeted_by, greeted_frame, greeted_at, greeted}
 use Rattle.kb_isolation_spec.specs.Machine.{Happening, Line, after_turn, put, each, on, those, first_able, all_woken, turns, find_line}
 use Rattle.kb_isolation_spec.specs.Owners.{Owns, whose}
 use Rattle.kb_isolation_spec.specs.Broker.{BrokerState, IsSound, IsUnready, AreUnready, AnyWait, Grows, InRange, Mine, view_of, kept_of, refusals_of, bound_to, bound_as}
@@ -106,9 +107,9 @@ free-replied head body s free = by (nat_lt 2147483647 (reply_size (throttled hea
     by true = free-without s.stage
     by false = free
 
-free-logged_in : (o : Option ℕ) (head : Head) (s : Session) → is_free s.stage ≡ true → is_free (logged_in o head s).stage ≡ true
-free-logged_in (Some t) head s free = free-replied head _ (record s { stage = BoundTo t None }) refl
-free-logged_in None head s free = free-without _
+free-logged_in : (o : Result Known (List ℕ)) (head : Head) (s : Session) → is_free s.stage ≡ true → is_free (logged_in o head s).stage ≡ true
+free-logged_in (Ok known) head s free = free-replied head _ (bound known s) refl
+free-logged_in (Err name) head s free = free-without _
 
 free-greeted_by : (setup : Setup) (h : Bool) (head : Head) (a : Asked) (s : Session) → is_free s.stage ≡ true → is_free (greeted_by setup h head a s).stage ≡ true
 unfolding greeted_by
@@ -124,9 +125,9 @@ free-greeted_by setup false head (Authenticate message) s free = free-replied he
 free-greeted_by setup h head (Another key version body) s free = free-without s.stage
 free-greeted_by setup h head Malformed s free = free-without s.stage
 
-free-bare_login : (o : Option ℕ) (s : Session) → is_free s.stage ≡ true → is_free (bare_login o s).stage ≡ true
-free-bare_login (Some t) s free = refl
-free-bare_login None s free = free-without s.stage
+free-bare_login : (o : Result Known (List ℕ)) (s : Session) → is_free s.stage ≡ true → is_free (bare_login o s).stage ≡ true
+free-bare_login (Ok known) s free = refl
+free-bare_login (Err name) s free = free-without s.stage
 
 free-greeted_frame : (setup : Setup) (h : Greeting) (frame : List ℕ) (s : Session) → is_free s.stage ≡ true → is_free (greeted_frame setup h frame s).stage ≡ true
 free-greeted_frame setup Unshaken frame s free = let r = request setup.versions frame in free-greeted_by setup false r.head r.asked s free

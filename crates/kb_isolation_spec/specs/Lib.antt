@@ -7,6 +7,7 @@ pub mod Greetings
 pub mod Isolation
 pub mod Left
 pub mod LimitsKept
+pub mod Logins
 pub mod Machine
 pub mod Names
 pub mod Owners

@@ -21,11 +21,12 @@ pub use base::Base;
 pub use head::Head;
 pub use login::{Known, Login, Name};
 pub use promises::{
-    alone_is_the_same, batches_are_of_each_turn, bound_for_good, fetches_end_at_their_deadline,
-    fetches_get_batches_in_runs, fetches_get_whole_batches, first_event, limits_are_kept,
-    members_wait_no_longer, nodes_are_a_tenants_own, nothing_before_login, one_tenants_in_order,
-    others_change_nothing, own_events_are_of_own_connections, own_events_stay_own, owners_at_entry,
-    room_is_kept, runs_go_on, strangers_are_greeted, throttle_times_stand_in_front, turns_end,
+    alone_is_the_same, batches_are_of_each_turn, bound_connections_have_logged_in, bound_for_good,
+    fetches_end_at_their_deadline, fetches_get_batches_in_runs, fetches_get_whole_batches,
+    first_event, limits_are_kept, members_wait_no_longer, nodes_are_a_tenants_own,
+    nothing_before_login, one_tenants_in_order, others_change_nothing,
+    own_events_are_of_own_connections, own_events_stay_own, owners_at_entry, room_is_kept,
+    runs_go_on, strangers_are_greeted, throttle_times_stand_in_front, turns_end,
 };
 pub use shut::Shut;
 pub use whom::Whom;

@@ -36,7 +36,7 @@ impl Name {
         ensures { result ≡ kept_name name.now }
     {
         let mut bytes = [0; NAME_LIMIT];
-        let len = name.len().min(NAME_LIMIT);
+        let len = NAME_LIMIT.min(name.len());
         bytes[..len].copy_from_slice(&name[..len]);
         Name { bytes, len }
     }

@@ -1,9 +1,10 @@
 //! Laws about the definitions, each as the contract of a function with an empty body.
 ghost use Rattle.std.specs.Prelude.{◌≡◌, ◌↔◌, ◌≤◌, ◌<◌, ◌+◌, ◌^◌, ◌++◌, ◌∷◌, ℕ, ℤ, pos, List, [], Bool, true, false, length, max};
-ghost use Rattle.std.specs.Prelude.{Ok, Option, Some, None};
+ghost use Rattle.std.specs.Prelude.{Ok, Err, Option, Some, None};
 ghost use Rattle.std.specs.List.{Contains};
 ghost use Rattle.kb_wire.specs.declared.api_key.TheConstants.{DELETE_TOPICS, FETCH, JOIN_GROUP};
 ghost use Rattle.kb_isolation_spec.specs.declared.head.Head.{Head};
+ghost use Rattle.kb_isolation_spec.specs.declared.login.Login.TheVariants as logins;
 ghost use Rattle.kb_isolation_spec.specs.declared.shut.Shut.TheVariants as causes;
 ghost use Rattle.kb_isolation_spec.specs.Session.{Session, Stage, Bare, BoundTo, LIMIT, fed, has_member, overruns, replied, shut_down};
 ghost use Rattle.kb_isolation_spec.specs.Session.{without_wait};
@@ -20,7 +21,7 @@ ghost use Rattle.kb_tenant.specs.Replies.{Replies, framed};
 ghost use Rattle.kb_isolation_spec.specs.Versions.{base_of};
 ghost use Rattle.kb_coordinator.specs.Calls.{left};
 ghost use Rattle.kb_tenant_api.specs.Hosted.{Kept, passed};
-ghost use Rattle.kb_isolation_spec.specs.Greeting.{Setup, for_tenant, greeted, greeted_by, login, node_of};
+ghost use Rattle.kb_isolation_spec.specs.Greeting.{Setup, failed, for_tenant, greeted, greeted_by, login, node_of};
 ghost use Rattle.kb_isolation_spec.specs.Machine.{View, Line, Happening, Opens, Comes, Closes, Moment, Sent, again, all_woken, each, on};
 ghost use Rattle.kb_isolation_spec.specs.Machine.{first_able, turn, turns, work, those, those_sent, find_line, after_turn, kept_fed, step};
 ghost use Rattle.kb_isolation_spec.specs.Machine.{stepped, leaving, run, by_number, woken};
@@ -30,6 +31,7 @@ ghost use Rattle.kb_isolation_spec.specs.Broker.{kept_of, view_of};
 ghost use Rattle.kb_isolation_spec.specs.Greetings.{greeted_alone};
 ghost use Rattle.kb_isolation_spec.specs.Isolation.{IsIsolated, StartsAlike, AreAlike, own_events, own_sent};
 ghost use Rattle.kb_isolation_spec.specs.Left.{last_world, LeavesWorlds};
+ghost use Rattle.kb_isolation_spec.specs.Logins.{HaveLoggedIn};
 ghost use Rattle.kb_isolation_spec.specs.Alone.{HasToItself};
 ghost use Rattle.kb_isolation_spec.specs.Told.{quieted};
 ghost use Rattle.kb_isolation_spec.specs.LimitsKept.{IsMachineOf, StaysWithin};
@@ -175,15 +177,17 @@ pub fn members_wait_no_longer()
         → (step (Closes n) w).kept ≡ w.kept }
 {}
 
-/// Before authentication a request of a tenant shuts the connection; a login that names no user with its password shuts it. After a
-/// handshake of version 0 the next frame is the login whatever it says, a request too, and a wrong one shuts it without a reply.
+/// Before authentication a request of a tenant shuts the connection; a login that names no user with its password shuts it, and the name
+/// in it is kept. After a handshake of version 0 the next frame is the login whatever it says, a request too, and a wrong one shuts it
+/// without a reply.
 pub fn nothing_before_login()
     ensures request { (setup : Setup) (handshaken : Bool) (head : Head) (key version : ℤ) (body : List ℕ) (s : Session)
         → greeted_by setup handshaken head (Another key version body) s ≡ shut_down (causes.NotLoggedIn head.api_key head.api_version) s }
-    ensures denied { (setup : Setup) (head : Head) (message : List ℕ) (s : Session) → login setup.users message ≡ None
-        → (greeted_by setup true head (Authenticate message) s).shut ≡ true }
-    ensures bare { (setup : Setup) (frame rest : List ℕ) (s : Session) → front s.unread ≡ Whole frame rest → login setup.users frame ≡ None
-        → greeted setup Bare s ≡ shut_down causes.Denied s }
+    ensures denied { (setup : Setup) (head : Head) (message name : List ℕ) (s : Session) → login setup.users message ≡ Err name
+        → let after : Session = greeted_by setup true head (Authenticate message) s in
+        (after.shut ≡ true) × (after.login ≡ logins.Failed name) }
+    ensures bare { (setup : Setup) (frame rest name : List ℕ) (s : Session) → front s.unread ≡ Whole frame rest
+        → login setup.users frame ≡ Err name → greeted setup Bare s ≡ shut_down causes.Denied (failed name s) }
 {}
 
 /// A reply to a version whose throttle time the tenant's answer has not begins with one of 0 milliseconds behind its correlation id, and
@@ -198,6 +202,17 @@ pub fn throttle_times_stand_in_front()
         ≡ record s { output = s.output ++ framed id body } }
     ensures join { base_of JOIN_GROUP (pos 2) ≡ record { version = pos 1; is_throttled = true } }
     ensures deletion { base_of DELETE_TOPICS (pos 3) ≡ record { version = pos 1; is_throttled = false } }
+{}
+
+/// A connection that is bound to a tenant has logged in as a user of that tenant, at each moment of a machine's run that begins with
+/// nobody connected, or where it was so before. So it is on the broker of all tenants, where nothing is refused to the tenant or to a
+/// connection that is not bound.
+pub fn bound_connections_have_logged_in()
+    ensures machine { (last : ℕ) (es : List Happening) (w : View) → Rising 0 last w.lines → IsRun last es
+        → HaveLoggedIn w.setup.users w.lines → HaveLoggedIn w.setup.users (last_world es w).lines }
+    ensures broker { (t : ℕ) (mine : ℕ → Bool) (es later : List Happening) (a b : BrokerState) (got : List Sent)
+        → a.lines ≡ [] → IsRun a.last es → LeavesWorlds es a b got → Mine t mine (es ++ later) a → IsCalmFor t a b
+        → HaveLoggedIn a.setup.users (those mine b.lines) }
 {}
 
 /// A connection stays its tenant's for good, whatever it asks.

@@ -204,10 +204,10 @@ topics_until_all most version out ts =
 pub metadata_until : (most : ℕ) (w : World) (node : Node) (version : ℤ) (r : MetadataRequest) (asked : Option (List (List ℕ))) (old s1 s2 : List ℕ) → r.topics ≡ asked
     → s1 ++ topics_in version (topics_asked w.known.topics asked) ≡ old ++ metadata_in version (reply_with node (topics_asked w.known.topics asked))
     → s2 ≡ topics_until most version s1 (topics_asked w.known.topics asked) → IsMetadataUntil most version (metadata_of w node r) old s2
-metadata_until most w node version r asked old s1 s2 is front behind =
-    subst (λ o. IsMetadataUntil most version (reply_with node (topics_asked w.known.topics o)) old s2) (sym is) (s1, (front, behind))
+metadata_until most w node version r asked old s1 s2 is front made =
+    subst (λ o. IsMetadataUntil most version (reply_with node (topics_asked w.known.topics o)) old s2) (sym is) (s1, front, made)
 
 pub metadata_until_all : (most : ℕ) (version : ℤ) (r : MetadataReply) (old new : List ℕ) → IsMetadataUntil most version r old new → AreUntil most (old ++ metadata_in version r) new
 metadata_until_all most version r old new until =
-    are_until most (until.0 ++ topics_in version r.topics) (old ++ metadata_in version r) (topics_until most version until.0 r.topics) new until.1.0 until.1.1
+    are_until most (until.0 ++ topics_in version r.topics) (old ++ metadata_in version r) (topics_until most version until.0 r.topics) new until.1 until.2
     (topics_until_all most version until.0 r.topics)

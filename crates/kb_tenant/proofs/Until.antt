@@ -79,3 +79,13 @@ until_none most write out = refl
 pub until_behind : (most : ℕ) (all bytes more : List ℕ) → AreUntil most all bytes → AreUntil most (all ++ more) (bytes ++ more)
 until_behind most all bytes more (inl same) = inl (ap (λ s. s ++ more) same)
 until_behind most all bytes more (inr many) = inr (longer most all more many.0, longer most bytes more many.1)
+
+-- Where the bytes are too many, so are all.
+pub until_long : (most : ℕ) (all bytes : List ℕ) → most < length bytes → AreUntil most all bytes → most < length all
+until_long most all bytes many (inl same) = subst (λ s. most < length s) same many
+until_long most all bytes many (inr both) = both.0
+
+-- Where they are not, they are all.
+pub until_same : (most : ℕ) (all bytes : List ℕ) → length bytes ≤ most → AreUntil most all bytes → bytes ≡ all
+until_same most all bytes few (inl same) = same
+until_same most all bytes few (inr both) = absurd (omega (arith, few, both.1))

@@ -81,7 +81,6 @@ pub fn most_bytes(limit: Option<u64>) -> usize
 /// The same as `finish`, for a reply that is to be no longer than a limit allows.
 ///
 /// One whose size is above it shuts the connection. Its writing may stop as soon as it is longer (`most_bytes`).
-#[tactic(auto, using(crate::proofs::Framing::within_shut, crate::proofs::Framing::within_whole))]
 pub fn finish_within(limit: Option<u64>, sink: Sink) -> Answer
     ensures { (id : ℤ) (body : List ℕ) → AreUntil (most_bytes limit) (begun id ++ body) sink.bytes
         → IsAnswer id (replies_within limit body) result }

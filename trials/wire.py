@@ -105,18 +105,18 @@ def free_port():
                 return port
 
 
-def place(topic):
-    """An array of one topic, of which one partition: the partition 0."""
-    return struct.pack(">i", 1) + text(topic) + struct.pack(">ii", 1, 0)
+def place(topic, partition=0):
+    """An array of one topic, of which one partition."""
+    return struct.pack(">i", 1) + text(topic) + struct.pack(">ii", 1, partition)
 
 
-# ---- Requests: a key, a version, a body, and what reads the reply. Topics have one partition.
+# ---- Requests: a key, a version, a body, and what reads the reply. Where no partition is named it is the partition 0.
 
 
-def create(topic, **config):
+def create(topic, partitions=1, **config):
     """Makes a topic; the reply's error code. A setting's name has _ for a dot."""
     pairs = b"".join(text(k.replace("_", ".").encode()) + text(str(v).encode()) for k, v in config.items())
-    body = struct.pack(">i", 1) + text(topic) + struct.pack(">ihi", 1, 1, 0) + struct.pack(">i", len(config)) + pairs
+    body = struct.pack(">i", 1) + text(topic) + struct.pack(">ihi", partitions, 1, 0) + struct.pack(">i", len(config)) + pairs
     return 19, 0, body + struct.pack(">i", 5000), lambda got: struct.unpack_from(">h", got, 6 + len(topic))[0]
 
 
@@ -126,21 +126,21 @@ def delete(topic):
     return 20, 0, body, lambda got: struct.unpack_from(">h", got, 6 + len(topic))[0]
 
 
-def produce(topic, sent):
+def produce(topic, sent, partition=0):
     """Sends a batch; the error code and the offset."""
-    body = struct.pack(">hhi", -1, 1, 5000) + place(topic) + struct.pack(">i", len(sent)) + sent
+    body = struct.pack(">hhi", -1, 1, 5000) + place(topic, partition) + struct.pack(">i", len(sent)) + sent
     return 0, 3, body, lambda got: struct.unpack_from(">hq", got, 14 + len(topic))
 
 
-def delete_records(topic, offset):
+def delete_records(topic, offset, partition=0):
     """Deletes the records below an offset; the error code."""
-    body = place(topic) + struct.pack(">qi", offset, 5000)
+    body = place(topic, partition) + struct.pack(">qi", offset, 5000)
     return 21, 0, body, lambda got: struct.unpack_from(">h", got, 26 + len(topic))[0]
 
 
-def commit(group, topic, metadata=b"", offset=0):
+def commit(group, topic, metadata=b"", offset=0, partition=0):
     """Commits an offset of a group; the error code."""
-    body = text(group) + struct.pack(">i", -1) + text(b"") + struct.pack(">q", -1) + place(topic)
+    body = text(group) + struct.pack(">i", -1) + text(b"") + struct.pack(">q", -1) + place(topic, partition)
     return 8, 2, body + struct.pack(">q", offset) + text(metadata), lambda got: struct.unpack_from(">h", got, 14 + len(topic))[0]
 
 
@@ -149,7 +149,7 @@ def committed(group, topic):
     return 9, 1, text(group) + place(topic), lambda got: struct.unpack_from(">q", got, 14 + len(topic))[0]
 
 
-def fetch(topic, offset):
+def fetch(topic, offset, partition=0):
     """Asks for at most 1 MiB from an offset on; the error code, the high watermark and the bytes."""
     at = 18 + len(topic)
 
@@ -157,13 +157,13 @@ def fetch(topic, offset):
         code, mark = struct.unpack_from(">hq", got, at)
         return code, mark, got[at + 26:at + 26 + struct.unpack_from(">i", got, at + 22)[0]]
 
-    return 1, 4, struct.pack(">iiiib", -1, 0, 1, 1 << 20, 0) + place(topic) + struct.pack(">qi", offset, 1 << 20), read
+    return 1, 4, struct.pack(">iiiib", -1, 0, 1, 1 << 20, 0) + place(topic, partition) + struct.pack(">qi", offset, 1 << 20), read
 
 
-def offset_at(topic, moment):
+def offset_at(topic, moment, partition=0):
     """Asks for the start of a log (-2), its end (-1), or a record by time; the error code and the offset."""
-    at = 14 + len(topic)
-    return 2, 1, struct.pack(">i", -1) + place(topic) + struct.pack(">q", moment), lambda got: struct.unpack_from(">hxxxxxxxxq", got, at)
+    body, at = struct.pack(">i", -1) + place(topic, partition) + struct.pack(">q", moment), 14 + len(topic)
+    return 2, 1, body, lambda got: struct.unpack_from(">hxxxxxxxxq", got, at)
 
 
 def producer_id():
@@ -190,22 +190,29 @@ class Cursor:
         return [self.take(form) for _ in range(self.take(">i"))]
 
 
-def topics():
-    """Asks for all topics; their names."""
+def partitions():
+    """Asks for all topics; how many partitions each has, by its name."""
     def read(got):
-        it, names = Cursor(got), []
+        it, counts = Cursor(got), {}
         for _ in range(it.take(">i")):
             it.take(">i"), it.text(), it.take(">i"), it.text()
         it.take(">i")
         for _ in range(it.take(">i")):
             it.take(">h")
-            names.append(it.text())
+            name = it.text()
             it.take(">?")
-            for _ in range(it.take(">i")):
+            counts[name] = it.take(">i")
+            for _ in range(counts[name]):
                 it.take(">h"), it.take(">i"), it.take(">i"), it.array(">i"), it.array(">i")
-        return names
+        return counts
 
     return 3, 1, struct.pack(">i", -1), read
+
+
+def topics():
+    """Asks for all topics; their names."""
+    key, version, body, read = partitions()
+    return key, version, body, lambda got: list(read(got))
 
 
 class Client:

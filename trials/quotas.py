@@ -6,14 +6,23 @@
 The settings give one tenant 10,000,000 bytes of batches, 4 topics, 12 partitions and 5 committed offsets; another has no limits. A request
 may name 2,000 entries. What is looked at is what stands in OPERATING, "What happens at each limit": which request is answered 44
 (POLICY_VIOLATION), that nothing of it is kept, and that deletions make room, also after the broker was killed and started again. Then it is
-started with lower limits: nothing is dropped, and what grows is refused. It prints `N of M wrong`.
+started with lower limits: nothing is dropped, and what grows is refused.
+
+Where kcat is installed, `kcat -P` sends 160 messages of 100,000 bytes to a tenant that may have 10,485,760, without idempotence and with it.
+Each message that does not fit has to fail at once, by the word for 44, and those before it are there. It goes on once the records are deleted.
+Another tenant's metrics stay as they are. It prints `N of M wrong`.
 """
 
+import re
+import shutil
 import struct
+import subprocess
 import sys
 import tempfile
+import time
+import urllib.request
 
-from wire import Broker, Client, batch, castagnoli, committed, offset_at, text, topics
+from wire import Broker, Client, batch, castagnoli, committed, free_port, offset_at, text, topics
 
 LIMITED = """request_entries = 2000
 
@@ -35,7 +44,17 @@ partitions = 2
 offsets = 1
 """
 
+STOCK = """metrics = "127.0.0.1:{port}"
+
+[[tenant]]
+name = "a"
+bytes = 10485760
+"""
+
 VALUE = bytes(900_000)
+
+MESSAGES, LONG, AT_ONCE = 160, 100_000, 20
+DELIVERY = re.compile(r"Message delivered to partition 0 \(offset (\d+)\)|Delivery failed for message: (.*)")
 
 
 def creation(names, only_checked=False):
@@ -84,6 +103,15 @@ def is_closed(client, request):
     return False
 
 
+def is_told(broker, word):
+    """Whether the log says that within two seconds: it is written behind the close."""
+    for _ in range(200):
+        if word in broker.log():
+            return True
+        time.sleep(0.01)
+    return False
+
+
 def at_limits(broker):
     """What is wrong at each limit, by name."""
     ann, bob = Client(broker.port), Client(broker.port, b"bob", b"pw2")
@@ -115,7 +143,7 @@ def at_limits(broker):
 
     yield "2,000 entries are served", not is_closed(Client(broker.port), many_names(1_999))
     yield "a request with more closes its connection", is_closed(Client(broker.port), many_names(2_001))
-    yield "the log names it", "Metadata" in broker.log()
+    yield "the log names it", is_told(broker, "Metadata")
     yield "deleted topics make room", ann.delete(b"three") == 0 and ann.all([creation([(b"five", 3)])])[0] == [0]
 
 
@@ -152,16 +180,55 @@ def lowered(broker):
     yield "what is below the limit is taken", ann.delete_records(b"one", -1) == 0 and ann.produce(b"one", batch(b"x"))[0] == 0
 
 
-def main(program):
-    """Whether each limit holds, and holds nobody else."""
+def kcat(broker, *settings):
+    """What `kcat -P` is told of each message, in their order: its offset, or why it failed; and in how many seconds."""
+    words = ["kcat", "-P", "-t", "stock", "-vvv", "-b", f"127.0.0.1:{broker.port}"]
+    for it in ("security.protocol=SASL_PLAINTEXT", "sasl.mechanisms=PLAIN", "sasl.username=ann", "sasl.password=pw1", *settings):
+        words += ["-X", it]
+    lines = "".join(f"{number}".ljust(LONG, "x") + "\n" for number in range(MESSAGES))
+    began = time.monotonic()
+    said = subprocess.run(words, input=lines, capture_output=True, text=True, timeout=200).stderr
+    return [int(offset) if offset else fault for offset, fault in DELIVERY.findall(said)], time.monotonic() - began
+
+
+def figures(port, tenant):
+    """The lines of metrics that name a tenant."""
+    with urllib.request.build_opener(urllib.request.ProxyHandler({})).open(f"http://127.0.0.1:{port}/metrics", timeout=10) as it:
+        return [line for line in it.read().decode().split("\n") if f'tenant="{tenant}"' in line]
+
+
+def stock_client(broker, shown):
+    """What is wrong where a stock client comes to the limit."""
+    ann, bob, first = Client(broker.port), Client(broker.port, b"bob", b"pw2"), 0
+    ann.create(b"stock")
+    bob.create(b"other")
+    bob.produce(b"other", batch(VALUE))
+    before = figures(shown, "b")
+    for name, settings in (("kcat", ()), ("idempotent kcat", ("enable.idempotence=true",))):
+        told, took = kcat(broker, "batch.num.messages=1", *settings)
+        fit = sum(isinstance(it, int) for it in told)
+        size = 12 + struct.unpack_from(">i", ann.fetch(b"stock", first)[2], 8)[0]
+        print(f"{name}: {fit} of {len(told)} messages are there, each a batch of {size} bytes; all were told in {took:.1f} s")
+        yield f"{name} is told of each message", len(told) == MESSAGES
+        yield f"{name}: those before the limit are there", told[:fit] == list(range(first, first + fit)) and fit == 10_485_760 // size
+        yield f"{name}: all others fail by 44", set(told[fit:]) == {"Broker: Policy violation"}
+        yield f"{name}: they fail at once", took < AT_ONCE
+        yield f"{name}: nothing else is there", ann.all([offset_at(b"stock", -1)])[0] == (0, first + fit)
+        yield f"{name}: a deletion makes room", ann.delete_records(b"stock", -1) == 0
+        first += fit
+    yield "another tenant's figures are as before", figures(shown, "b") == before
+    yield "another tenant's batches", bob.produce(b"other", batch(VALUE)) == (0, 1)
+
+
+def played(program, rounds):
+    """How many looks were wrong, and how many there were, of brokers that follow each other on a new folder."""
     wrong = count = 0
     with tempfile.TemporaryDirectory() as room:
-        for more, looks in ((LIMITED, at_limits), (LIMITED, repeats), (LIMITED, started_again), (LOWER, lowered)):
+        for more, looks in rounds:
             broker = Broker(program, room, more)
             try:
                 if not broker.listens():
-                    print(f"the broker does not listen: {broker.log()}")
-                    return 1
+                    raise SystemExit(f"the broker does not listen: {broker.log()}")
                 for name, is_well in looks(broker):
                     count += 1
                     if not is_well:
@@ -169,6 +236,18 @@ def main(program):
                         print(f"wrong: {name}")
             finally:
                 broker.stop()
+    return wrong, count
+
+
+def main(program):
+    """Whether each limit holds, and holds nobody else."""
+    shown = free_port()
+    wrong, count = played(program, ((LIMITED, at_limits), (LIMITED, repeats), (LIMITED, started_again), (LOWER, lowered)))
+    if shutil.which("kcat"):
+        more = played(program, [(STOCK.format(port=shown), lambda broker: stock_client(broker, shown))])
+        wrong, count = wrong + more[0], count + more[1]
+    else:
+        print("there is no kcat here: its part is left out")
     print(f"{wrong} of {count} wrong")
     return 1 if wrong else 0
 

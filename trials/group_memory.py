@@ -1,12 +1,12 @@
 #!/usr/bin/env python3
 """A tenant whose clients join groups with much metadata, and go, takes its share of memory and no more, and no other tenant hears of it.
 
-    trials/group_memory.py KBROKER
+    trials/group_memory.py KBROKER [JOINS]
 
-For up to thirty seconds one connection after the other joins a group of one tenant with 2,000,000 bytes of metadata, and closes: 10,000 at
-most. None waits for the end of its member's session, which is thirty minutes away. The process has to stay within 90,000,000 bytes more
-than it began with, and the first join that is refused has to be answered 81 (GROUP_MAX_SIZE_REACHED). A member of another tenant joins,
-is given its assignment, and is answered its heartbeats all the while.
+One connection after the other joins a group of one tenant with 2,000,000 bytes of metadata, and closes: 10,000 of them, or so many. None
+waits for the end of its member's session, which is thirty minutes away. The process has to stay below 90,000,000 bytes. From the first join
+on that is refused each has to be answered 81 (GROUP_MAX_SIZE_REACHED). A member of another tenant joins, is given its assignment, and is
+answered its heartbeats all the while.
 
 Then the settings give one tenant two groups and 3,000,000 bytes. Its second join of that size is answered 81, and its third group 15
 (COORDINATOR_NOT_AVAILABLE); the other tenant has what it had. It prints `N of M wrong`.
@@ -20,9 +20,8 @@ import time
 from wire import Broker, Client, text
 
 JOINS = 10_000
-SECONDS = 30
 METADATA = 2_000_000
-MORE = 90_000_000
+MOST = 90_000_000
 SESSION = 1_800_000
 
 SMALL = """
@@ -70,39 +69,38 @@ def resident(broker):
         return next(int(line.split()[1]) * 1024 for line in it if line.startswith("VmRSS:"))
 
 
-def flood(broker, beat):
-    """The codes of the joins by how often each came, and the most memory; it beats at each hundredth."""
-    codes, most, began = {}, 0, time.monotonic()
-    for number in range(JOINS):
-        if time.monotonic() > began + SECONDS:
-            break
+def flood(broker, joins, beat):
+    """The codes of the joins in their order, and the most memory; it beats at each hundredth."""
+    codes, most, metadata = [], 0, bytes(METADATA)
+    for number in range(joins):
         client = Client(broker.port)
-        code = joined(client.ask(*join(b"big%d" % number, bytes(METADATA))))[0]
+        codes.append(joined(client.ask(*join(b"big%d" % number, metadata)))[0])
         client.socket.close()
-        codes[code] = codes.get(code, 0) + 1
         most = max(most, resident(broker))
         if number % 100 == 0:
             beat()
     return codes, most
 
 
-def looked_at(broker):
+def looked_at(broker, joins):
     """What is wrong, of what was looked at."""
     other, beats = Client(broker.port, b"bob", b"pw2"), []
     code, generation, member = joined(other.ask(*join(b"quiet", b"topics")))
     own = other.ask(*sync(b"quiet", generation, member))
-    began = resident(broker)
-    codes, most = flood(broker, lambda: beats.append(struct.unpack(">h", other.ask(*heartbeat(b"quiet", generation, member)))[0]))
+    before, began = resident(broker), time.monotonic()
+    codes, most = flood(broker, joins, lambda: beats.append(struct.unpack(">h", other.ask(*heartbeat(b"quiet", generation, member)))[0]))
+    taken = codes.count(0)
     looks = {
         "another tenant's join": code == 0,
         "another tenant's assignment": own.endswith(b"partition"),
         "another tenant's heartbeats": beats and not any(beats),
-        "some joins are taken": codes.get(0, 0) > 20,
-        "most are refused with 81": codes.get(81, 0) > 100,
-        "none is answered otherwise": set(codes) <= {0, 81},
-        "memory": most < began + MORE,
+        "some joins are taken": taken > 20,
+        "the first ones are taken, and all others refused with 81": codes == [0] * taken + [81] * (joins - taken),
+        "most are refused": joins - taken > 100,
+        "memory": most < MOST,
     }
-    print(f"joins by code {codes}; {began} bytes before, {most} at most; {len(beats)} heartbeats of another tenant")
+    print(f"{joins} joins in {time.monotonic() - began:.0f} s: {taken} taken, {codes.count(81)} answered 81; "
+          f"{before} bytes before, {most} at most; {len(beats)} heartbeats of another tenant")
     for name, is_well in looks.items():
         if not is_well:
             print(f"wrong: {name}")
@@ -127,10 +125,10 @@ def limited(broker):
     return sum(not it for it in looks.values()), len(looks)
 
 
-def main(program):
+def main(program, joins=JOINS):
     """Whether groups' memory has its limit."""
     sums = [0, 0]
-    for more, look in (("", looked_at), (SMALL, limited)):
+    for more, look in (("", lambda broker: looked_at(broker, joins)), (SMALL, limited)):
         with tempfile.TemporaryDirectory() as room:
             broker = Broker(program, room, more)
             try:
@@ -145,6 +143,6 @@ def main(program):
 
 
 if __name__ == "__main__":
-    if len(sys.argv) != 2:
+    if not 2 <= len(sys.argv) <= 3:
         sys.exit(__doc__)
-    sys.exit(main(sys.argv[1]))
+    sys.exit(main(sys.argv[1], *map(int, sys.argv[2:])))

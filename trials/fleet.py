@@ -7,10 +7,13 @@ It wants root, `ip netns`, HAProxy and OpenSSL. Settings come from `examples/fle
 the name of its own, which TLS tells (SNI), and commit offsets. Then one moves by the steps of FLEET, and later a broker is killed with its
 network, and a standby goes on with the last backup. What is looked at: each tenant is told its own address; each acknowledged record is
 where it was acknowledged, also after the move; groups go on from their offsets; on the standby all is there that was acknowledged before
-the backup began. It prints the longest pause of each tenant, and `N of M wrong`.
+the backup began. Prometheus, where it is installed, scrapes all of them by the fleet's file: each target is up, before and after; each tenant
+is on its own broker's page; and what it says of topics, bytes and lag over the fleet is so. It prints the longest pause of each tenant, and
+`N of M wrong`.
 """
 
 import contextlib
+import json
 import os
 import shutil
 import signal
@@ -23,12 +26,15 @@ import tempfile
 import threading
 import time
 import tomllib
+import urllib.error
+import urllib.parse
+import urllib.request
 
 from wire import Client, batch, commit, committed, create, fetch, offset_at, text
 
 HERE = os.path.dirname(os.path.realpath(__file__))
 EXAMPLES = f"{HERE}/../examples"
-NET, PROXY, PORT = "kb-fleet", "10.77.0.1", 9093
+NET, PROXY, PORT, SHOWN = "kb-fleet", "10.77.0.1", 9093, "127.0.0.1:9090"
 ADDRESS = {"one": "10.77.0.11", "two": "10.77.0.12", "three": "10.77.0.13", "standby": "10.77.0.14"}
 
 
@@ -145,6 +151,86 @@ class Customer(threading.Thread):
         return set(expected) <= there and (before is not None or offset == self.commits[-1])
 
 
+def soon(holds):
+    """Whether that holds within twenty seconds."""
+    for _ in range(200):
+        with contextlib.suppress(OSError, KeyError):
+            if holds():
+                return True
+        time.sleep(0.1)
+    return False
+
+
+def page(address, token=None):
+    """A page over HTTP, or the status where it is refused."""
+    request = urllib.request.Request(f"http://{address}", headers={"Authorization": f"Bearer {token}"} if token else {})
+    try:
+        with urllib.request.build_opener(urllib.request.ProxyHandler({})).open(request, timeout=5) as it:
+            return it.read()
+    except urllib.error.HTTPError as fault:
+        return fault.code
+
+
+class Prometheus:
+    """A Prometheus that scrapes by the fleet's file, but twice a second."""
+
+    def __init__(self, room):
+        with open(f"{room}/fleet/prometheus.yml", encoding="utf-8") as it:
+            words = it.read()
+        with open(f"{room}/prometheus.yml", "w", encoding="utf-8") as out:
+            out.write("global: {scrape_interval: 500ms, scrape_timeout: 500ms}\n" + words)
+        words = ["prometheus", f"--config.file={room}/prometheus.yml", f"--storage.tsdb.path={room}/tsdb", f"--web.listen-address={SHOWN}"]
+        self.process = subprocess.Popen(words, stdout=subprocess.DEVNULL, stderr=subprocess.DEVNULL)
+
+    def targets(self):
+        """Whether each target is up, by its address."""
+        told = json.loads(page(f"{SHOWN}/api/v1/targets?state=active"))["data"]["activeTargets"]
+        return {it["labels"]["instance"]: it["health"] == "up" for it in told}
+
+    def says(self, query, *labels):
+        """The values of a query, by these labels."""
+        words = urllib.parse.urlencode({"query": query})
+        told = json.loads(page(f"{SHOWN}/api/v1/query?{words}"))["data"]["result"]
+        return {tuple(it["metric"].get(label) for label in labels): float(it["value"][1]) for it in told}
+
+    def stop(self):
+        self.process.kill()
+        self.process.wait()
+
+
+def pages_are_well(room, token):
+    """What promtool says of the fleet's file and of each broker's page, and who is shown no page."""
+    checked = subprocess.run(["promtool", "check", "config", f"{room}/fleet/prometheus.yml"], capture_output=True, text=True)
+    yield f"promtool of the configuration: {checked.stdout}{checked.stderr}", checked.returncode == 0
+    for name in ("one", "two", "three"):
+        address = f"{ADDRESS[name]}:9644/metrics"
+        checked = subprocess.run(["promtool", "check", "metrics"], input=page(address, token), capture_output=True)
+        yield f"promtool of the page of {name}: {checked.stderr.decode()}", checked.returncode == 0
+        yield f"the page of {name} without its token", page(address) == 401
+
+
+def watched(prometheus, table):
+    """Whether Prometheus sees each broker, and each tenant on its own one."""
+    up = {f"{ADDRESS[name]}:9644": True for name in ("one", "two", "three")}
+    yield "all targets are up", soon(lambda: prometheus.targets() == up)
+    topics = {(name, f'{ADDRESS[it["broker"]]}:9644'): 1.0 for name, it in table.items()}
+    yield "each tenant's topic is on its broker", soon(lambda: prometheus.says("kbroker_topics", "tenant", "instance") == topics)
+    groups = {(name, "readers") for name in table}
+    lag = "max by (tenant, group) (kbroker_group_lag)"
+    yield "each group has its lag", soon(lambda: set(prometheus.says(lag, "tenant", "group")) == groups)
+    sent = "sum by (tenant) (rate(kbroker_request_bytes_total[5m]))"
+    yield "each tenant sends", soon(lambda: [it > 0 for it in prometheus.says(sent, "tenant").values()] == [True] * len(table))
+
+
+def lags(customers):
+    """By how much each tenant's group is behind, as its client is told."""
+    out = {}
+    for it in customers:
+        (_, end), offset = it.client().all([offset_at(b"orders", -1), committed(b"readers", b"orders")])
+        out[it.name, "readers"] = float(end - offset)
+    return out
+
+
 def settings_of(fleet, room):
     """Makes all files of a fleet's table, with the certificate beside them."""
     run(f"{EXAMPLES}/fleet/settings.py", fleet, f"{room}/fleet")
@@ -204,8 +290,8 @@ def standby(room, machines, customers):
     return before
 
 
-def looked_at(program, room):
-    """What holds, by name."""
+def began(program, room):
+    """The machines, the proxy, the tenants' table, and their customers, none of whom has begun."""
     fleet, authority = f"{room}/fleet.toml", certificate(room)
     shutil.copy(f"{EXAMPLES}/fleet/fleet.toml", fleet)
     settings_of(fleet, room)
@@ -213,21 +299,38 @@ def looked_at(program, room):
     for name in ("one", "two", "three"):
         machines[name].start(f"{room}/fleet/{name}.toml")
     time.sleep(0.5)
-    with open(fleet, "rb") as it:
-        table = tomllib.load(it)["tenants"]
     proxy = subprocess.Popen(["haproxy", "-W", "-db", "-f", f"{room}/fleet/haproxy.cfg"], stderr=subprocess.DEVNULL)
-    customers = [Customer(name, it, authority) for name, it in table.items()]
+    table = table_of(fleet)
     time.sleep(0.5)
+    return fleet, machines, proxy, table, [Customer(name, it, authority) for name, it in table.items()]
+
+
+def table_of(fleet, what="tenants"):
+    """The tenants of a fleet's file, or what else stands in it."""
+    with open(fleet, "rb") as it:
+        return tomllib.load(it)[what]
+
+
+def looked_at(program, room):
+    """What holds, by name."""
+    fleet, machines, proxy, table, customers = began(program, room)
+    prometheus = Prometheus(room) if shutil.which("prometheus") and shutil.which("promtool") else None
+    if not prometheus:
+        print("there is no Prometheus here: its part is left out")
     for it in customers:
         client = it.client()
         yield f"{it.name} is told its address", client.told() == (it.host, PORT)
         client.create(b"orders")
         it.start()
     yield "all produce", is_up(customers)
+    if prometheus:
+        yield from pages_are_well(room, table_of(fleet, "metrics_token"))
+        yield from watched(prometheus, table)
     stood = moved(program, room, fleet, machines, proxy)
     yield "all produce after the move", is_up(customers)
     pauses = {it.name: round(it.pause, 2) for it in customers}
     print(f"brokers stood still for { {name: round(it, 2) for name, it in stood.items()} } s; the longest pause of each: {pauses}")
+    yield from watched(prometheus, table_of(fleet)) if prometheus else []
     for it in customers:
         it.pause = 0.0
     before = standby(room, machines, [it for it in customers if table[it.name]["broker"] == "two"])
@@ -237,6 +340,11 @@ def looked_at(program, room):
         it.ends = True
         it.join()
         yield f"{it.name} has what was acknowledged", it.kept(before.get(it.name))
+    if prometheus:
+        yield from watched(prometheus, table_of(fleet))
+        lag = "max by (tenant, group) (kbroker_group_lag)"
+        yield "each group's lag is what its client is told", soon(lambda: prometheus.says(lag, "tenant", "group") == lags(customers))
+        prometheus.stop()
     for it in machines.values():
         if it.process and it.process.poll() is None:
             it.stop(signal.SIGKILL)

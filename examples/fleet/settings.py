@@ -3,8 +3,9 @@
 
     examples/fleet/settings.py FLEET.toml OUT
 
-OUT/NAME.toml is for the broker NAME, OUT/haproxy.cfg and OUT/brokers.map for HAProxy, OUT/prometheus.yml for Prometheus. The files of
-brokers have passwords: only their owner may read them. Python 3.11 or later.
+OUT/NAME.toml is for the broker NAME, OUT/haproxy.cfg and OUT/brokers.map for HAProxy, OUT/prometheus.yml for Prometheus. They have
+passwords and the token of metrics: only their owner may read them. A file that is there keeps the owner and the mode that it has. Python 3.11
+or later.
 """
 
 import json
@@ -27,7 +28,7 @@ def broker_settings(fleet, name, address):
     """The settings of a broker, as text."""
     host, port = address.rsplit(":", 1)
     lines = [f'host = "{host}"', f"port = {port}", f'data = "{fleet["data"]}"', "stock_clients = true"]
-    lines += [f'advertise = "{address}"', f'metrics = "{host}:9644"', 'metrics_token = "a-token-of-the-fleet"']
+    lines += [f'advertise = "{address}"', f'metrics = "{host}:9644"', f'metrics_token = {json.dumps(fleet["metrics_token"])}']
     for tenant, table in fleet["tenants"].items():
         if table["broker"] == name:
             words = {"name": tenant, "advertise": f'{table["host"]}:{fleet["clients"]}'}
@@ -48,7 +49,8 @@ def main(fleet, out):
     files["haproxy.cfg"] = proxy + "".join(f"backend {name}\n    server {name} {at}\n" for name, at in fleet["brokers"].items())
     files["brokers.map"] = "".join(f'{it["host"]} {it["broker"]}\n' for it in fleet["tenants"].values())
     targets = json.dumps([f'{at.rsplit(":", 1)[0]}:9644' for at in fleet["brokers"].values()])
-    files["prometheus.yml"] = ("scrape_configs:\n  - job_name: kbroker\n    authorization: {credentials: a-token-of-the-fleet}\n"
+    token = json.dumps(fleet["metrics_token"])
+    files["prometheus.yml"] = (f"scrape_configs:\n  - job_name: kbroker\n    authorization: {{credentials: {token}}}\n"
                                f"    static_configs: [{{targets: {targets}}}]\n")
     os.makedirs(out, exist_ok=True)
     for name, text in files.items():

@@ -1,4 +1,3 @@
 mod Begun
 mod Gathered
-mod Named
 mod Opened

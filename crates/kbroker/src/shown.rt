@@ -52,7 +52,9 @@ impl<'a, R: Net, S: Store, L: PartitionLog + Drop> Source for Shown<'a, R, S, L>
 
     fn push_all(&self, alloc: Global, form: Form, out: &mut Vec<u8>) -> Result<(), AllocError> {
         match form {
-            Form::Metrics => push_metrics(alloc, self, out),
+            Form::Metrics => {
+                push_metrics(alloc, self.rt, self.edge, self.settings, self.history, out)
+            }
             Form::Status => push_status_page(alloc, self, out),
         }
     }
@@ -113,18 +115,20 @@ fn push_sockets(out: &mut Vec<u8>, sockets: usize, limit: usize) -> Result<(), A
 /// Writes the page of metrics, which tells the longest turn.
 fn push_metrics<R: Net, S: Store, L: PartitionLog + Drop>(
     alloc: Global,
-    shown: &Shown<'_, R, S, L>,
+    rt: &HostRuntime,
+    edge: &Edge<R, S, L>,
+    settings: &Settings,
+    history: &History,
     out: &mut Vec<u8>,
 ) -> Result<(), AllocError>
     requires { out.old.items ≡ [] }
     ensures { OnOk result (IsMetrics
-        (observed_from (values_of shown.now.settings.now) shown.now.edge.now.host.broker.state shown.now.edge.now.traffic.items)
-        out.new.items) }
+        (observed_from (values_of settings.now) edge.now.host.broker.state edge.now.traffic.items) out.new.items) }
 {
-    let tenants = tenants_of(alloc, shown.edge, shown.settings)?;
-    let server = server_of(shown.edge, shown.history);
-    let process = process_of(shown.rt, shown.history);
-    shown.history.is_told.set(true);
+    let tenants = tenants_of(alloc, edge, settings)?;
+    let server = server_of(edge, history);
+    let process = process_of(rt, history);
+    history.is_told.set(true);
     push_all(alloc, out, &tenants, &server, &process)
 }
 

@@ -169,7 +169,7 @@ fn count_denied<E: Server>(edge: &mut E, alloc: Global, now: u32) -> u64 {
         edge.turn(alloc, now);
         for attempt in edge.denied() {
             if let Login::Failed(name) = &attempt.login
-                && name.as_slice() == b"ann"
+                && name.as_slice() == b"ann".as_slice()
             {
                 denied = denied.saturating_add(1);
             }

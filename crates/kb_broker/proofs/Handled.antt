@@ -590,7 +590,7 @@ unfolding ready
 quiet-ready ns k l clock n w q apart silent = by w.awaited silent
   where
     by : (x : Awaited) → ready_for k clock n x ≡ Silent → ready_for l clock n x ≡ Silent
-    by (Records version body deadline) h = ap (λ x. looked x clock deadline version body) q.world ∙ h
+    by (Records version body deadline limit) h = ap (λ x. looked x clock deadline version limit body) q.world ∙ h
     by Group h = q.told n apart h
 
 -- only what is due or was answered can be ready then

@@ -381,7 +381,7 @@ due-there clock w None e h = absurd (cc)
 due-there clock w (Some x) e h = by w.awaited e h
   where
     by : (a : Awaited) → until_of (Some x) ≡ Some (until a) → is_past clock a ≡ true → queue.IsDue clock x
-    by (Records version body deadline) e h = let is : x.deadline ≡ deadline = cc in let come : deadline ≤ clock = grind (arith, nat_tests, h) in omega (arith, is, come)
+    by (Records version body deadline limit) e h = let is : x.deadline ≡ deadline = cc in let come : deadline ≤ clock = grind (arith, nat_tests, h) in omega (arith, is, come)
     by Group e h = let no : false ≡ true = h in absurd (cc)
 
 -- what waits stands in the queue

@@ -53,7 +53,7 @@ no-deadline H q ts ls quiet_until moment v next n = subst (λ o. IfSome o (λ d.
     by (Some w) e = let h = first-within q n w next.first quiet_until e next.first_is in subst (λ m. m ≤ w.deadline) (sym next.is) h
 
 early : (clock moment : ℕ) (x : Awaited) → clock < moment → moment ≤ until x → is_past clock x ≡ false
-early clock moment (Records version body deadline) before late = let h : clock < deadline = omega (arith, before, late) in grind (arith, nat_tests, h)
+early clock moment (Records version body deadline limit) before late = let h : clock < deadline = omega (arith, before, late) in grind (arith, nat_tests, h)
 early clock moment Group before late = refl
 
 -- so nothing that waits is ready before that moment

@@ -98,7 +98,7 @@ answered-ready node k l clock n key version body m w tied same untouched still s
     quietly = apart-ready node k hushed clock n key version body m w tied same (λ place asks touches. nowhere place (subst (λ ps. Contains ps place) untouched touches)) refl silence
 
     by : (x : Awaited) → ready_for hushed clock m x ≡ plain.Silent → ready_for l clock m x ≡ plain.Silent
-    by (Records asks fetch deadline) h = h
+    by (Records asks fetch deadline limit) h = h
     by Group h = still
 
 -- where nothing was refused, and groups answered requests that waited, only those may have become ready
@@ -191,7 +191,7 @@ pub refused-answer : (t clock n : ℕ) (ts us : List TenantState) (w : Wait) (r 
     → (IsCalm (refusals_of ts t) (refusals_of us t) → ⊥) → EndsWait r → IsLookAnswer t clock n ts us w r
 refused-answer t clock n ts us w (answers.Reply bytes) fetch loud ends =
     inr (inr (record { refused = loud; fetch = fetch; bytes = bytes; reply = refl }))
-refused-answer t clock n ts us w (answers.Wait deadline places) fetch loud ends = absurd ends
+refused-answer t clock n ts us w (answers.Wait deadline limit places) fetch loud ends = absurd ends
 refused-answer t clock n ts us w answers.NoReply fetch loud ends = absurd ends
 refused-answer t clock n ts us w answers.Shut fetch loud ends =
     inr (inl (refl, λ own none. (let no : false ≡ true = sym fetch ∙ own in absurd (cc))))
@@ -249,7 +249,7 @@ looked-ok H result whom clock t ts us l new w r stage yours turn stays meets say
 
         told-stage : (reaction : plain.Reaction) → ready (kept_of ts t) clock l.number w ≡ reaction → plain.IsAnswer w.head.correlation_id reaction r → (new.session.stage ≡ l.session.stage) ⊎ (ready (kept_of ts t) clock l.number w ≡ Silent → ⊥)
         told-stage (Replies reply) e answers = inr (λ none. let no : Replies reply ≡ Silent = sym e ∙ none in absurd (cc))
-        told-stage (Waits deadline places) e answers = inl (ap (λ (x : Line). x.session.stage) (is-of (Waits deadline places) answers))
+        told-stage (Waits deadline limit places) e answers = inl (ap (λ (x : Line). x.session.stage) (is-of (Waits deadline limit places) answers))
         told-stage Silent e answers = inl (ap (λ (x : Line). x.session.stage) (is-of Silent answers))
         told-stage Shuts e answers = inr (λ none. let no : Shuts ≡ Silent = sym e ∙ none in absurd (cc))
 
@@ -288,13 +288,13 @@ looked-err H whom clock t ts us vs l new w stage yours first then stays again co
 
         silent : (a : Plain) → plain.IsAnswer w.head.correlation_id Silent a → is_quiet a ≡ true
         silent (answers.Reply reply) h = absurd h
-        silent (answers.Wait deadline places) h = absurd h
+        silent (answers.Wait deadline limit places) h = absurd h
         silent answers.NoReply h = refl
         silent answers.Shut h = absurd h
 
         told-stage : (reaction : plain.Reaction) → ready (kept_of ts t) clock l.number w ≡ reaction → plain.IsAnswer w.head.correlation_id reaction r → (new.session.stage ≡ l.session.stage) ⊎ (ready (kept_of ts t) clock l.number w ≡ Silent → ⊥)
         told-stage (Replies reply) e h = inr (λ none. let no : Replies reply ≡ Silent = sym e ∙ none in absurd (cc))
-        told-stage (Waits deadline places) e h = inr (λ none. let no : Waits deadline places ≡ Silent = sym e ∙ none in absurd (cc))
+        told-stage (Waits deadline limit places) e h = inr (λ none. let no : Waits deadline limit places ≡ Silent = sym e ∙ none in absurd (cc))
         told-stage Silent e h = inl (ap (λ (y : Line). y.session.stage) (quiet (silent r h)))
         told-stage Shuts e h = inr (λ none. let no : Shuts ≡ Silent = sym e ∙ none in absurd (cc))
 

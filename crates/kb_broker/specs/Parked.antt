@@ -54,7 +54,7 @@ keys_for t places = tenant_key t ∷ keys_of t places
 
 -- until when a request waits: a fetch until its deadline, one that waits for its group until the end of time
 abbrev pub until : Awaited → ℕ
-until (Records version body deadline) = deadline
+until (Records version body deadline limit) = deadline
 until Group = 18446744073709551615
 
 -- until when a connection at that stage waits, where it does
@@ -110,7 +110,7 @@ pub record IsQueueOf (honest : Type 0) (q : Queue) (ts : List TenantState) (line
 -- what a tenant's answer puts into the queue
 abbrev pub parked_for : ℕ → Answer → Option queue.Wait
 parked_for t (answers.Plain (plain.Reply reply)) = None
-parked_for t (answers.Plain (plain.Wait deadline places)) = Some (record { deadline = deadline; keys = keys_for t places.items })
+parked_for t (answers.Plain (plain.Wait deadline limit places)) = Some (record { deadline = deadline; keys = keys_for t places.items })
 parked_for t (answers.Plain plain.NoReply) = None
 parked_for t (answers.Plain plain.Shut) = None
 parked_for t answers.Rebalance = Some (record { deadline = until Group; keys = keys_for t [] })

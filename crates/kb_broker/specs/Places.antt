@@ -138,7 +138,8 @@ pub record IsRefusedReply (t : ℕ) (old new : List TenantState) (w : Wait) (a :
 
 -- The answer to a fetch that waits has of each partition what is defined, or the code of what refused it; of a member's that says nothing.
 abbrev pub TellsAwaited : Type 0 → ℤ → ℕ → Kept → Awaited → Answer → Type 0
-TellsAwaited failed id clock kept (Records version body deadline) a = AnswersLook failed id version kept.world clock deadline body a
+TellsAwaited failed id clock kept (Records version body deadline limit) a =
+    AnswersLook failed id version limit kept.world clock deadline body a
 TellsAwaited failed id clock kept Group a = ⊤
 
 -- what the request that waits on the connection of number n is answered: what it is told; or its connection is shut, and a member

@@ -352,7 +352,7 @@ fn park_fetch(
     ensures refused { OnErr result (parking.new ≡ parking.old) }
 {
     match answer {
-        kb_tenant::Answer::Wait { deadline, keys } => {
+        kb_tenant::Answer::Wait { deadline, keys, .. } => {
             parking.park(alloc, number, tenant, *deadline, keys)
         }
         _ => Ok(()),
@@ -480,12 +480,14 @@ fn ask_again<L: PartitionLog + Drop, S: Store>(
             api_version,
             body,
             deadline,
+            limit,
         } => {
             let wait = Wait {
                 correlation_id: waiting.head.correlation_id,
                 api_version: *api_version,
                 body,
                 deadline: *deadline,
+                limit: *limit,
             };
             tenants.look(alloc, tenant, clock, &wait)
         }

@@ -27,6 +27,7 @@ use Rattle.kb_isolation_spec.proofs.Turns.{free-replied, free-without}
 use Rattle.kb_connection.specs.Fronts.{IsAsked, head_at, is_tenants_at}
 use Rattle.kb_connection.specs.TenantAnswers.{body_of, given, given_reply, is_quiet, parked, reply_to, spoken, spoken_reply}
 use Rattle.kb_connection.specs.View.{with_session, without_front}
+use Rattle.kb_connection.specs.declared.stage.FetchWait.{FetchWait}
 use Rattle.kb_connection.proofs.Fronts.{fewer-behind, head_asked}
 
 -- 1. A reply
@@ -110,23 +111,23 @@ stage_reply head reply s = by head.is_throttled
 -- 2. To the request in front, but for a wait; s is the connection without it
 
 abbrev pub IsNoWait : Answer → Type 0
-IsNoWait answer = (deadline : ℕ) (keys : Vec TopicPartition Global) → answer ≡ answers.Wait deadline keys → ⊥
+IsNoWait answer = (deadline : ℕ) (limit : Option ℕ) (keys : Vec TopicPartition Global) → answer ≡ answers.Wait deadline limit keys → ⊥
 
 answer_is : (head : Head) (version : ℤ) (body : List ℕ) (reaction : Reaction) (answer : Answer) (s : Session) → IsNoWait answer → IsAnswer head.correlation_id reaction answer → given head answer s ≡ plainly reaction head version body s
 answer_is head version body (Replies reply) (answers.Reply r) s no_wait h = reply_is head reply r s h
-answer_is head version body (Replies reply) (answers.Wait d k) s no_wait h = absurd h
+answer_is head version body (Replies reply) (answers.Wait d x k) s no_wait h = absurd h
 answer_is head version body (Replies reply) answers.NoReply s no_wait h = absurd h
 answer_is head version body (Replies reply) answers.Shut s no_wait h = long_is head reply s h
-answer_is head version body (Waits until places) (answers.Reply r) s no_wait h = absurd h
-answer_is head version body (Waits until places) (answers.Wait d k) s no_wait h = absurd (no_wait d k refl)
-answer_is head version body (Waits until places) answers.NoReply s no_wait h = absurd h
-answer_is head version body (Waits until places) answers.Shut s no_wait h = absurd h
+answer_is head version body (Waits until limit places) (answers.Reply r) s no_wait h = absurd h
+answer_is head version body (Waits until limit places) (answers.Wait d x k) s no_wait h = absurd (no_wait d x k refl)
+answer_is head version body (Waits until limit places) answers.NoReply s no_wait h = absurd h
+answer_is head version body (Waits until limit places) answers.Shut s no_wait h = absurd h
 answer_is head version body Silent (answers.Reply r) s no_wait h = absurd h
-answer_is head version body Silent (answers.Wait d k) s no_wait h = absurd h
+answer_is head version body Silent (answers.Wait d x k) s no_wait h = absurd h
 answer_is head version body Silent answers.NoReply s no_wait h = refl
 answer_is head version body Silent answers.Shut s no_wait h = absurd h
 answer_is head version body Shuts (answers.Reply r) s no_wait h = absurd h
-answer_is head version body Shuts (answers.Wait d k) s no_wait h = absurd h
+answer_is head version body Shuts (answers.Wait d x k) s no_wait h = absurd h
 answer_is head version body Shuts answers.NoReply s no_wait h = absurd h
 answer_is head version body Shuts answers.Shut s no_wait h = refl
 
@@ -149,24 +150,24 @@ gives setup (Err fault) l m new key version head in_front body reaction all answ
 less : (versions : List ApiVersion) (l new : Line) → is_tenants_at versions (front l.session.unread) ≡ true → length new.session.unread ≤ length (behind (front l.session.unread) l.session.unread) → length new.session.unread < length l.session.unread
 less versions l new asks few = let fewer = fewer-behind versions l.session.unread asks in omega arith
 
-unread_parked : (deadline : Option ℕ) (asked : Option (Head × ℤ × ℤ × List ℕ)) (s : Session) → (parked deadline asked s).unread ≡ s.unread
-unread_parked deadline None s = refl
-unread_parked deadline (Some a) s = refl
+unread_parked : (fetch : Option FetchWait) (asked : Option (Head × ℤ × ℤ × List ℕ)) (s : Session) → (parked fetch asked s).unread ≡ s.unread
+unread_parked fetch None s = refl
+unread_parked fetch (Some a) s = refl
 
-pub less_parked : {E : Type 0} (versions : List ApiVersion) (result : Result (Unit {0}) E) (l new : Line) (deadline : Option ℕ) (asked : Option (Head × ℤ × ℤ × List ℕ)) → OnOk result (new ≡ with_session l (parked deadline asked (without_front l.session)))
+pub less_parked : {E : Type 0} (versions : List ApiVersion) (result : Result (Unit {0}) E) (l new : Line) (fetch : Option FetchWait) (asked : Option (Head × ℤ × ℤ × List ℕ)) → OnOk result (new ≡ with_session l (parked fetch asked (without_front l.session)))
     → OnErr result (new ≡ with_session l (shut_down causes.Memory l.session)) → is_tenants_at versions (front l.session.unread) ≡ true → length new.session.unread < length l.session.unread
-less_parked versions (Ok u) l new deadline asked ok err asks = less versions l new asks (omega (arith, ap (λ (x : Line). length x.session.unread) ok, ap length (unread_parked deadline asked (without_front l.session))))
-less_parked versions (Err fault) l new deadline asked ok err asks = less versions l new asks (omega (arith, ap (λ (x : Line). length x.session.unread) err))
+less_parked versions (Ok u) l new fetch asked ok err asks = less versions l new asks (omega (arith, ap (λ (x : Line). length x.session.unread) ok, ap length (unread_parked fetch asked (without_front l.session))))
+less_parked versions (Err fault) l new fetch asked ok err asks = less versions l new asks (omega (arith, ap (λ (x : Line). length x.session.unread) err))
 
 pub unread_given : (head : Head) (answer : Answer) (s : Session) → length (given head answer s).unread ≤ length s.unread
 unread_given head (answers.Reply reply) s = unread_reply head reply.items s
-unread_given head (answers.Wait deadline keys) s = omega arith
+unread_given head (answers.Wait deadline limit keys) s = omega arith
 unread_given head answers.NoReply s = omega arith
 unread_given head answers.Shut s = omega arith
 
 pub stage_given : (head : Head) (answer : Answer) (s : Session) → without_wait (given head answer s).stage ≡ without_wait s.stage
 stage_given head (answers.Reply reply) s = stage_reply head reply.items s
-stage_given head (answers.Wait deadline keys) s = refl
+stage_given head (answers.Wait deadline limit keys) s = refl
 stage_given head answers.NoReply s = refl
 stage_given head answers.Shut s = stage-shut s
 
@@ -180,7 +181,7 @@ less_given versions (Err fault) l m new head answer left ok err asks = less vers
 
 free_after : (head : Head) (answer : Answer) (s : Session) → is_free s.stage ≡ true → is_free (given head answer s).stage ≡ true
 free_after head (answers.Reply reply) s free = free_reply head reply.items s free
-free_after head (answers.Wait deadline keys) s free = free
+free_after head (answers.Wait deadline limit keys) s free = free
 free_after head answers.NoReply s free = free
 free_after head answers.Shut s free = free-without s.stage
 
@@ -194,7 +195,7 @@ free_given (Err fault) l m new head answer left ok err free = ap (λ (x : Line).
 -- a reply ends the wait
 ended_is : (head : Head) (reaction : Reaction) (reply : Vec ℕ Global) (s : Session) → IsAnswer head.correlation_id reaction (answers.Reply reply) → given head (answers.Reply reply) (record s { stage = without_wait s.stage }) ≡ told reaction head s
 ended_is head (Replies body) reply s h = reply_is head body reply (record s { stage = without_wait s.stage }) h
-ended_is head (Waits until places) reply s h = absurd h
+ended_is head (Waits until limit places) reply s h = absurd h
 ended_is head Silent reply s h = absurd h
 ended_is head Shuts reply s h = absurd h
 
@@ -213,16 +214,16 @@ IsNoReply answer = (reply : Vec ℕ Global) → answer ≡ answers.Reply reply �
 
 told_is : (head : Head) (reaction : Reaction) (answer : Answer) (s : Session) → IsNoReply answer → IsAnswer head.correlation_id reaction answer → given head answer s ≡ told reaction head s
 told_is head reaction (answers.Reply r) s no_reply h = absurd (no_reply r refl)
-told_is head (Replies reply) (answers.Wait d k) s no_reply h = absurd h
+told_is head (Replies reply) (answers.Wait d x k) s no_reply h = absurd h
 told_is head (Replies reply) answers.NoReply s no_reply h = absurd h
 told_is head (Replies reply) answers.Shut s no_reply h = ap (λ st. record (shut_down (unanswerable head) s) { stage = st }) (sym (stage-shut s)) ∙ long_is head reply (record s { stage = without_wait s.stage }) h
-told_is head (Waits until places) (answers.Wait d k) s no_reply h = refl
-told_is head (Waits until places) answers.NoReply s no_reply h = absurd h
-told_is head (Waits until places) answers.Shut s no_reply h = absurd h
-told_is head Silent (answers.Wait d k) s no_reply h = absurd h
+told_is head (Waits until limit places) (answers.Wait d x k) s no_reply h = refl
+told_is head (Waits until limit places) answers.NoReply s no_reply h = absurd h
+told_is head (Waits until limit places) answers.Shut s no_reply h = absurd h
+told_is head Silent (answers.Wait d x k) s no_reply h = absurd h
 told_is head Silent answers.NoReply s no_reply h = refl
 told_is head Silent answers.Shut s no_reply h = absurd h
-told_is head Shuts (answers.Wait d k) s no_reply h = absurd h
+told_is head Shuts (answers.Wait d x k) s no_reply h = absurd h
 told_is head Shuts answers.NoReply s no_reply h = absurd h
 told_is head Shuts answers.Shut s no_reply h = refl
 
@@ -240,7 +241,7 @@ tells (Err fault) l m new tenant wait head reaction answer no_reply left awaits 
 -- nothing that an answer says is lost, and nothing else is put out
 spoken_is : (head : Head) (answer : Answer) (s : Session) → (given head answer s).output ≡ s.output ++ spoken head (any.Plain answer)
 spoken_is head (answers.Reply reply) s = output_given head reply.items s
-spoken_is head (answers.Wait deadline keys) s = sym (append-nil s.output)
+spoken_is head (answers.Wait deadline limit keys) s = sym (append-nil s.output)
 spoken_is head answers.NoReply s = sym (append-nil s.output)
 spoken_is head answers.Shut s = sym (append-nil s.output)
 
@@ -263,18 +264,18 @@ puts_given setup result l m new key version head in_front body all answer is lef
     subst (λ (x : Head). PutsOut x result l new all) (stands setup.versions ∙ head_asked setup l.session key version head body asks)
     (subst (PutsOut in_front result l new) (sym is) (puts result l m new in_front answer (ap (λ (x : Line). x.session.output) left) done))
 
-output_parked : (deadline : Option ℕ) (asked : Option (Head × ℤ × ℤ × List ℕ)) (s : Session) → (parked deadline asked s).output ≡ s.output
-output_parked deadline None s = refl
-output_parked deadline (Some a) s = refl
+output_parked : (fetch : Option FetchWait) (asked : Option (Head × ℤ × ℤ × List ℕ)) (s : Session) → (parked fetch asked s).output ≡ s.output
+output_parked fetch None s = refl
+output_parked fetch (Some a) s = refl
 
-pub puts_parked : {E : Type 0} (result : Result (Unit {0}) E) (l new : Line) (deadline : Option ℕ)
+pub puts_parked : {E : Type 0} (result : Result (Unit {0}) E) (l new : Line) (fetch : Option FetchWait)
     (asked : Option (Head × ℤ × ℤ × List ℕ)) (head : Head) (all : AnyAnswer) → spoken head all ≡ []
-    → OnOk result (new ≡ with_session l (parked deadline asked (without_front l.session)))
+    → OnOk result (new ≡ with_session l (parked fetch asked (without_front l.session)))
     → OnOk result (new.session.output ≡ l.session.output ++ spoken head all)
-puts_parked (Ok u) l new deadline asked head all silent done =
-    ap (λ (x : Line). x.session.output) done ∙ output_parked deadline asked (without_front l.session)
+puts_parked (Ok u) l new fetch asked head all silent done =
+    ap (λ (x : Line). x.session.output) done ∙ output_parked fetch asked (without_front l.session)
     ∙ sym (append-nil l.session.output) ∙ ap (λ bytes. l.session.output ++ bytes) (sym silent)
-puts_parked (Err fault) l new deadline asked head all silent done = tt
+puts_parked (Err fault) l new fetch asked head all silent done = tt
 
 -- to a request that waits: a reply, which ends the wait
 pub puts_ending : {E : Type 0} (result : Result (Unit {0}) E) (l m new : Line) (tenant : ℕ) (wait : Wait) (head : Head) (answer : Answer)
@@ -338,13 +339,13 @@ stage_ended (Err fault) l m new head answer reply is left ok err =
 
 given_quiet : (head : Head) (answer : Answer) (s : Session) → IsNoReply answer → ((given head answer s).stage ≡ s.stage) ⊎ ((given head answer s).stage ≡ without_wait s.stage)
 given_quiet head (answers.Reply reply) s none = absurd (none reply refl)
-given_quiet head (answers.Wait deadline keys) s none = inl refl
+given_quiet head (answers.Wait deadline limit keys) s none = inl refl
 given_quiet head answers.NoReply s none = inl refl
 given_quiet head answers.Shut s none = inr refl
 
 given_loud : (head : Head) (answer : Answer) (s : Session) → IsNoReply answer → is_quiet answer ≡ false → (given head answer s).stage ≡ without_wait s.stage
 given_loud head (answers.Reply reply) s none loud = absurd (none reply refl)
-given_loud head (answers.Wait deadline keys) s none loud = cc
+given_loud head (answers.Wait deadline limit keys) s none loud = cc
 given_loud head answers.NoReply s none loud = cc
 given_loud head answers.Shut s none loud = refl
 

@@ -8,6 +8,7 @@ use Rattle.kb_isolation_spec.specs.Tenant.{Awaited, Records, Group, Wait}
 use Rattle.kb_isolation_spec.specs.declared.head.Head.{Head}
 use Rattle.kb_tenant.specs.Replies.{framed, reply_size}
 use Rattle.kb_isolation_spec.specs.Session.{Session, shut_down, replied, throttled, unanswerable, waiting}
+use Rattle.kb_connection.specs.declared.stage.FetchWait.{FetchWait}
 
 -- the body of a whole reply: what stands behind its size and its correlation id
 abbrev pub body_of : List ℕ → List ℕ
@@ -20,7 +21,7 @@ given_reply head reply s = if head.is_throttled then replied head (body_of reply
 -- an answer to the request of that head, but for a wait
 abbrev pub given : Head → Answer → Session → Session
 given head (answers.Reply reply) s = given_reply head reply.items s
-given head (answers.Wait deadline keys) s = s
+given head (answers.Wait deadline limit keys) s = s
 given head answers.NoReply s = s
 given head answers.Shut s = shut_down (unanswerable head) s
 
@@ -36,7 +37,7 @@ spoken_reply head reply = if head.is_throttled then reply_to head (body_of reply
 -- the bytes that an answer to the request of that head puts out
 abbrev pub spoken : Head → AnyAnswer → List ℕ
 spoken head (any.Plain (answers.Reply reply)) = spoken_reply head reply.items
-spoken head (any.Plain (answers.Wait deadline keys)) = []
+spoken head (any.Plain (answers.Wait deadline limit keys)) = []
 spoken head (any.Plain answers.NoReply) = []
 spoken head (any.Plain answers.Shut) = []
 spoken head any.Rebalance = []
@@ -44,28 +45,28 @@ spoken head any.Rebalance = []
 -- it says nothing to a fetch that waits
 abbrev pub is_quiet : Answer → Bool
 is_quiet (answers.Reply reply) = false
-is_quiet (answers.Wait deadline keys) = true
+is_quiet (answers.Wait deadline limit keys) = true
 is_quiet answers.NoReply = true
 is_quiet answers.Shut = false
 
 -- it says that the connection is to wait, for records or for its group
 abbrev pub is_wait : AnyAnswer → Bool
 is_wait (any.Plain (answers.Reply reply)) = false
-is_wait (any.Plain (answers.Wait deadline keys)) = true
+is_wait (any.Plain (answers.Wait deadline limit keys)) = true
 is_wait (any.Plain answers.NoReply) = false
 is_wait (any.Plain answers.Shut) = false
 is_wait any.Rebalance = true
 
--- what a request of that version and body waits for: records until a deadline, or, without one, its group's answer
-abbrev pub awaited_until : Option ℕ → ℤ → List ℕ → Awaited
-awaited_until None version body = Group
-awaited_until (Some deadline) version body = Records version body deadline
+-- what a request of that version and body waits for: a fetch for records, and any other for its group's answer
+abbrev pub awaited_by : Option FetchWait → ℤ → List ℕ → Awaited
+awaited_by None version body = Group
+awaited_by (Some fetch) version body = Records version body fetch.deadline fetch.limit
 
 -- the wait for the answer to a request of that head, key, version and body
-abbrev pub wait_for : Option ℕ → Head × ℤ × ℤ × List ℕ → Wait
-wait_for deadline asked = record { head = asked.0; awaited = awaited_until deadline asked.2 asked.3 }
+abbrev pub wait_for : Option FetchWait → Head × ℤ × ℤ × List ℕ → Wait
+wait_for fetch asked = record { head = asked.0; awaited = awaited_by fetch asked.2 asked.3 }
 
 -- the connection waits for the answer to a request of its tenant, if there is one
-abbrev pub parked : Option ℕ → Option (Head × ℤ × ℤ × List ℕ) → Session → Session
-parked deadline None s = s
-parked deadline (Some asked) s = record s { stage = waiting (wait_for deadline asked) s.stage }
+abbrev pub parked : Option FetchWait → Option (Head × ℤ × ℤ × List ℕ) → Session → Session
+parked fetch None s = s
+parked fetch (Some asked) s = record s { stage = waiting (wait_for fetch asked) s.stage }

@@ -29,7 +29,7 @@ use crate::reply::{
 };
 use crate::request::{Asked, Request, unanswerable};
 use crate::setup::Setup;
-use crate::stage::{Awaited, Phase, Stage, Waiting};
+use crate::stage::{Awaited, FetchWait, Phase, Stage, Waiting};
 use crate::version::{NO_HEAD, head_of_frame};
 use kb_api_group::{FrameFeed, Next};
 use kb_isolation_spec::{Head, Known, Login, Name, Shut};
@@ -332,9 +332,13 @@ impl Connection {
     {
         match answer {
             Answer::Rebalance => self.park(alloc, setup, None),
-            Answer::Plain(kb_tenant::Answer::Wait { deadline, .. }) => {
-                self.park(alloc, setup, Some(deadline))
-            }
+            Answer::Plain(
+                kb_tenant::Answer::Wait {
+                    deadline,
+                    limit,
+                    ..
+                },
+            ) => self.park(alloc, setup, Some(FetchWait { deadline, limit })),
             Answer::Plain(answer) => {
                 let head = self.head_in_front();
                 self.skip(); // it is not handed out again
@@ -388,19 +392,19 @@ impl Connection {
         }
     }
 
-    /// Leaves the request in front behind, and waits for its answer: until the deadline at most, or, without one, until its group
-    /// gives it. Where memory is refused it is shut.
+    /// Leaves the request in front behind, and waits for its answer: as a fetch does, or, where it is none, until its group gives it.
+    /// Where memory is refused it is shut.
     fn park(
         &mut self,
         alloc: Global,
         setup: &Setup,
-        deadline: Option<u64>,
+        fetch: Option<FetchWait>,
     ) -> Result<(), AllocError>
         ensures ok { OnOk result (self.new ≡ with_session self.old
-            (parked deadline (asked_at setup.now.versions (front self.old.session.unread)) (without_front self.old.session))) }
+            (parked fetch (asked_at setup.now.versions (front self.old.session.unread)) (without_front self.old.session))) }
         ensures err { OnErr result (self.new ≡ with_session self.old (shut_down causes.Memory self.old.session)) }
     {
-        let request = self.request_in_front(alloc, setup, deadline);
+        let request = self.request_in_front(alloc, setup, fetch);
         self.skip();
         match request {
             Ok(Some(request)) => {
@@ -415,26 +419,27 @@ impl Connection {
         }
     }
 
-    /// The request of its tenant that stands in front, to wait for its answer: of one that waits for its group, which has no
-    /// deadline, its head is all that is kept.
+    /// The request of its tenant that stands in front, to wait for its answer: of one that waits for its group, which is no fetch, its
+    /// head is all that is kept.
     fn request_in_front(
         &self,
         alloc: Global,
         setup: &Setup,
-        deadline: Option<u64>,
+        fetch: Option<FetchWait>,
     ) -> Result<Option<Waiting>, AllocError>
         ensures found { IfOk result (λ found. option_map wait_of found
-            ≡ option_map (wait_for deadline) (asked_at setup.now.versions (front self.now.session.unread))) }
+            ≡ option_map (wait_for fetch) (asked_at setup.now.versions (front self.now.session.unread))) }
         ensures unshut { IfOk result (λ found. IfSome found (λ request. self.now.session.shut ≡ false)) }
     {
         let Some(request) = self.request(alloc, setup)? else {
             return Ok(None);
         };
-        let awaited = match deadline {
-            Some(deadline) => Awaited::Records {
+        let awaited = match fetch {
+            Some(FetchWait { deadline, limit }) => Awaited::Records {
                 api_version: request.api_version,
                 body: Vec::from_slice(alloc, request.body)?,
                 deadline,
+                limit,
             },
             None => Awaited::Group,
         };

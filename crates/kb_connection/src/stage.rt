@@ -39,9 +39,18 @@ pub enum Awaited {
         body: Vec<u8>,
         /// The moment after which it waits no longer, in milliseconds.
         deadline: u64,
+        /// How many bytes of records its reply then has at most. None is no limit.
+        limit: Option<u64>,
     },
     /// The answer of its group, without a deadline: a join or a sync.
     Group,
+}
+
+/// Until when a fetch waits at most, in milliseconds, and how many bytes of records its reply then has at most. None is no limit.
+#[derive(Clone, Copy)]
+pub(crate) struct FetchWait {
+    pub deadline: u64,
+    pub limit: Option<u64>,
 }
 
 /// A request that waits for its answer.

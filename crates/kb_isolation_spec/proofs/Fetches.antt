@@ -23,14 +23,14 @@ answer-holds : (setup : Setup) (kept : Kept) (clock n : ℕ) (version : ℤ) (bo
 unfolding answer
 answer-holds setup kept clock n version body reply r small read e = served-holds setup.node kept.world clock kept.groups n version body reply r small read e
 
-ready-holds : (kept : Kept) (clock n : ℕ) (head : Head) (version : ℤ) (body : List ℕ) (deadline : ℕ) (reply : List ℕ) (r : FetchRequest) → HasSmallLogs kept.world → asked_fetch version body ≡ Ok r
-    → ready kept clock n (record { head = head; awaited = Records version body deadline }) ≡ Replies reply → HoldsBatches version kept.world r reply
+ready-holds : (kept : Kept) (clock n : ℕ) (head : Head) (version : ℤ) (body : List ℕ) (deadline : ℕ) (limit : Option ℕ) (reply : List ℕ) (r : FetchRequest) → HasSmallLogs kept.world → asked_fetch version body ≡ Ok r
+    → ready kept clock n (record { head = head; awaited = Records version body deadline limit }) ≡ Replies reply → HoldsBatches version kept.world r reply
 unfolding ready
-ready-holds kept clock n head version body deadline reply r small read e = looked-holds kept.world clock deadline version body reply r small read e
+ready-holds kept clock n head version body deadline limit reply r small read e = looked-holds kept.world clock deadline version limit body reply r small read e
 
 answered_by : (setup : Setup) (kept : Kept) (clock n : ℕ) (head : Head) (version : ℤ) (body : List ℕ) (s : Session) (r : FetchRequest) → HasSmallLogs kept.world → asked_fetch version body ≡ Ok r → (x : Reaction) → answer setup.node kept clock n FETCH version body ≡ x → GetsBatches kept.world version r head s (after_reaction x head version body s)
 answered_by setup kept clock n head version body s r small read (Plain (Replies reply)) e = inl (reply, answer-holds setup kept clock n version body reply r small read e, refl)
-answered_by setup kept clock n head version body s r small read (Plain (Waits deadline places)) e = inr refl
+answered_by setup kept clock n head version body s r small read (Plain (Waits deadline limit places)) e = inr refl
 answered_by setup kept clock n head version body s r small read (Plain Silent) e = inr refl
 answered_by setup kept clock n head version body s r small read (Plain Shuts) e = inr refl
 answered_by setup kept clock n head version body s r small read Rebalances e = inr refl
@@ -46,20 +46,20 @@ served-batches setup kept clock n s frame rest version body r small at asks read
     ap (served_at setup kept clock n s) at ∙ ap (λ a. served_by setup kept clock n head a from) asks in
     subst (GetsBatches kept.world version r head from) (sym is) (answered_by setup kept clock n head version body from r small read (answer setup.node kept clock n FETCH version body) refl)
 
-told_by : (kept : Kept) (clock n : ℕ) (head : Head) (version : ℤ) (body : List ℕ) (deadline : ℕ) (s : Session) (r : FetchRequest) → HasSmallLogs kept.world → asked_fetch version body ≡ Ok r → (x : tenant.Reaction)
-    → ready kept clock n (record { head = head; awaited = Records version body deadline }) ≡ x → GetsBatches kept.world version r head (record s { stage = without_wait s.stage }) (told x head s)
-told_by kept clock n head version body deadline s r small read (Replies reply) e = inl (reply, ready-holds kept clock n head version body deadline reply r small read e, refl)
-told_by kept clock n head version body deadline s r small read (Waits until places) e = inr refl
-told_by kept clock n head version body deadline s r small read Silent e = inr refl
-told_by kept clock n head version body deadline s r small read Shuts e = inr refl
+told_by : (kept : Kept) (clock n : ℕ) (head : Head) (version : ℤ) (body : List ℕ) (deadline : ℕ) (limit : Option ℕ) (s : Session) (r : FetchRequest) → HasSmallLogs kept.world → asked_fetch version body ≡ Ok r → (x : tenant.Reaction)
+    → ready kept clock n (record { head = head; awaited = Records version body deadline limit }) ≡ x → GetsBatches kept.world version r head (record s { stage = without_wait s.stage }) (told x head s)
+told_by kept clock n head version body deadline limit s r small read (Replies reply) e = inl (reply, ready-holds kept clock n head version body deadline limit reply r small read e, refl)
+told_by kept clock n head version body deadline limit s r small read (Waits until kept_limit places) e = inr refl
+told_by kept clock n head version body deadline limit s r small read Silent e = inr refl
+told_by kept clock n head version body deadline limit s r small read Shuts e = inr refl
 
 -- a fetch that waited
-pub woken-batches : (kept : Kept) (clock n tenant : ℕ) (s : Session) (head : Head) (version : ℤ) (body : List ℕ) (deadline : ℕ) (r : FetchRequest) → HasSmallLogs kept.world
-    → s.stage ≡ BoundTo tenant (Some (record { head = head; awaited = Records version body deadline })) → asked_fetch version body ≡ Ok r
+pub woken-batches : (kept : Kept) (clock n tenant : ℕ) (s : Session) (head : Head) (version : ℤ) (body : List ℕ) (deadline : ℕ) (limit : Option ℕ) (r : FetchRequest) → HasSmallLogs kept.world
+    → s.stage ≡ BoundTo tenant (Some (record { head = head; awaited = Records version body deadline limit })) → asked_fetch version body ≡ Ok r
     → GetsBatches kept.world version r head (record s { stage = without_wait s.stage }) (woken kept clock n s)
 unfolding woken_by
-woken-batches kept clock n tenant s head version body deadline r small waits read =
+woken-batches kept clock n tenant s head version body deadline limit r small waits read =
     let from : Session = record s { stage = without_wait s.stage } in
-    let wait : Wait = record { head = head; awaited = Records version body deadline } in
+    let wait : Wait = record { head = head; awaited = Records version body deadline limit } in
     let is : woken kept clock n s ≡ told (ready kept clock n wait) head s = ap (woken_by kept clock n s) waits in
-    subst (GetsBatches kept.world version r head from) (sym is) (told_by kept clock n head version body deadline s r small read (ready kept clock n wait) refl)
+    subst (GetsBatches kept.world version r head from) (sym is) (told_by kept clock n head version body deadline limit s r small read (ready kept clock n wait) refl)

@@ -107,7 +107,7 @@ greeted_by-le setup h head Malformed s = omega arith
 
 plainly-le : (r : tenant.Reaction) (head : Head) (version : ℤ) (body : List ℕ) (s : Session) → length (plainly r head version body s).unread ≤ length s.unread
 plainly-le (Replies reply) head version body s = replied-le head reply s
-plainly-le (Waits deadline places) head version body s = omega arith
+plainly-le (Waits deadline limit places) head version body s = omega arith
 plainly-le Silent head version body s = omega arith
 plainly-le Shuts head version body s = omega arith
 
@@ -226,7 +226,7 @@ work-on n f t (k ∷ ls) l h e =
 
 told-le : (r : tenant.Reaction) (head : Head) (s : Session) → length (told r head s).unread ≤ length s.unread
 told-le (Replies reply) head s = replied-le head reply _
-told-le (Waits deadline places) head s = omega arith
+told-le (Waits deadline limit places) head s = omega arith
 told-le Silent head s = omega arith
 told-le Shuts head s = omega arith
 

@@ -22,7 +22,7 @@ unfolding left ready
 ready-left clock n kept at k w = by w.awaited
   where
     by : (x : Awaited) → ready_for (left clock n kept) at k x ≡ ready_for kept at k x
-    by (Records version body deadline) = refl
+    by (Records version body deadline limit) = refl
     by Group = refl
 
 -- each waits for what it waited for
@@ -31,7 +31,7 @@ unfolding left asked
 asked-left clock n kept w = by w.awaited
   where
     by : (x : Awaited) → asked_for (left clock n kept) x ≡ asked_for kept x
-    by (Records version body deadline) = refl
+    by (Records version body deadline limit) = refl
     by Group = refl
 
 -- 2. A tenant that keeps something else

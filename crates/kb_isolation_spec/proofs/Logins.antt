@@ -124,7 +124,7 @@ has-greeted setup h s e = by (front s.unread)
 
 login-plainly : (r : tenant.Reaction) (head : Head) (version : ℤ) (body : List ℕ) (s : Session) → (plainly r head version body s).login ≡ s.login
 login-plainly (Replies reply) head version body s = login-replied head reply s
-login-plainly (Waits deadline places) head version body s = refl
+login-plainly (Waits deadline limit places) head version body s = refl
 login-plainly Silent head version body s = refl
 login-plainly Shuts head version body s = refl
 
@@ -159,7 +159,7 @@ has-told : (users : List User) (r : tenant.Reaction) (head : Head) (s : Session)
 has-told users (Replies reply) head s h =
     let free : Session = record s { stage = without_wait s.stage } in
     has-replied users head reply free (has-same users s free (stage-shut s) refl h)
-has-told users (Waits deadline places) head s h = h
+has-told users (Waits deadline limit places) head s h = h
 has-told users Silent head s h = h
 has-told users Shuts head s h = has-shut users (unanswerable head) s h
 

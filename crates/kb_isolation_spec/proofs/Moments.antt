@@ -5,7 +5,7 @@ use Rattle.std.specs.List.{Contains}
 use Rattle.std.proofs.lemmas.Bool.Decides.{nat_tests}
 use Rattle.std.proofs.lemmas.List.Elements.{All-contains, filter_passes}
 use Rattle.kb_api_data.specs.declared.fetch.FetchRequest.{FetchRequest}
-use Rattle.kb_tenant.specs.Fetch.{asked_fetch, bytes_of, fetched, is_error, is_ready, some_partition, fetched_in}
+use Rattle.kb_tenant.specs.Fetch.{asked_fetch, bounded, bytes_of, fetched, is_error, is_ready, some_partition, fetched_in}
 use Rattle.kb_tenant.specs.Replies.{Replies}
 use Rattle.kb_tenant.specs.Serve.{looked, looked_at}
 use Rattle.kb_tenant_api.specs.Hosted.{Kept}
@@ -68,22 +68,22 @@ serves-next w l tenant wait first bound both = subst (NextGivesBatches w) (sym f
 last-passes : (a b c d : Bool) → d ≡ true → (a || b || c || d) ≡ true
 last-passes a b c d e = grind (arith, e)
 
-pub ready-late : (kept : Kept) (clock n : ℕ) (head : Head) (version : ℤ) (body : List ℕ) (deadline : ℕ) (fetch : FetchRequest) → asked_fetch version body ≡ Ok fetch → deadline ≤ clock
-    → ready kept clock n (record { head = head; awaited = Records version body deadline }) ≡ Replies (fetched_in version (fetched kept.world fetch).1)
+pub ready-late : (kept : Kept) (clock n : ℕ) (head : Head) (version : ℤ) (body : List ℕ) (deadline : ℕ) (limit : Option ℕ) (fetch : FetchRequest) → asked_fetch version body ≡ Ok fetch → deadline ≤ clock
+    → ready kept clock n (record { head = head; awaited = Records version body deadline limit }) ≡ Replies (fetched_in version (fetched kept.world (bounded limit fetch)).1)
 unfolding ready looked
-ready-late kept clock n head version body deadline fetch read late =
-    let reply = (fetched kept.world fetch).1 in
+ready-late kept clock n head version body deadline limit fetch read late =
+    let reply = (fetched kept.world (bounded limit fetch)).1 in
     let over : nat_le deadline clock ≡ true = grind (arith, nat_tests, late) in
-    let is : is_ready clock fetch reply deadline ≡ true =
+    let is : is_ready clock (bounded limit fetch) reply deadline ≡ true =
     last-passes (not (some_partition (λ p. true) reply)) (some_partition (λ p. is_error p.error_code) reply) (nat_le (elim fetch.min_bytes [ pos n ↦ n | negsuc n ↦ 0 ]) (bytes_of reply)) (nat_le deadline clock) over in
-    ap (looked_at kept.world clock deadline version) read ∙ ap (λ (b : Bool). told_as version (cond b (Some reply) None)) is
+    ap (looked_at kept.world clock deadline version limit) read ∙ ap (λ (b : Bool). told_as version (cond b (Some reply) None)) is
 
-pub woken-late : (kept : Kept) (clock n tenant : ℕ) (s : Session) (head : Head) (version : ℤ) (body : List ℕ) (deadline : ℕ) (fetch : FetchRequest)
-    → s.stage ≡ BoundTo tenant (Some (record { head = head; awaited = Records version body deadline })) → asked_fetch version body ≡ Ok fetch → deadline ≤ clock
-    → woken kept clock n s ≡ replied head (fetched_in version (fetched kept.world fetch).1) (record s { stage = without_wait s.stage })
+pub woken-late : (kept : Kept) (clock n tenant : ℕ) (s : Session) (head : Head) (version : ℤ) (body : List ℕ) (deadline : ℕ) (limit : Option ℕ) (fetch : FetchRequest)
+    → s.stage ≡ BoundTo tenant (Some (record { head = head; awaited = Records version body deadline limit })) → asked_fetch version body ≡ Ok fetch → deadline ≤ clock
+    → woken kept clock n s ≡ replied head (fetched_in version (fetched kept.world (bounded limit fetch)).1) (record s { stage = without_wait s.stage })
 unfolding woken_by
-woken-late kept clock n tenant s head version body deadline fetch waits read late =
-    ap (woken_by kept clock n s) waits ∙ ap (λ r. told r head s) (ready-late kept clock n head version body deadline fetch read late)
+woken-late kept clock n tenant s head version body deadline limit fetch waits read late =
+    ap (woken_by kept clock n s) waits ∙ ap (λ r. told r head s) (ready-late kept clock n head version body deadline limit fetch read late)
 
 -- 3. A tenant's own events
 

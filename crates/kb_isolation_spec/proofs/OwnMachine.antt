@@ -68,7 +68,7 @@ end-greeted setup h s e = λ n es. ap (λ x. destiny setup n x es) (ap (heard se
 
 stage-told : (r : tenant.Reaction) (head : Head) (s : Session) → without_wait s.stage ≡ without_wait (without_wait s.stage) → without_wait (told r head s).stage ≡ without_wait s.stage
 stage-told (Replies reply) head s twice = stage-replied head reply (record s { stage = without_wait s.stage }) ∙ sym twice
-stage-told (Waits deadline places) head s twice = refl
+stage-told (Waits deadline limit places) head s twice = refl
 stage-told Silent head s twice = refl
 stage-told Shuts head s twice = sym twice
 

@@ -123,7 +123,7 @@ stage-waiting wait (BoundTo u w) = refl
 
 stage-plainly : (r : tenant.Reaction) (head : Head) (version : ℤ) (body : List ℕ) (s : Session) → without_wait (plainly r head version body s).stage ≡ without_wait s.stage
 stage-plainly (Replies reply) head version body s = stage-replied head reply s
-stage-plainly (Waits deadline places) head version body s = stage-waiting (record { head = head; awaited = Records version body deadline }) s.stage
+stage-plainly (Waits deadline limit places) head version body s = stage-waiting (record { head = head; awaited = Records version body deadline limit }) s.stage
 stage-plainly Silent head version body s = refl
 stage-plainly Shuts head version body s = stage-shut s
 

@@ -20,7 +20,7 @@ use Rattle.kb_tenant_state.specs.World.{World}
 use Rattle.kb_tenant_state.specs.declared.topic_partition.TopicPartition.{TopicPartition}
 use Rattle.kb_tenant.specs.CreateTopics.{checked_all, created_all, creations_in, made_of}
 use Rattle.kb_tenant.specs.Entries.{commit_entries, describe_groups_entries, within}
-use Rattle.kb_tenant.specs.Fetch.{asked_fetch, deadline_of, fetch_answer, places_of, fetched_in}
+use Rattle.kb_tenant.specs.Fetch.{asked_fetch, bounded, deadline_of, fetch_answer, places_of, fetched_in}
 use Rattle.kb_tenant.specs.Produce.{produced, is_due}
 use Rattle.kb_tenant.specs.Limits.{is_past}
 use Rattle.kb_tenant.specs.Metadata.{metadata_in, metadata_of}
@@ -41,32 +41,34 @@ abbrev pub told_as : ℤ → Option FetchReplyV5 → Reaction
 told_as version o = elim o [ Some reply ↦ Replies (fetched_in version reply) | None ↦ Silent ]
 
 -- a request that is to wait would be told nothing at once, and waits for what it asks for
-pub record IsParked (version : ℤ) (body : List ℕ) (clock : ℕ) (v : World) (deadline : ℕ) (places : List TopicPartition) : Type 0 where
-  pub silent : looked v clock deadline version body ≡ Silent
+pub record IsParked (version : ℤ) (body : List ℕ) (clock : ℕ) (v : World) (deadline : ℕ) (limit : Option ℕ) (places : List TopicPartition) : Type 0 where
+  pub silent : looked v clock deadline version limit body ≡ Silent
   pub asks : places ≡ asked_in v (asked_fetch version body)
 
 abbrev ParksPlain : ℤ → List ℕ → ℕ → tenant.Outcome → Type 0
-ParksPlain version body clock o = (deadline : ℕ) (places : List TopicPartition) → o.reaction ≡ Waits deadline places → IsParked version body clock o.world deadline places
+ParksPlain version body clock o = (deadline : ℕ) (limit : Option ℕ) (places : List TopicPartition) → o.reaction ≡ Waits deadline limit places → IsParked version body clock o.world deadline limit places
 
 produce-parks : (version : ℤ) (body : List ℕ) (clock : ℕ) (v : World) (touched : List TopicPartition) (reply : List ℕ) (b : Bool) → ParksPlain version body clock (record { world = v; touched = touched; reaction = cond b (Replies reply) Silent })
-produce-parks version body clock v touched reply true deadline places e = absurd (cc)
-produce-parks version body clock v touched reply false deadline places e = absurd (cc)
+produce-parks version body clock v touched reply true deadline limit places e = absurd (cc)
+produce-parks version body clock v touched reply false deadline limit places e = absurd (cc)
 
 plain-either : (version : ℤ) (body : List ℕ) (clock : ℕ) (b : Bool) (o p : tenant.Outcome) → ParksPlain version body clock o → ParksPlain version body clock p → ParksPlain version body clock (if b then o else p)
 plain-either version body clock true o p first second = first
 plain-either version body clock false o p first second = second
 
-fetch-parks : (w : World) (clock : ℕ) (version : ℤ) (body : List ℕ) (r : FetchRequest) → asked_fetch version body ≡ Ok r → ParksPlain version body clock (of_fetch version w clock r)
+fetch-parks : (w : World) (clock : ℕ) (version : ℤ) (body : List ℕ) (own : Option ℕ) (r : FetchRequest) → asked_fetch version body ≡ Ok r → ParksPlain version body clock (of_fetch version own w clock r)
 unfolding looked
-fetch-parks w clock version body r read = by (fetch_answer w clock r (deadline_of clock r)) refl
+fetch-parks w clock version body own r read = by (fetch_answer w clock (bounded own r) (deadline_of clock r)) refl
   where
-    by : (o : Option FetchReplyV5) → fetch_answer w clock r (deadline_of clock r) ≡ o → ParksPlain version body clock (stays w (fetch_reaction version w clock r o))
-    by (Some reply) e deadline places f = absurd (cc)
-    by None e deadline places f =
+    by : (o : Option FetchReplyV5) → fetch_answer w clock (bounded own r) (deadline_of clock r) ≡ o → ParksPlain version body clock (stays w (fetch_reaction version own w clock (bounded own r) o))
+    by (Some reply) e deadline limit places f = absurd (cc)
+    by None e deadline limit places f =
         let until : deadline_of clock r ≡ deadline = cc in
+        let kept : own ≡ limit = cc in
         let same : places_of w r ≡ places = cc in
         record {
-          silent = ap (looked_at w clock deadline version) read ∙ ap (told_as version) (subst (λ d. fetch_answer w clock r d ≡ None) until e);
+          silent = subst (λ (l : Option ℕ). looked w clock deadline version l body ≡ Silent) kept
+              (ap (looked_at w clock deadline version own) read ∙ ap (told_as version) (subst (λ d. fetch_answer w clock (bounded own r) d ≡ None) until e));
           asks = sym same ∙ sym (ap (asked_in w) read);
         }
 
@@ -75,62 +77,62 @@ short-parks : (version : ℤ) (body : List ℕ) (clock : ℕ) (w : World) (limit
 short-parks version body clock w limit reply = by (is_past limit (reply_size reply))
   where
     by : (b : Bool) → ParksPlain version body clock (stays w (if b then Shuts else Replies reply))
-    by true deadline places e = absurd (cc)
-    by false deadline places e = absurd (cc)
+    by true deadline limit places e = absurd (cc)
+    by false deadline limit places e = absurd (cc)
 
 plain-parks : (node : Node) (w : World) (clock n : ℕ) (key version : ℤ) (body : List ℕ) → ParksPlain version body clock (tenant.plainly_served node w clock n key version body)
 plain-parks node w clock n key version body =
     by_request (ParksPlain version body clock) node w clock n key version body (record {
       produce = λ r read. produce-parks version body clock (produced node.limits.bytes w [] r).0.world (produced node.limits.bytes w [] r).0.touched (produce_reply.written (produced node.limits.bytes w [] r).1) (is_due r.acks);
-      fetch = λ r read. fetch-parks w clock version body r read;
-      list_offsets = λ r read deadline places e. absurd (cc);
+      fetch = λ r read. fetch-parks w clock version body node.limits.fetch_bytes r read;
+      list_offsets = λ r read deadline limit places e. absurd (cc);
       metadata = λ r read. short-parks version body clock w node.limits.reply_bytes (metadata_in version (metadata_of w node r));
-      offset_commit = λ r read deadline places e. absurd (cc);
+      offset_commit = λ r read deadline limit places e. absurd (cc);
       offset_fetch = λ r read. short-parks version body clock w node.limits.reply_bytes (offsets_in version (fetched_all w r));
-      find_coordinator = λ r read deadline places e. absurd (cc);
+      find_coordinator = λ r read deadline limit places e. absurd (cc);
       create_topics = λ r read.
           let made = created_all node.limits w (made_of r) in
           plain-either version body clock r.validate_only (stays w (Replies (creations_in version (checked_all node.limits w r.topics)))) (record { world = made.0; touched = []; reaction = Replies (creations_in version made.1) })
-          (λ deadline places e. absurd (cc)) (λ deadline places e. absurd (cc));
-      delete_topics = λ r read deadline places e. absurd (cc);
-      delete_records = λ r read deadline places e. absurd (cc);
-      init_producer_id = λ r read deadline places e. absurd (cc);
-      shut = λ deadline places e. absurd (cc);
+          (λ deadline limit places e. absurd (cc)) (λ deadline limit places e. absurd (cc));
+      delete_topics = λ r read deadline limit places e. absurd (cc);
+      delete_records = λ r read deadline limit places e. absurd (cc);
+      init_producer_id = λ r read deadline limit places e. absurd (cc);
+      shut = λ deadline limit places e. absurd (cc);
     })
 
 -- 2. Any request
 
 abbrev pub Parks : ℤ → List ℕ → ℕ → Outcome → Type 0
-Parks version body clock o = (deadline : ℕ) (places : List TopicPartition) → o.reaction ≡ Plain (Waits deadline places) → IsParked version body clock o.world deadline places
+Parks version body clock o = (deadline : ℕ) (limit : Option ℕ) (places : List TopicPartition) → o.reaction ≡ Plain (Waits deadline limit places) → IsParked version body clock o.world deadline limit places
 
 read-parks : {A : Type 0} (version : ℤ) (body : List ℕ) (clock : ℕ) (w : World) (gs : Groups) (r : Result A WireFault) (f : A → Outcome) → ((a : A) → Parks version body clock (f a)) → Parks version body clock (if_read w gs r f)
 read-parks version body clock w gs (Ok a) f each = each a
-read-parks version body clock w gs (Err fault) f each = λ deadline places e. absurd (cc)
+read-parks version body clock w gs (Err fault) f each = λ deadline limit places e. absurd (cc)
 
 either : (version : ℤ) (body : List ℕ) (clock : ℕ) (b : Bool) (o p : Outcome) → Parks version body clock o → Parks version body clock p → Parks version body clock (if b then o else p)
 either version body clock true o p first second = first
 either version body clock false o p first second = second
 
 join-parks : (version : ℤ) (body : List ℕ) (clock : ℕ) (w : World) (gs : Groups) (b : Bool) (reply : List ℕ) → Parks version body clock (of_groups w gs (if b then Rebalances else replies reply))
-join-parks version body clock w gs true reply deadline places e = absurd (cc)
-join-parks version body clock w gs false reply deadline places e = absurd (cc)
+join-parks version body clock w gs true reply deadline limit places e = absurd (cc)
+join-parks version body clock w gs false reply deadline limit places e = absurd (cc)
 
 sync-parks : (version : ℤ) (body : List ℕ) (clock : ℕ) (w : World) (gs : Groups) (a : SyncAnswer) → Parks version body clock (of_groups w gs (sync_reaction a))
-sync-parks version body clock w gs (sync.Refused code) deadline places e = absurd (cc)
-sync-parks version body clock w gs (sync.Got assignment) deadline places e = absurd (cc)
-sync-parks version body clock w gs sync.Waits deadline places e = absurd (cc)
+sync-parks version body clock w gs (sync.Refused code) deadline limit places e = absurd (cc)
+sync-parks version body clock w gs (sync.Got assignment) deadline limit places e = absurd (cc)
+sync-parks version body clock w gs sync.Waits deadline limit places e = absurd (cc)
 
 -- a reply to a tool
 tool-parks : (version : ℤ) (body : List ℕ) (clock : ℕ) (w : World) (gs : Groups) (limit : Option ℕ) (reply : List ℕ) → Parks version body clock (of_groups w gs (short_replies limit reply))
 tool-parks version body clock w gs limit reply = by (is_past limit (reply_size reply))
   where
     by : (b : Bool) → Parks version body clock (of_groups w gs (Plain (if b then Shuts else Replies reply)))
-    by true deadline places e = absurd (cc)
-    by false deadline places e = absurd (cc)
+    by true deadline limit places e = absurd (cc)
+    by false deadline limit places e = absurd (cc)
 
 -- one that is for no group
 topics-parks : (node : Node) (w : World) (clock : ℕ) (gs : Groups) (n : ℕ) (key version : ℤ) (body : List ℕ) → Parks version body clock (of_topics gs (tenant.plainly_served node w clock n key version body))
-topics-parks node w clock gs n key version body deadline places e = (let f : (tenant.plainly_served node w clock n key version body).reaction ≡ Waits deadline places = cc in plain-parks node w clock n key version body deadline places f)
+topics-parks node w clock gs n key version body deadline limit places e = (let f : (tenant.plainly_served node w clock n key version body).reaction ≡ Waits deadline limit places = cc in plain-parks node w clock n key version body deadline limit places f)
 
 pub parks : (node : Node) (w : World) (clock : ℕ) (gs : Groups) (n : ℕ) (key version : ℤ) (body : List ℕ) → Parks version body clock (served node w clock gs n key version body)
 unfolding served
@@ -150,10 +152,10 @@ parks node w clock gs n key version body =
     let from_leave : Outcome = if int_eq key LEAVE_GROUP then leaves else from_sync in
     let from_heartbeat : Outcome = if int_eq key HEARTBEAT then beats else from_leave in
     let from_join : Outcome = if int_eq key JOIN_GROUP then joins else from_heartbeat in
-    either version body clock (int_eq key OFFSET_COMMIT) commits from_join (read-parks version body clock w gs (within node.limits.request_entries commit_entries (whole offset_commit_request body)) (of_offset_commit node.limits w clock gs) (λ r deadline places e. absurd (cc)))
+    either version body clock (int_eq key OFFSET_COMMIT) commits from_join (read-parks version body clock w gs (within node.limits.request_entries commit_entries (whole offset_commit_request body)) (of_offset_commit node.limits w clock gs) (λ r deadline limit places e. absurd (cc)))
     (either version body clock (int_eq key JOIN_GROUP) joins from_heartbeat (read-parks version body clock w gs (whole join_group_request body) (of_join w clock n gs) (λ r. join-parks version body clock w (of_join w clock n gs r).groups (is_accepted (join_code n r gs)) _))
-    (either version body clock (int_eq key HEARTBEAT) beats from_leave (read-parks version body clock w gs (whole heartbeat_request body) (of_heartbeat w clock gs) (λ r deadline places e. absurd (cc)))
-    (either version body clock (int_eq key LEAVE_GROUP) leaves from_sync (read-parks version body clock w gs (whole leave_group_request body) (of_leave w clock gs) (λ r deadline places e. absurd (cc)))
+    (either version body clock (int_eq key HEARTBEAT) beats from_leave (read-parks version body clock w gs (whole heartbeat_request body) (of_heartbeat w clock gs) (λ r deadline limit places e. absurd (cc)))
+    (either version body clock (int_eq key LEAVE_GROUP) leaves from_sync (read-parks version body clock w gs (whole leave_group_request body) (of_leave w clock gs) (λ r deadline limit places e. absurd (cc)))
     (either version body clock (int_eq key SYNC_GROUP) syncs from_describe (read-parks version body clock w gs (whole sync_group_request body) (of_sync w clock n gs) (λ r. sync-parks version body clock w (of_sync w clock n gs r).groups (sync_answer clock n r gs)))
     (either version body clock (int_eq key DESCRIBE_GROUPS) describes from_list (read-parks version body clock w gs (within node.limits.request_entries describe_groups_entries (whole describe_groups_request body)) (of_describe limit w gs) (λ r. tool-parks version body clock w (silent gs) limit (describe_groups_reply.written (descriptions gs r))))
     (either version body clock (int_eq key LIST_GROUPS) lists others (read-parks version body clock w gs (whole list_groups_request body) (of_list limit w gs) (λ r. tool-parks version body clock w (silent gs) limit (list_groups_reply.written (group_list gs))))

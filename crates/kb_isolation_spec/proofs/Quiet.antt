@@ -12,7 +12,7 @@ use Rattle.kb_coordinator.specs.Groups.{Groups}
 use Rattle.kb_groups.specs.declared.reply.Release.{Release}
 use Rattle.kb_tenant_state.specs.World.{World}
 use Rattle.kb_tenant_state.specs.declared.topic_partition.TopicPartition.{TopicPartition}
-use Rattle.kb_tenant.specs.Fetch.{asked_fetch, fetch_answer, places_of}
+use Rattle.kb_tenant.specs.Fetch.{asked_fetch, bounded, fetch_answer, places_of}
 use Rattle.kb_tenant.specs.Replies.{Replies, Waits, Silent, Shuts}
 use Rattle.kb_tenant.specs.Serve.{looked, looked_at}
 use Rattle.kb_tenant_api.specs.Hosted as hosted
@@ -47,19 +47,19 @@ silent-none version (Some reply) h = absurd (cc)
 silent-none version None h = refl
 
 -- a fetch that is not ready is not ready in another world or at another time, if what its body asks has no answer then either
-silent-there : (w v : World) (clock now deadline : ℕ) (version : ℤ) (body : List ℕ) → ((r : FetchRequest) → asked_fetch version body ≡ Ok r → fetch_answer w clock r deadline ≡ None → fetch_answer v now r deadline ≡ None)
-    → looked w clock deadline version body ≡ Silent → looked v now deadline version body ≡ Silent
+silent-there : (w v : World) (clock now deadline : ℕ) (version : ℤ) (limit : Option ℕ) (body : List ℕ) → ((r : FetchRequest) → asked_fetch version body ≡ Ok r → fetch_answer w clock (bounded limit r) deadline ≡ None → fetch_answer v now (bounded limit r) deadline ≡ None)
+    → looked w clock deadline version limit body ≡ Silent → looked v now deadline version limit body ≡ Silent
 unfolding looked
-silent-there w v clock now deadline version body none e = by (asked_fetch version body) refl e
+silent-there w v clock now deadline version limit body none e = by (asked_fetch version body) refl e
   where
-    by : (r : Result FetchRequest WireFault) → asked_fetch version body ≡ r → looked_at w clock deadline version r ≡ Silent → looked_at v now deadline version r ≡ Silent
-    by (Ok r) read h = ap (told_as version) (none r read (silent-none version (fetch_answer w clock r deadline) h))
+    by : (r : Result FetchRequest WireFault) → asked_fetch version body ≡ r → looked_at w clock deadline version limit r ≡ Silent → looked_at v now deadline version limit r ≡ Silent
+    by (Ok r) read h = ap (told_as version) (none r read (silent-none version (fetch_answer w clock (bounded limit r) deadline) h))
     by (Err fault) read h = absurd (cc)
 
 -- a fetch that is not ready, which is before its deadline, is not ready at another time before it either
-pub still-silent : (w : World) (clock now deadline : ℕ) (version : ℤ) (body : List ℕ) → (clock < deadline → now < deadline) → looked w clock deadline version body ≡ Silent → looked w now deadline version body ≡ Silent
-still-silent w clock now deadline version body early e =
-    silent-there w w clock now deadline version body (λ r read waits. waits_until w clock r deadline waits now deadline (early (before_end w clock r deadline waits))) e
+pub still-silent : (w : World) (clock now deadline : ℕ) (version : ℤ) (limit : Option ℕ) (body : List ℕ) → (clock < deadline → now < deadline) → looked w clock deadline version limit body ≡ Silent → looked w now deadline version limit body ≡ Silent
+still-silent w clock now deadline version limit body early e =
+    silent-there w w clock now deadline version limit body (λ r read waits. waits_until w clock (bounded limit r) deadline waits now deadline (early (before_end w clock (bounded limit r) deadline waits))) e
 
 -- where a request or a moment answered nobody, nobody is told anything
 pub told-nothing : (n : ℕ) (gs : Groups) → has_released gs ≡ false → told_to n gs ≡ Silent
@@ -78,7 +78,7 @@ unfolding ready
 first-silent k clock n w silent = by w.awaited silent
   where
     by : (x : Awaited) → ready_for k clock n x ≡ Silent → ready_for k 0 n x ≡ Silent
-    by (Records version body deadline) h = still-silent k.world clock 0 deadline version body (λ early. omega (arith, early)) h
+    by (Records version body deadline limit) h = still-silent k.world clock 0 deadline version limit body (λ early. omega (arith, early)) h
     by Group h = h
 
 -- after a request that touched no partition that it asks for, and that answered nobody, a request is as little ready as before
@@ -91,10 +91,10 @@ apart-ready node k l clock n key version body m w tied same apart none silent = 
     touched = (request node k.world clock k.groups n key version body).touched
 
     by : (x : Awaited) → AreApart (asked_for k x) touched → ready_for k clock m x ≡ Silent → ready_for l clock m x ≡ Silent
-    by (Records asks fetch deadline) far h =
-        silent-there k.world l.world clock clock deadline asks fetch
-        (λ r read waits. ap (λ x. fetch_answer x clock r deadline) same
-        ∙ (served_waits node k.world clock k.groups n key version body r deadline tied waits (subst (λ ps. AreApart ps touched) (ap (asked_in k.world) read) far)).0)
+    by (Records asks fetch deadline limit) far h =
+        silent-there k.world l.world clock clock deadline asks limit fetch
+        (λ r read waits. ap (λ x. fetch_answer x clock (bounded limit r) deadline) same
+        ∙ (served_waits node k.world clock k.groups n key version body (bounded limit r) deadline tied waits (subst (λ ps. AreApart ps touched) (ap (asked_in k.world) read) far)).0)
         h
     by Group far h = told-nothing m l.groups none
 
@@ -104,16 +104,17 @@ pub asked-again : (node : Node) (k l : Kept) (clock n : ℕ) (key version : ℤ)
 unfolding ready looked asked
 asked-again node k l clock n key version body m w tied own same before after = for w.awaited before after
   where
-    by : (deadline : ℕ) (asks : ℤ) (r : Result FetchRequest WireFault) → looked_at k.world 0 deadline asks r ≡ Silent → looked_at l.world 0 deadline asks r ≡ Silent → asked_in l.world r ≡ asked_in k.world r
-    by deadline asks (Ok r) p q =
+    by : (deadline : ℕ) (asks : ℤ) (limit : Option ℕ) (r : Result FetchRequest WireFault) → looked_at k.world 0 deadline asks limit r ≡ Silent → looked_at l.world 0 deadline asks limit r ≡ Silent → asked_in l.world r ≡ asked_in k.world r
+    by deadline asks limit (Ok fetch) p q =
+        let r : FetchRequest = bounded limit fetch in
         let old : fetch_answer k.world clock r (clock + 1) ≡ None = waits_until k.world 0 r deadline (silent-none asks (fetch_answer k.world 0 r deadline) p) clock (clock + 1) (omega arith) in
         let new : fetch_answer l.world clock r (clock + 1) ≡ None = waits_until l.world 0 r deadline (silent-none asks (fetch_answer l.world 0 r deadline) q) clock (clock + 1) (omega arith) in
         ap (λ x. places_of x r) same
         ∙ served_again node k.world clock k.groups n key version body r (clock + 1) tied own old (subst (λ x. fetch_answer x clock r (clock + 1) ≡ None) same new)
-    by deadline asks (Err fault) p q = absurd (cc)
+    by deadline asks limit (Err fault) p q = absurd (cc)
 
     for : (x : Awaited) → ready_for k 0 m x ≡ Silent → ready_for l 0 m x ≡ Silent → asked_for l x ≡ asked_for k x
-    for (Records asks fetch deadline) p q = by deadline asks (asked_fetch asks fetch) p q
+    for (Records asks fetch deadline limit) p q = by deadline asks limit (asked_fetch asks fetch) p q
     for Group p q = refl
 
 -- a moment changes nothing of what a request asks for
@@ -126,7 +127,7 @@ asked-passed clock k w = for w.awaited
     by (Err fault) = refl
 
     for : (x : Awaited) → asked_for (passed clock k) x ≡ asked_for k x
-    for (Records version body deadline) = by (asked_fetch version body)
+    for (Records version body deadline limit) = by (asked_fetch version body)
     for Group = refl
 
 -- what waits for its group asks for no partition
@@ -137,10 +138,10 @@ asked-group k head = refl
 -- 3. The one that begins to wait
 
 -- the partitions that a fetch begins to wait for are those that it asks for
-pub asked-parks : (node : Node) (k : Kept) (clock n : ℕ) (key version : ℤ) (body : List ℕ) (deadline : ℕ) (places : List TopicPartition) (head : Head) → answer node k clock n key version body ≡ Plain (Waits deadline places) →
-    places ≡ asked (kept_after node k clock n key version body) (record { head = head; awaited = Records version body deadline })
+pub asked-parks : (node : Node) (k : Kept) (clock n : ℕ) (key version : ℤ) (body : List ℕ) (deadline : ℕ) (limit : Option ℕ) (places : List TopicPartition) (head : Head) → answer node k clock n key version body ≡ Plain (Waits deadline limit places) →
+    places ≡ asked (kept_after node k clock n key version body) (record { head = head; awaited = Records version body deadline limit })
 unfolding answer kept_after asked
-asked-parks node k clock n key version body deadline places head e = (parks node k.world clock k.groups n key version body deadline places e).asks
+asked-parks node k clock n key version body deadline limit places head e = (parks node k.world clock k.groups n key version body deadline limit places e).asks
 
 -- what waits at that stage, on the connection of number n, is not ready
 abbrev pub IsIdle : ℕ → Kept → ℕ → Stage → Type 0
@@ -158,9 +159,9 @@ unfolding ready
 group-silent clock kept n head none = told-nothing n kept.groups none
 
 answered-idle : (clock : ℕ) (kept : Kept) (n : ℕ) (r : Reaction) (head : Head) (version : ℤ) (body : List ℕ) (s : Session) → is_free s.stage ≡ true → has_released kept.groups ≡ false
-    → ((deadline : ℕ) (places : List TopicPartition) → r ≡ Plain (Waits deadline places) → ready kept clock n (record { head = head; awaited = Records version body deadline }) ≡ Silent) → IsIdle clock kept n (after_reaction r head version body s).stage
+    → ((deadline : ℕ) (limit : Option ℕ) (places : List TopicPartition) → r ≡ Plain (Waits deadline limit places) → ready kept clock n (record { head = head; awaited = Records version body deadline limit }) ≡ Silent) → IsIdle clock kept n (after_reaction r head version body s).stage
 answered-idle clock kept n (Plain (Replies reply)) head version body s free none silent = free-idle clock kept n _ (free-replied head reply s free)
-answered-idle clock kept n (Plain (Waits deadline places)) head version body s free none silent = waiting-idle clock kept n (record { head = head; awaited = Records version body deadline }) s.stage (silent deadline places refl)
+answered-idle clock kept n (Plain (Waits deadline limit places)) head version body s free none silent = waiting-idle clock kept n (record { head = head; awaited = Records version body deadline limit }) s.stage (silent deadline limit places refl)
 answered-idle clock kept n (Plain Silent) head version body s free none silent = free-idle clock kept n s.stage free
 answered-idle clock kept n (Plain Shuts) head version body s free none silent = free-idle clock kept n _ (free-without s.stage)
 answered-idle clock kept n Rebalances head version body s free none silent = waiting-idle clock kept n (record { head = head; awaited = Group }) s.stage (group-silent clock kept n head none)
@@ -173,7 +174,7 @@ by-idle setup kept clock n head (Handshake version mechanism) s free none = free
 by-idle setup kept clock n head (Authenticate message) s free none = free-idle clock kept n _ (free-replied head _ s free)
 by-idle setup kept clock n head (Another key version body) s free none =
     answered-idle clock (kept_after setup.node kept clock n key version body) n (answer setup.node kept clock n key version body) head version body s free none
-    (λ deadline places e. (parks setup.node kept.world clock kept.groups n key version body deadline places e).silent)
+    (λ deadline limit places e. (parks setup.node kept.world clock kept.groups n key version body deadline limit places e).silent)
 by-idle setup kept clock n head Malformed s free none = free-idle clock kept n _ (free-without s.stage)
 
 at-idle : (setup : Setup) (kept : Kept) (clock n : ℕ) (s : Session) (f : Front) → is_free s.stage ≡ true → has_released (kept_at setup kept clock n f).groups ≡ false → IsIdle clock (kept_at setup kept clock n f) n (served_at setup kept clock n s f).stage

@@ -232,9 +232,9 @@ unfolding ready
 later kept clock now n w e early = by w.awaited e early
   where
     by : (x : Awaited) → ready_for kept clock n x ≡ Silent → is_past now x ≡ false → ready_for kept now n x ≡ Silent
-    by (Records version body deadline) h early =
+    by (Records version body deadline limit) h early =
         let before : now < deadline = grind (arith, nat_tests, early) in
-        still-silent kept.world clock now deadline version body (λ still. before) h
+        still-silent kept.world clock now deadline version limit body (λ still. before) h
     by Group h early = h
 
 -- so where nothing happened to the tenants only those can be ready after the clock moved whose deadline has come

@@ -225,7 +225,7 @@ unfolding ready
 ready-member kept clock n w own = by w.awaited own
   where
     by : (x : Awaited) → is_members x ≡ true → ready_for kept clock n x ≡ told_to n kept.groups
-    by (Records version body deadline) e = let no : false ≡ true = e in absurd (cc)
+    by (Records version body deadline limit) e = let no : false ≡ true = e in absurd (cc)
     by Group e = refl
 
 -- a connection that waits was looked at: what tenants keep stays, and one that waited for its group waits still, or was told

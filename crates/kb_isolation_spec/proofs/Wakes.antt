@@ -7,7 +7,7 @@ use Rattle.kb_tenant_state.specs.Counts.{IsCalm}
 use Rattle.kb_tenant_api.specs.Hosted as hosted
 use Rattle.kb_tenant_api.specs.Hosted.{Kept, TenantState}
 use Rattle.kb_tenant_api.specs.Turns.{IsTurn}
-use Rattle.kb_tenant.specs.Fetch.{asked_fetch, fetch_answer, fetched_in}
+use Rattle.kb_tenant.specs.Fetch.{asked_fetch, bounded, fetch_answer, fetched_in}
 use Rattle.kb_tenant.specs.Serve.{looked, looked_at}
 use Rattle.kb_wire.specs.declared.fault.WireFault.{WireFault}
 use Rattle.kb_api_data.specs.declared.fetch.FetchRequest.{FetchRequest}
@@ -46,7 +46,7 @@ woken-free kept clock n s free = by s.stage refl
 
 told-twice : (kept : Kept) (clock n : ℕ) (r : Reaction) (head : Head) (s : Session) → woken kept clock n s ≡ told r head s → woken kept clock n (told r head s) ≡ told r head s
 told-twice kept clock n (Replies reply) head s e = woken-free kept clock n (told (Replies reply) head s) (free-replied head reply (record s { stage = without_wait s.stage }) (free-without s.stage))
-told-twice kept clock n (Waits deadline places) head s e = e
+told-twice kept clock n (Waits deadline limit places) head s e = e
 told-twice kept clock n Silent head s e = e
 told-twice kept clock n Shuts head s e = woken-free kept clock n (shut_down (unanswerable head) s) (free-without s.stage)
 
@@ -159,24 +159,24 @@ waked-line whom b i u l m w H ts s at g concerned n same turn honest stays meets
 -- 4. What was looked at is not ready
 
 -- a look never comes to a wait
-never-waits : (kept : Kept) (clock n : ℕ) (w : Wait) (deadline : ℕ) (places : List TopicPartition) → ready kept clock n w ≡ Waits deadline places → ⊥
+never-waits : (kept : Kept) (clock n : ℕ) (w : Wait) (deadline : ℕ) (limit : Option ℕ) (places : List TopicPartition) → ready kept clock n w ≡ Waits deadline limit places → ⊥
 unfolding ready looked
-never-waits kept clock n w deadline places e = for w.awaited e
+never-waits kept clock n w deadline limit places e = for w.awaited e
   where
-    answers : (version : ℤ) (o : Option FetchReplyV5) → elim o [ Some reply ↦ Replies (fetched_in version reply) | None ↦ Silent ] ≡ Waits deadline places → ⊥
+    answers : (version : ℤ) (o : Option FetchReplyV5) → elim o [ Some reply ↦ Replies (fetched_in version reply) | None ↦ Silent ] ≡ Waits deadline limit places → ⊥
     answers version (Some reply) h = absurd (cc)
     answers version None h = absurd (cc)
 
-    by : (until : ℕ) (version : ℤ) (r : Result FetchRequest WireFault) → looked_at kept.world clock until version r ≡ Waits deadline places → ⊥
-    by until version (Ok r) h = answers version (fetch_answer kept.world clock r until) h
-    by until version (Err fault) h = absurd (cc)
+    by : (until : ℕ) (version : ℤ) (own : Option ℕ) (r : Result FetchRequest WireFault) → looked_at kept.world clock until version own r ≡ Waits deadline limit places → ⊥
+    by until version own (Ok r) h = answers version (fetch_answer kept.world clock (bounded own r) until) h
+    by until version own (Err fault) h = absurd (cc)
 
-    tells : (o : Option Reply) → service.told o ≡ Waits deadline places → ⊥
+    tells : (o : Option Reply) → service.told o ≡ Waits deadline limit places → ⊥
     tells (Some reply) h = absurd (cc)
     tells None h = absurd (cc)
 
-    for : (x : Awaited) → ready_for kept clock n x ≡ Waits deadline places → ⊥
-    for (Records version body until) h = by until version (asked_fetch version body) h
+    for : (x : Awaited) → ready_for kept clock n x ≡ Waits deadline limit places → ⊥
+    for (Records version body until own) h = by until version own (asked_fetch version body) h
     for Group h = tells (reply_to n kept.groups) h
 
 -- what is left of a connection after a look waits no longer, or is not ready
@@ -185,7 +185,7 @@ unready-woken P b n s u w e = subst (λ (x : Session). IsUnready P b n x.stage) 
   where
     by : (r : Reaction) → ready (kept_of b u) b.clock n w ≡ r → IsUnready P b n (told r w.head s).stage
     by (Replies reply) f = free-unready P b n (told (Replies reply) w.head s).stage (free-replied w.head reply (record s { stage = without_wait s.stage }) (free-without s.stage))
-    by (Waits deadline places) f = absurd (never-waits (kept_of b u) b.clock n w deadline places f)
+    by (Waits deadline limit places) f = absurd (never-waits (kept_of b u) b.clock n w deadline limit places f)
     by Silent f = subst (IsUnready P b n) (sym e) (λ p. f)
     by Shuts f = shut-unready P b n s
 

@@ -33,8 +33,8 @@ ServesBatches w tenant n s = (frame rest : List ℕ) (version : ℤ) (body : Lis
 
 -- where a fetch waits on a connection, of number n, that is looked at, the connection gets such batches
 abbrev pub WakesWithBatches : View → ℕ → Session → Type 0
-WakesWithBatches w n s = (tenant : ℕ) (head : Head) (version : ℤ) (body : List ℕ) (deadline : ℕ) (fetch : FetchRequest)
-    → s.stage ≡ BoundTo tenant (Some (record { head = head; awaited = Records version body deadline }))
+WakesWithBatches w n s = (tenant : ℕ) (head : Head) (version : ℤ) (body : List ℕ) (deadline : ℕ) (limit : Option ℕ) (fetch : FetchRequest)
+    → s.stage ≡ BoundTo tenant (Some (record { head = head; awaited = Records version body deadline limit }))
     → asked_fetch version body ≡ Ok fetch
     → GetsBatches w.kept.world version fetch head (record s { stage = without_wait s.stage }) (woken w.kept w.clock n s)
 

@@ -40,8 +40,8 @@ pub data Happening : Type 0 where
 -- what a request of that version and body comes to that waits for no group
 abbrev pub plainly : tenant.Reaction → Head → ℤ → List ℕ → Session → Session
 plainly (Replies reply) head version body s = replied head reply s
-plainly (Waits deadline places) head version body s =
-    record s { stage = waiting (record { head = head; awaited = Records version body deadline }) s.stage }
+plainly (Waits deadline limit places) head version body s =
+    record s { stage = waiting (record { head = head; awaited = Records version body deadline limit }) s.stage }
 plainly Silent head version body s = s
 plainly Shuts head version body s = shut_down (unanswerable head) s
 
@@ -94,7 +94,7 @@ put setup kept clock n unread = kept_at setup kept clock n (front unread)
 -- what a waiting request comes to: a reply ends the wait
 abbrev pub told : tenant.Reaction → Head → Session → Session
 told (Replies reply) head s = replied head reply (record s { stage = without_wait s.stage })
-told (Waits deadline places) head s = s
+told (Waits deadline limit places) head s = s
 told Silent head s = s
 told Shuts head s = shut_down (unanswerable head) s
 

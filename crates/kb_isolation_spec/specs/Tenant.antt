@@ -1,5 +1,5 @@
 -- What a tenant's own requests mean to its machine.
-use Rattle.std.specs.Prelude.{ℕ, ℤ, List, [], Bool, true, false, nat_le, Result, Ok, Err}
+use Rattle.std.specs.Prelude.{ℕ, ℤ, List, [], Option, Bool, true, false, nat_le, Result, Ok, Err}
 use Rattle.kb_wire.specs.declared.fault.WireFault.{WireFault}
 use Rattle.kb_api_data.specs.declared.fetch.FetchRequest.{FetchRequest}
 use Rattle.kb_tenant_state.specs.World.{World}
@@ -13,9 +13,10 @@ use Rattle.kb_tenant_api.specs.Serve.{Outcome, served}
 use Rattle.kb_tenant.specs.declared.node.Node.{Node}
 use Rattle.kb_isolation_spec.specs.declared.head.Head.{Head}
 
--- what a request waits for: the records that a fetch of that version and body asks, until a moment at most, or its group's answer
+-- what a request waits for: the records that a fetch of that version and body asks, until a moment at most and no more bytes of them than
+-- its tenant's limit allows, or its group's answer
 pub data Awaited : Type 0 where
-  Records : (version : ℤ) (body : List ℕ) (deadline : ℕ) → Awaited
+  Records : (version : ℤ) (body : List ℕ) (deadline : ℕ) (limit : Option ℕ) → Awaited
   Group : Awaited
 
 -- a request that waits for its answer: what is kept of it for its reply, and what it waits for
@@ -36,7 +37,7 @@ unfoldable pub answer : Node → Kept → ℕ → ℕ → ℤ → ℤ → List �
 answer node kept clock n key version body = (outcome node kept clock n key version body).reaction
 
 abbrev pub ready_for : Kept → ℕ → ℕ → Awaited → tenant.Reaction
-ready_for kept clock n (Records version body deadline) = looked kept.world clock deadline version body
+ready_for kept clock n (Records version body deadline limit) = looked kept.world clock deadline version limit body
 ready_for kept clock n Group = told_to n kept.groups
 
 -- what the request comes to now that waits on the connection of number n: a reply where it is ready, else silence
@@ -49,7 +50,7 @@ asked_in w (Ok r) = places_of w r
 asked_in w (Err fault) = []
 
 abbrev pub asked_for : Kept → Awaited → List TopicPartition
-asked_for kept (Records version body deadline) = asked_in kept.world (asked_fetch version body)
+asked_for kept (Records version body deadline limit) = asked_in kept.world (asked_fetch version body)
 asked_for kept Group = []
 
 -- the partitions that a waiting request asks for
@@ -58,10 +59,10 @@ asked kept wait = asked_for kept wait.awaited
 
 -- whether it waits no longer than that, whatever happens
 abbrev pub is_past : ℕ → Awaited → Bool
-is_past clock (Records version body deadline) = nat_le deadline clock
+is_past clock (Records version body deadline limit) = nat_le deadline clock
 is_past clock Group = false
 
 -- whether it waits for its group
 abbrev pub is_members : Awaited → Bool
-is_members (Records version body deadline) = false
+is_members (Records version body deadline limit) = false
 is_members Group = true

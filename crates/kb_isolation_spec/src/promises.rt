@@ -15,7 +15,7 @@ ghost use Rattle.kb_isolation_spec.specs.Tenant.{Records, Wait, ready};
 ghost use Rattle.kb_isolation_spec.specs.Fetches.{AllTurnsGiveBatches, AllWakeWithBatches, EventGivesBatches, FetchesGetBatches};
 ghost use Rattle.kb_isolation_spec.specs.Fetches.{GetsBatches, NextGivesBatches, ServesBatches, after_request};
 ghost use Rattle.kb_tenant.specs.Batches.{HasSmallLogs};
-ghost use Rattle.kb_tenant.specs.Fetch.{asked_fetch, fetched, fetched_in};
+ghost use Rattle.kb_tenant.specs.Fetch.{asked_fetch, bounded, fetched, fetched_in};
 ghost use Rattle.kb_tenant.specs.LimitsKept.{AreLimitsKept, HasOrderedCommits};
 ghost use Rattle.kb_tenant.specs.Replies.{Replies, framed};
 ghost use Rattle.kb_isolation_spec.specs.Versions.{base_of};
@@ -106,9 +106,9 @@ pub fn fetches_get_whole_batches()
         → GetsBatches kept.world version fetch (request setup.versions frame).head (record s { unread = rest })
         (after_turn setup kept clock n s) }
     ensures after_a_wait { (kept : Kept) (clock n tenant : ℕ) (s : Session) (head : Head) (version : ℤ) (body : List ℕ) (deadline : ℕ)
-        (fetch : FetchRequest)
+        (limit : Option ℕ) (fetch : FetchRequest)
         → HasSmallLogs kept.world → s.stage
-        ≡ BoundTo tenant (Some (record { head = head; awaited = Records version body deadline }))
+        ≡ BoundTo tenant (Some (record { head = head; awaited = Records version body deadline limit }))
         → asked_fetch version body ≡ Ok fetch
         → GetsBatches kept.world version fetch head (record s { stage = without_wait s.stage }) (woken kept clock n s) }
 {}
@@ -146,16 +146,17 @@ pub fn batches_are_of_each_turn()
 /// A fetch that waits is answered at its deadline, whatever is kept: with what there then is of the partitions that it asks for. The
 /// reply ends its wait.
 pub fn fetches_end_at_their_deadline()
-    ensures ready { (kept : Kept) (clock n : ℕ) (head : Head) (version : ℤ) (body : List ℕ) (deadline : ℕ) (fetch : FetchRequest)
-        → asked_fetch version body ≡ Ok fetch → deadline ≤ clock
-        → ready kept clock n (record { head = head; awaited = Records version body deadline })
-        ≡ Replies (fetched_in version (fetched kept.world fetch).1) }
-    ensures answered { (kept : Kept) (clock n tenant : ℕ) (s : Session) (head : Head) (version : ℤ) (body : List ℕ) (deadline : ℕ)
+    ensures ready { (kept : Kept) (clock n : ℕ) (head : Head) (version : ℤ) (body : List ℕ) (deadline : ℕ) (limit : Option ℕ)
         (fetch : FetchRequest)
-        → s.stage ≡ BoundTo tenant (Some (record { head = head; awaited = Records version body deadline }))
+        → asked_fetch version body ≡ Ok fetch → deadline ≤ clock
+        → ready kept clock n (record { head = head; awaited = Records version body deadline limit })
+        ≡ Replies (fetched_in version (fetched kept.world (bounded limit fetch)).1) }
+    ensures answered { (kept : Kept) (clock n tenant : ℕ) (s : Session) (head : Head) (version : ℤ) (body : List ℕ) (deadline : ℕ)
+        (limit : Option ℕ) (fetch : FetchRequest)
+        → s.stage ≡ BoundTo tenant (Some (record { head = head; awaited = Records version body deadline limit }))
         → asked_fetch version body ≡ Ok fetch → deadline ≤ clock
         → woken kept clock n s
-        ≡ replied head (fetched_in version (fetched kept.world fetch).1) (record s { stage = without_wait s.stage }) }
+        ≡ replied head (fetched_in version (fetched kept.world (bounded limit fetch)).1) (record s { stage = without_wait s.stage }) }
 {}
 
 /// A connection never has more unread bytes than its limit, and one that was shut takes no piece.

@@ -112,6 +112,7 @@ fn looked<L: PartitionLog + Drop, S: Store>(
         api_version: 4,
         body,
         deadline,
+        limit: None,
     };
     assert!(rt; 0 < tenants.len());
     tenants.look(alloc, 0, 1000, &wait)

@@ -153,3 +153,33 @@ fn a_reply_past_its_limit_is_not_sent(rt: HostRuntime) -> Result<(), Fail> {
     let mut other = tenant_of(rt.alloc(), 30)?;
     other.shuts(&rt, rt.alloc(), FETCH_OFFSET)
 }
+
+/// What a tenant is answered whose fetches have fewer bytes than two batches of `hi`: the first, which is given whole.
+const AT_FETCH_LIMIT: [[&str; 3]; 4] = [
+    [CREATE, CREATED, "0000000d 0000000a 00000001 0001 't ffff"],
+    [APPEND, APPENDED, "produced ffff nowhere 00000000"],
+    [
+        APPEND,
+        "produced 0000 0000000000000001 ffffffffffffffff 00000000",
+        "produced ffff nowhere 00000000",
+    ],
+    [
+        "00000036 0001 0004 00000015 ffff ffffffff 00000000 00000001 00100000 00 t/0 \
+        0000000000000000 00100000",
+        "00000077 00000015 00000000 t/0 0000 0000000000000002 0000000000000002 ffffffff 00000046 \
+        0000000000000000 0000003a 00000000 02 71a3af2c 0000 00000000 times nobody 00000001 value",
+        "00000031 00000015 00000000 t/0 ffff nowhere ffffffff 00000000",
+    ],
+];
+
+/// A first batch is whole at each limit, and no second one comes with it.
+#[test]
+fn a_fetch_is_bounded(rt: HostRuntime) -> Result<(), Fail> {
+    for limit in [1, 70, 139] {
+        let mut limits = DataLimits::none();
+        limits.fetch_bytes = Some(limit);
+        let mut tenant = Tenant::new(rt.alloc(), limits)?;
+        tenant.is_refused(&rt, rt.alloc(), &AT_FETCH_LIMIT)?;
+    }
+    Ok(())
+}

@@ -89,14 +89,14 @@ restored_tenant log files name parts = record { name = name; kept = kept_in (wor
 -- after it a request waits no longer: it is a reply, or the connection is to be shut
 abbrev pub EndsWait : Answer → Type 0
 EndsWait (answers.Reply reply) = ⊤
-EndsWait (answers.Wait deadline keys) = ⊥
+EndsWait (answers.Wait deadline limit keys) = ⊥
 EndsWait answers.NoReply = ⊥
 EndsWait answers.Shut = ⊤
 
 -- what a look comes to in which something was refused: its reply; or the connection is to be shut, also where the request would wait on
 abbrev pub ended : Answer → Answer
 ended (answers.Reply reply) = answers.Reply reply
-ended (answers.Wait deadline keys) = answers.Shut
+ended (answers.Wait deadline limit keys) = answers.Shut
 ended answers.NoReply = answers.Shut
 ended answers.Shut = answers.Shut
 

@@ -22,9 +22,9 @@ returns-in-Records-clause-meets g c = λ honest calm.
     let fits : FitsSigned w32 w.head.correlation_id = search rules in
     let version : FitsSigned w16 f.api_version = search rules in
     let met = c.look.ensures.meets honest calm in
-    let bodied = subst (λ body. IsAnswer (to_z w32 (of_z w32 w.head.correlation_id)) (looked k.world a.clock f.deadline (to_z w16 (of_z w16 f.api_version)) body) c.look.result) c.deref.ensures.value met.1 in
-    let versioned = subst (λ v. IsAnswer (to_z w32 (of_z w32 w.head.correlation_id)) (looked k.world a.clock f.deadline v f.body.items) c.look.result) (to_z-of_z w16 f.api_version version) bodied in
-    (met.0, subst (λ x. IsAnswer w.head.correlation_id (ready_for k a.clock a.number (awaited_of x)) c.look.result) (sym f.is) (subst (λ z. IsAnswer z (looked k.world a.clock f.deadline f.api_version f.body.items) c.look.result) (to_z-of_z w32 w.head.correlation_id fits) versioned))
+    let bodied = subst (λ body. IsAnswer (to_z w32 (of_z w32 w.head.correlation_id)) (looked k.world a.clock f.deadline (to_z w16 (of_z w16 f.api_version)) f.limit body) c.look.result) c.deref.ensures.value met.1 in
+    let versioned = subst (λ v. IsAnswer (to_z w32 (of_z w32 w.head.correlation_id)) (looked k.world a.clock f.deadline v f.limit f.body.items) c.look.result) (to_z-of_z w16 f.api_version version) bodied in
+    (met.0, subst (λ x. IsAnswer w.head.correlation_id (ready_for k a.clock a.number (awaited_of x)) c.look.result) (sym f.is) (subst (λ z. IsAnswer z (looked k.world a.clock f.deadline f.api_version f.limit f.body.items) c.look.result) (to_z-of_z w32 w.head.correlation_id fits) versioned))
 
 pub returns-in-Group-clause-meets : goal.returns-in-Group-clause-meets
 unfolding ready
@@ -72,9 +72,9 @@ returns-in-Records-clause-told g c = λ honest.
     let version = to_z w16 (of_z w16 f.api_version) in
     let fits : FitsSigned w32 w.head.correlation_id = search rules in
     let small : FitsSigned w16 f.api_version = search rules in
-    let bodied = subst (λ body. AnswersLook failed id version k.world a.clock f.deadline body r) c.deref.ensures.value (c.look.ensures.told honest) in
-    let versioned = subst (λ n. AnswersLook failed id n k.world a.clock f.deadline f.body.items r) (to_z-of_z w16 f.api_version small) bodied in
-    let told = subst (λ z. AnswersLook failed z f.api_version k.world a.clock f.deadline f.body.items r) (to_z-of_z w32 w.head.correlation_id fits) versioned in
+    let bodied = subst (λ body. AnswersLook failed id version f.limit k.world a.clock f.deadline body r) c.deref.ensures.value (c.look.ensures.told honest) in
+    let versioned = subst (λ n. AnswersLook failed id n f.limit k.world a.clock f.deadline f.body.items r) (to_z-of_z w16 f.api_version small) bodied in
+    let told = subst (λ z. AnswersLook failed z f.api_version f.limit k.world a.clock f.deadline f.body.items r) (to_z-of_z w32 w.head.correlation_id fits) versioned in
     subst (λ x. TellsAwaited failed w.head.correlation_id a.clock k (awaited_of x) r) (sym f.is) told
 
 pub returns-in-Group-clause-told : goal.returns-in-Group-clause-told

@@ -17,7 +17,7 @@ const MEANINGS: [(ErrorCode, &str); 3] = [
     ),
     (
         ErrorCode::PolicyViolation,
-        ": the broker makes no more topics",
+        ": the tenant is at its limit of topics or of partitions",
     ),
     (
         ErrorCode::SaslAuthenticationFailed,

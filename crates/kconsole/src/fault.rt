@@ -63,7 +63,7 @@ const MEANINGS: [(ErrorCode, &str); 6] = [
     ),
     (
         ErrorCode::PolicyViolation,
-        ": the broker makes no more topics",
+        ": the tenant is at a limit of what it may have",
     ),
     (ErrorCode::KafkaStorageError, ": the broker's store failed"),
 ];

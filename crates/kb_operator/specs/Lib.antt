@@ -1,2 +1,3 @@
 pub mod Bucket
 pub mod Settings
+pub mod Sums

@@ -26,6 +26,7 @@ mod report;
 mod settings;
 mod shown;
 mod start;
+mod sums;
 
 pub use address::{address_text, addresses_text, listen_fault};
 pub use changed::last_change;

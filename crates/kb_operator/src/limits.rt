@@ -7,7 +7,7 @@ use toml::value::Array;
 use toml::{Table, Value};
 
 /// The keys of limits.
-const KEYS: [&str; 10] = [
+const KEYS: [&str; 11] = [
     "name",
     "connections",
     "reserved_connections",
@@ -17,6 +17,7 @@ const KEYS: [&str; 10] = [
     "partitions",
     "offsets",
     "bytes",
+    "fetch_bytes",
     "advertise",
 ];
 
@@ -107,6 +108,7 @@ fn numbers_reason(
         ("partitions", 0, 64_000),
         ("offsets", 0, 1_000_000),
         ("bytes", 1_048_576, i64::MAX),
+        ("fetch_bytes", 65_536, 8_388_608),
     ];
     for (key, low, high) in numbers {
         if let Some(wrong) = number_reason(alloc, entry.get(key), low, high)? {

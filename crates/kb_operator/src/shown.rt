@@ -2,13 +2,25 @@
 
 use crate::address::address_text;
 use crate::fault::OperatorFault;
+use crate::sums::{fetched_at_most, stored_at_most};
 use kb_settings::{DataLimits, Endpoint, Settings, TenantLimits, tenant_names};
 use std::alloc::{AllocError, Global};
 use std::io;
 use std::io::Write;
 
+/// What all tenants come to together.
+#[derive(Clone, Copy)]
+struct Totals {
+    tenants: usize,
+    /// How many bytes they may store, where each has a limit.
+    stored: Option<u64>,
+    /// How many bytes of memory replies of Fetch to all connections may take.
+    fetched: u64,
+}
+
 /// Writes a line for each key, for each user and for each tenant with limits, in the order of the file and without passwords and the
-/// token for metrics, and then the counts. The folder is the one that they name.
+/// token for metrics. Then come the counts, what all tenants may store, and what replies of Fetch may take. The folder is the one that
+/// they name.
 pub fn write_settings<W: Write>(
     alloc: Global,
     settings: &Settings,
@@ -17,9 +29,13 @@ pub fn write_settings<W: Write>(
 ) -> Result<(), OperatorFault> {
     let advertised = endpoint_text(alloc, &settings.advertise)?;
     let metrics = endpoint_text(alloc, &settings.metrics.address)?;
-    let tenants = tenant_names(alloc, &settings.users)?.len();
+    let totals = Totals {
+        tenants: tenant_names(alloc, &settings.users)?.len(),
+        stored: stored_at_most(alloc, settings)?,
+        fetched: fetched_at_most(alloc, settings)?,
+    };
     let written = match write_addresses(settings, advertised.as_deref(), writer) {
-        Ok(()) => write_rest(settings, metrics.as_deref(), folder, tenants, writer),
+        Ok(()) => write_rest(settings, metrics.as_deref(), folder, totals, writer),
         Err(error) => Err(error),
     };
     match written {
@@ -50,12 +66,12 @@ fn write_addresses<W: Write>(
     Ok(())
 }
 
-/// The sizes, where metrics are served, the folder, the users, the limits of tenants and the counts.
+/// The sizes, where metrics are served, the folder, the users, the limits of tenants and what they come to together.
 fn write_rest<W: Write>(
     settings: &Settings,
     metrics: Option<&str>,
     folder: &str,
-    tenants: usize,
+    totals: Totals,
     writer: &mut W,
 ) -> io::Result<()> {
     writeln!(writer, "segment_bytes = {}", settings.segment_bytes)?;
@@ -74,9 +90,22 @@ fn write_rest<W: Write>(
     for limits in &settings.tenants {
         write_limits(limits, writer)?;
     }
-    let users = settings.users.len();
-    writeln!(writer, "users: {users}, tenants: {tenants}")?;
+    write_totals(settings.users.len(), totals, writer)?;
     writer.flush()
+}
+
+/// What all users and tenants come to together.
+fn write_totals<W: Write>(users: usize, totals: Totals, writer: &mut W) -> io::Result<()> {
+    writeln!(writer, "users: {users}, tenants: {}", totals.tenants)?;
+    match totals.stored {
+        Some(bytes) => writeln!(writer, "bytes that all tenants may store: {bytes}")?,
+        None => writeln!(writer, "bytes that all tenants may store: no limit")?,
+    }
+    writeln!(
+        writer,
+        "bytes of memory that replies of Fetch may take: {}",
+        totals.fetched
+    )
 }
 
 /// When what was done is made to last, and what a socket may do.
@@ -90,10 +119,40 @@ fn write_edge<W: Write>(settings: &Settings, writer: &mut W) -> io::Result<()> {
     writeln!(writer, "request_seconds = {}", requests.request_seconds)?;
     writeln!(writer, "idle_seconds = {}", requests.idle_seconds)?;
     writeln!(writer, "input_bytes = {}", requests.input_bytes)?;
-    if let Some(entries) = settings.entries_for(settings.stock_clients) {
-        writeln!(writer, "request_entries = {entries}")?;
+    write_request_limits(settings, writer)?;
+    writeln!(writer, "stock_clients = {}", settings.stock_clients)?;
+    writeln!(writer, "logins = {}", settings.logins)
+}
+
+/// What a request may name, and what its reply may have.
+fn write_request_limits<W: Write>(settings: &Settings, writer: &mut W) -> io::Result<()> {
+    let serves_them = settings.stock_clients;
+    let entries = settings.entries_for(serves_them);
+    write_limit(
+        "request_entries",
+        entries,
+        settings.entries_for(true),
+        writer,
+    )?;
+    let bytes = settings.reply_bytes_for(serves_them);
+    write_limit("reply_bytes", bytes, settings.reply_bytes_for(true), writer)
+}
+
+/// A limit as the settings say, or what it is where `kbroker serve` has the flag `--stock-clients`.
+fn write_limit<W: Write>(
+    key: &str,
+    limit: Option<u64>,
+    with_flag: Option<u64>,
+    writer: &mut W,
+) -> io::Result<()> {
+    match (limit, with_flag) {
+        (Some(limit), _) => writeln!(writer, "{key} = {limit}"),
+        (None, Some(limit)) => writeln!(
+            writer,
+            "{key}: no limit, and {limit} with the flag --stock-clients"
+        ),
+        (None, None) => Ok(()),
     }
-    writeln!(writer, "stock_clients = {}", settings.stock_clients)
 }
 
 /// The limits of a tenant.
@@ -117,8 +176,9 @@ fn write_data_limits<W: Write>(limits: &DataLimits, writer: &mut W) -> io::Resul
     let named = [
         ("topics", limits.topics),
         ("partitions", limits.partitions),
-        ("offsets", limits.offsets),
+        ("offsets", Some(limits.offsets)),
         ("bytes", limits.bytes),
+        ("fetch_bytes", limits.fetch_bytes),
     ];
     for (key, limit) in named {
         if let Some(limit) = limit {

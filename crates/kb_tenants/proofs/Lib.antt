@@ -8,6 +8,7 @@ pub mod Hosted
 pub mod Idle
 pub mod KeptIn
 pub mod Members
+pub mod Ordered
 pub mod Others
 pub mod Passed
 pub mod Renewal

@@ -8,6 +8,6 @@ mod tenants;
 mod view;
 
 pub use outcome::Outcome;
-pub use promises::kept_logs_are_small;
+pub use promises::{kept_commits_are_ordered, kept_logs_are_small};
 pub use tenants::Tenants;
 pub use view::TenantView;

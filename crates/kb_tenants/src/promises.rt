@@ -1,6 +1,7 @@
 //! Laws about what tenants keep, each as the contract of a function with an empty body.
 ghost use Rattle.std.specs.Prelude.{ℕ};
 ghost use Rattle.kb_tenant.specs.Batches.{HasSmallLogs};
+ghost use Rattle.kb_tenant.specs.LimitsKept.{HasOrderedCommits};
 ghost use Rattle.kb_tenant_api.specs.Hosted.{kept_of};
 ghost use Rattle.kb_tenants.specs.Tenants.{AreKept, hosted, shelf_is_honest};
 
@@ -14,4 +15,12 @@ pub fn kept_logs_are_small<L: PartitionLog, S: Store>(tenants: &Tenants<L, S>)
     requires { AreKept L.log S.disk tenants.now }
     ensures { shelf_is_honest S.disk tenants.now → (t : ℕ)
         → HasSmallLogs (kept_of (hosted L.log S.disk tenants.now) t).world }
+{}
+
+/// On an honest store no group has two offsets of one partition of a tenant, whoever wrote the files: a meta log comes to no other
+/// catalog.
+pub fn kept_commits_are_ordered<L: PartitionLog, S: Store>(tenants: &Tenants<L, S>)
+    requires { AreKept L.log S.disk tenants.now }
+    ensures { shelf_is_honest S.disk tenants.now → (t : ℕ)
+        → HasOrderedCommits (kept_of (hosted L.log S.disk tenants.now) t).world }
 {}

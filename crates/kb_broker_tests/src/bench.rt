@@ -2,7 +2,8 @@
 
 use crate::words::bytes_of;
 use kb_broker::Broker;
-use kb_node::{BindFault, Denied, Edge, Limits, Turn};
+use kb_isolation_spec::Login;
+use kb_node::{BindFault, Edge, Limits, LoginAttempt, Turn};
 use kb_store::MemoryStore;
 use std::alloc::Global;
 use std::io;
@@ -25,7 +26,7 @@ pub(crate) trait Server {
     fn turn(&mut self, alloc: Global, now: u32) -> Turn;
 
     /// The logins of the last turn that failed.
-    fn denied(&self) -> &[Denied];
+    fn denied(&self) -> &[LoginAttempt];
 }
 
 impl Server for Edge<HostRuntime, MemoryStore> {
@@ -38,8 +39,8 @@ impl Server for Edge<HostRuntime, MemoryStore> {
         Edge::turn(self, alloc, u64::from(now)).unwrap_or_default()
     }
 
-    fn denied(&self) -> &[Denied] {
-        Edge::denied(self)
+    fn denied(&self) -> &[LoginAttempt] {
+        self.news().denied.first()
     }
 }
 
@@ -166,8 +167,10 @@ fn count_denied<E: Server>(edge: &mut E, alloc: Global, now: u32) -> u64 {
     let mut denied = 0u64;
     for _ in 0..TURNS {
         edge.turn(alloc, now);
-        for login in edge.denied() {
-            if login.name.as_str() == "ann" {
+        for attempt in edge.denied() {
+            if let Login::Failed(name) = &attempt.login
+                && name.as_slice() == b"ann"
+            {
                 denied = denied.saturating_add(1);
             }
         }

@@ -19,6 +19,8 @@ mod faults;
 #[cfg(test)]
 mod groups;
 #[cfg(test)]
+mod logins;
+#[cfg(test)]
 mod memory;
 #[cfg(test)]
 mod mixes;

@@ -2,10 +2,10 @@
 
 use crate::bench::{Client, Move, Server, client_at, edge_for, edge_within, join, play};
 use crate::crowd::Crowd;
-use crate::running::{new_broker, opened};
+use crate::running::new_broker;
 use crate::words::bytes_of;
 use Move::{Ask, At, Closed, Ends, Fails, Idle, Join, Leave, Send, Stays, Told, Turns};
-use kb_broker::{Broker, Listing, Settings};
+use kb_broker::Broker;
 use kb_node::{BindFault, Edge, Limits, Turn};
 use kb_store::MemoryStore;
 use std::alloc::{AllocError, Global};
@@ -98,7 +98,8 @@ const VERSIONS_ARE_ANSWERED: [Move<'static>; 4] = [
     Idle,
 ];
 
-const USERS_LOG_IN: [Move<'static>; 10] = [
+/// A wrong password is answered 100 ms later.
+const USERS_LOG_IN: [Move<'static>; 14] = [
     Join,
     Join,
     Ask(0, "gssapi", "gssapi-refused"),
@@ -106,7 +107,11 @@ const USERS_LOG_IN: [Move<'static>; 10] = [
     Ask(0, "ann", "welcome"),
     Ask(0, "ann-again", "illegal"),
     Ask(1, "handshake", "offered"),
-    Ask(1, "ann-wrong", "denied"),
+    Fails(1, "ann-wrong"),
+    At(99),
+    Idle,
+    At(100),
+    Told(1, "denied"),
     Closed(1),
     Stays(0),
 ];
@@ -150,10 +155,12 @@ const A_CLIENT_MAY_CLOSE_IN_THE_MIDDLE: [Move<'static>; 5] = [
 ];
 
 /// What a shut connection sends is not read, and what is behind a wrong login is not answered.
-const WHAT_IS_BEHIND_A_WRONG_LOGIN_IS_NOT_READ: [Move<'static>; 4] = [
+const WHAT_IS_BEHIND_A_WRONG_LOGIN_IS_NOT_READ: [Move<'static>; 6] = [
     Join,
     Ask(0, "handshake", "offered"),
-    Ask(0, "ann-wrong versions versions", "denied"),
+    Fails(0, "ann-wrong versions versions"),
+    At(100),
+    Told(0, "denied"),
     Closed(0),
 ];
 
@@ -258,7 +265,7 @@ const SCENES: [Scene; 13] = [
 ];
 
 /// A scene is played on an edge for a broker.
-fn plays(
+pub(crate) fn plays(
     net: &HostRuntime,
     rt: &impl Abort,
     alloc: Global,
@@ -277,28 +284,6 @@ fn scenes_are_played(rt: HostRuntime) -> Result<(), Fail> {
         plays(&rt, &rt, rt.alloc(), new_broker(rt.alloc())?, name, moves)?;
     }
     Ok(())
-}
-
-/// Two logins of stock clients with a wrong password: within a request, and by itself after a handshake of version 0.
-const LOGINS_FAIL: [Move<'static>; 7] = [
-    Join,
-    Ask(0, "handshake", "offered"),
-    Fails(0, "ann-wrong"),
-    Join,
-    Ask(
-        1,
-        "00000011 0011 0000 00000002 ffff 0005 504c41494e",
-        "offered",
-    ),
-    Fails(1, "00000008 00 616e6e 00 707732"),
-    Closed(1),
-];
-
-#[test]
-fn failed_logins_are_counted(rt: HostRuntime) -> Result<(), Fail> {
-    let settings = Settings::standard(rt.alloc())?;
-    let broker = opened(rt.alloc(), &settings, Listing::StockClients)?;
-    plays(&rt, &rt, rt.alloc(), broker, "logins fail", &LOGINS_FAIL)
 }
 
 /// The last number is given to one client, and none is left for the next.

@@ -230,6 +230,18 @@ module _ {S T : Type 0} (disk : S → Disk) (contents remaining : T → Option (
     ended = ap (λ s. s.is_ended) is ∙ unended;
   }
 
+  -- it was noted on a socket that it has logged in, and that a login failed
+  pub noted : (old mid new : Socket T) (from : OnStore S) → old.is_ended ≡ false → mid ≡ record old { is_known = mid.is_known }
+      → new ≡ record mid { is_denied = new.is_denied } → StaysOpen old new from from
+  noted old mid new from unended one two = record {
+    carries = stays old new from from refl (ap (λ s. s.stream) two ∙ ap (λ s. s.stream) one)
+        (ap (λ s. drop s.written s.output.items) two ∙ ap (λ s. drop s.written s.output.items) one)
+        (ap (λ s. drop s.input.handed s.input.bytes.items) two ∙ ap (λ s. drop s.input.handed s.input.bytes.items) one)
+        (λ over. ap (λ s. s.is_over) two ∙ ap (λ s. s.is_over) one ∙ over);
+    connection = ap (λ s. s.connection) two ∙ ap (λ s. s.connection) one;
+    ended = ap (λ s. s.is_ended) two ∙ ap (λ s. s.is_ended) one ∙ unended;
+  }
+
   -- a piece that is kept
   pub keeps : (old new : Socket T) (from : OnStore S) (piece handed rest : List ℕ) → piece ≡ handed ++ rest → handed ≡ []
       → ((new.is_over || new.is_ended) ≡ false → unhanded_of new ≡ unhanded_of old ++ rest) → HandsOn disk old new piece from from

@@ -111,3 +111,11 @@ stalled_if holder now millis (Some stall) = if (stall.0 == holder) && nat_le (la
 
 abbrev pub stalled : ℕ → ℕ → ℕ → Stalls → Option ℕ
 stalled holder now millis stalls = stalled_if holder now millis (first_of holder stalls)
+
+-- the first moment at which one of that holder has taken nothing for so long, and the greatest number where it has none
+abbrev pub first_stall_if : ℕ → ℕ → Option (ℕ × ℕ × ℕ) → ℕ
+first_stall_if holder millis None = 2 ^ 64 - 1
+first_stall_if holder millis (Some stall) = if stall.0 == holder then later stall.1 millis else 2 ^ 64 - 1
+
+abbrev pub first_stall : ℕ → ℕ → Stalls → ℕ
+first_stall holder millis stalls = first_stall_if holder millis (first_of holder stalls)

@@ -3,9 +3,6 @@
 use kb_isolation_spec::Shut;
 use std::net::SocketAddr;
 
-/// How many of them a turn keeps.
-pub const CLOSED: usize = 16;
-
 /// A connection that the broker shut, and that is closed now.
 #[derive(Clone, Copy)]
 pub struct Closed {

@@ -11,13 +11,13 @@ mod closing;
 mod serving;
 mod waiting;
 
-use crate::closed::{CLOSED, Closed};
 use crate::commits::Commits;
 use crate::committed::Committed;
 use crate::deadlines::Strangers;
+use crate::delays::Delays;
 use crate::doors::{BindCause, DoorFault, Doors};
 use crate::limits::Limits;
-use crate::login::Denied;
+use crate::news::News;
 use crate::replies::shares_of;
 use crate::silences::Silences;
 use crate::socket::Socket;
@@ -42,11 +42,19 @@ const ACCEPTS: usize = 1024;
 /// How many holders have turns of their own: the tenants, of which settings have at most 256, and those that have not logged in.
 const HOLDERS: usize = 257;
 
-/// How many failed logins a turn keeps.
-const DENIED: usize = 16;
-
 /// The most bytes that are read from a socket at once.
 const PIECE: usize = 65_536;
+
+/// Whether an accept may find a socket.
+#[derive(Clone, Copy, Debug, PartialEq, Eq)]
+enum Accepts {
+    /// It may.
+    Ready,
+    /// Not before the system tells of one.
+    Waiting,
+    /// It was refused, and is tried again.
+    Refused,
+}
 
 /// Why an edge was not bound.
 #[derive(Clone, Copy, Debug, PartialEq, Eq)]
@@ -92,6 +100,8 @@ pub struct Edge<R: Net, S: Store, L: PartitionLog = ListLog> {
     shares: SocketShares,
     /// The connections of those that have not logged in.
     strangers: Strangers,
+    /// Those of them whose failed logins wait for their answers.
+    delays: Delays,
     /// What they have still to be written, or is kept free for what is said to the requests of this turn.
     replies: Ledger,
     /// Since when each of those with unwritten output took nothing of it.
@@ -104,8 +114,7 @@ pub struct Edge<R: Net, S: Store, L: PartitionLog = ListLog> {
     traffic: Vec<TenantTraffic>,
     /// Which sockets are ready. With none all are looked at in each turn.
     watch: Option<Watch>,
-    /// Whether an accept may find a socket.
-    can_accept: bool,
+    accepts: Accepts,
     /// Whether a file beside the sockets became ready since that was asked.
     is_beside_ready: bool,
     /// The connections whose sockets can go on, each once, but for those in line.
@@ -116,12 +125,8 @@ pub struct Edge<R: Net, S: Store, L: PartitionLog = ListLog> {
     asked: Vec<u64>,
     /// An empty list, to be filled while another is gone through.
     spare: Vec<u64>,
-    /// The logins of this turn that failed, the first ones.
-    denied: Vec<Denied>,
-    /// The connections of this turn that the broker shut, the first ones.
-    closed: Vec<Closed>,
-    /// How many more there were.
-    more_closed: u64,
+    /// What happened in this turn and is told one by one.
+    news: News,
     /// The clock of the last turn, in milliseconds.
     clock: u64,
     /// Whether its moment left something due, as it does with what was refused.
@@ -216,6 +221,7 @@ impl<R: Net, S: Store, L: PartitionLog + Drop> Edge<R, S, L> {
             buffer: buffers.buffer,
             shares,
             strangers: Strangers::new(alloc, u64::from(limits.login_seconds) * 1000),
+            delays: Delays::new(alloc),
             replies,
             silences: Silences::new(alloc),
             inputs,
@@ -226,15 +232,13 @@ impl<R: Net, S: Store, L: PartitionLog + Drop> Edge<R, S, L> {
             ),
             traffic: Vec::new(alloc),
             watch,
-            can_accept: true,
+            accepts: Accepts::Ready,
             is_beside_ready: false,
             ready: buffers.ready,
             line,
             asked: buffers.asked,
             spare: buffers.spare,
-            denied: buffers.denied,
-            closed: buffers.closed,
-            more_closed: 0,
+            news: buffers.news,
             clock: 0,
             is_left_due: false,
         })
@@ -298,19 +302,11 @@ impl<R: Net, S: Store, L: PartitionLog + Drop> Edge<R, S, L> {
         self.host.broker()
     }
 
-    /// The logins of the last turn that failed, at most 16 of them.
-    pub fn denied(&self) -> &[Denied] {
-        &self.denied
-    }
-
-    /// The connections of the last turn that the broker shut and that are closed, at most 16 of them, but for logins that failed.
-    pub fn closed(&self) -> &[Closed] {
-        &self.closed
-    }
-
-    /// How many more of these there were.
-    pub fn more_closed(&self) -> u64 {
-        self.more_closed
+    /// The logins of the last turn, and the connections that the broker shut in it: of each kind the first 16.
+    pub fn news(&self) -> &News
+        ensures { result.now ≡ self.now.news }
+    {
+        &self.news
     }
 
     /// One moment, in milliseconds and at most 2^62, and then whatever the sockets take and give now.
@@ -340,19 +336,42 @@ impl<R: Net, S: Store, L: PartitionLog + Drop> Edge<R, S, L> {
         Ok(turn)
     }
 
-    /// The moment of a turn. Those whom the broker told something then can go on.
+    /// The moment of a turn. Those whom the broker told something then can go on, and failed logins that have waited for long enough.
     fn begin(&mut self, alloc: Global, now: u64)
         requires { now ≤ 2 ^ 62 }
         ensures { Happens S.disk (Moment now) self.old.host.broker self.new.host.broker }
     {
-        self.denied.clear();
-        self.closed.clear();
-        self.more_closed = 0;
+        self.news.clear();
         self.clock = now;
         self.host.moment(alloc, now);
         self.is_left_due = self.host.broker().next_deadline() <= now;
         self.hear_speakers();
+        self.answer_denied();
         self.hear_all();
+    }
+
+    /// The failed logins are answered that have waited for long enough.
+    fn answer_denied(&mut self)
+        ensures { self.new.host ≡ self.old.host }
+    {
+        for _ in 0..self.limit {
+            let Some(number) = self.delays.take_due(self.clock) else {
+                break;
+            };
+            self.let_answer(number);
+        }
+    }
+
+    /// The failed login of a connection may be answered.
+    fn let_answer(&mut self, number: u64)
+        ensures { self.new.host ≡ self.old.host }
+    {
+        if let Some(place) = self.place_of(number)
+            && let Some(socket) = self.sockets.get_mut(place)
+        {
+            socket.let_answer();
+            self.queue(place);
+        }
     }
 
     /// The sockets that can go on are served: all before one commit where replies wait for it, and else one after another.
@@ -378,7 +397,7 @@ impl<R: Net, S: Store, L: PartitionLog + Drop> Edge<R, S, L> {
         if self.watch.is_some() {
             return;
         }
-        self.can_accept = true;
+        self.accepts = Accepts::Ready;
         for place in 0..self.sockets.len() {
             if let Some(socket) = self.sockets.get_mut(place) {
                 socket.hear_any();
@@ -404,11 +423,12 @@ impl<R: Net, S: Store, L: PartitionLog + Drop> Edge<R, S, L> {
     fn accept_one(&mut self, alloc: Global, turn: &mut Turn) -> bool
         ensures { Goes S.disk R.Stream.contents R.Stream.remaining self.old.host.broker self.new.host.broker }
     {
-        if !self.can_accept {
+        if self.accepts == Accepts::Waiting {
             return false;
         }
         match self.doors.accept() {
             Ok((stream, peer)) => {
+                self.accepts = Accepts::Ready;
                 self.admit(alloc, stream, peer, turn);
                 true
             }
@@ -421,12 +441,15 @@ impl<R: Net, S: Store, L: PartitionLog + Drop> Edge<R, S, L> {
         ensures { self.new.host ≡ self.old.host }
     {
         match kind {
-            ErrorKind::Interrupted => true,
+            ErrorKind::Interrupted | ErrorKind::ConnectionAborted => true,
             ErrorKind::WouldBlock => {
-                self.can_accept = false;
+                self.accepts = Accepts::Waiting;
                 false
             }
-            _ => false,
+            _ => {
+                self.accepts = Accepts::Refused;
+                false
+            }
         }
     }
 
@@ -517,7 +540,7 @@ impl<R: Net, S: Store, L: PartitionLog + Drop> Edge<R, S, L> {
     }
 
     /// The connections that the broker told something can go on, whoever asked for it. One that has still to be written what it was
-    /// told before waits for that.
+    /// told before waits for that, and a failed login for its time.
     fn hear_speakers(&mut self)
         ensures { self.new.host ≡ self.old.host }
     {
@@ -526,6 +549,7 @@ impl<R: Net, S: Store, L: PartitionLog + Drop> Edge<R, S, L> {
                 && let Some(place) = self.place_of(*number)
                 && let Some(socket) = self.sockets.get(place)
                 && socket.unwritten() == 0
+                && socket.held.is_none()
             {
                 self.queue(place);
             }
@@ -551,15 +575,14 @@ fn refused<S: Store, L: PartitionLog>(fault: DoorFault, broker: Broker<S, L>) ->
     }
 }
 
-/// What is read into, three empty lists with room for all connections, one for failed logins, and one for what the broker shut.
+/// What is read into, three empty lists with room for all connections, and those of what is told.
 #[derive(Drop)]
 struct Buffers {
     buffer: Vec<u8>,
     ready: Vec<u64>,
     asked: Vec<u64>,
     spare: Vec<u64>,
-    denied: Vec<Denied>,
-    closed: Vec<Closed>,
+    news: News,
 }
 
 impl Buffers {
@@ -571,8 +594,7 @@ impl Buffers {
             ready: Vec::with_capacity(alloc, room)?,
             asked: Vec::with_capacity(alloc, room)?,
             spare: Vec::with_capacity(alloc, room)?,
-            denied: Vec::with_capacity(alloc, DENIED)?,
-            closed: Vec::with_capacity(alloc, CLOSED)?,
+            news: News::new(alloc)?,
         })
     }
 }

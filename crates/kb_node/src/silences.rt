@@ -4,7 +4,7 @@ ghost use Rattle.std.specs.Prelude.{◌≡◌, [], min, OnOk, OnErr};
 ghost use Rattle.std.specs.BTreeMap.{is_at};
 ghost use Rattle.std.specs.BTreeSet.{insert_key};
 ghost use Rattle.std.specs.Set.{remove_key};
-ghost use Rattle.kb_node.specs.Deadlines.{by_moment, by_holder, first_end, first_of, silent, stalled, without_silent};
+ghost use Rattle.kb_node.specs.Deadlines.{by_moment, by_holder, first_end, first_of, first_stall, silent, stalled, without_silent};
 
 use crate::deadlines::{Moments, TRY_MILLIS, later};
 use std::alloc::{AllocError, Global};
@@ -60,6 +60,16 @@ impl Stalls {
                 connection,
             ),
             _ => None,
+        }
+    }
+
+    /// The first moment at which one of a holder has taken nothing for so long: the greatest number where it has none.
+    fn first_end(&self, holder: usize, millis: u64) -> u64
+        ensures { result ≡ first_stall holder millis self.now.moments }
+    {
+        match self.first_of(holder) {
+            Some((it, since, _)) if it == holder => later(since, millis),
+            _ => u64::MAX,
         }
     }
 }
@@ -123,6 +133,13 @@ impl Silences {
         ensures { result ≡ stalled holder now millis self.now.stalls.moments }
     {
         self.stalls.stalled(holder, now, millis)
+    }
+
+    /// The first moment at which one of a holder has taken nothing for so long: the greatest number where it has none.
+    pub fn first_stall(&self, holder: usize, millis: u64) -> u64
+        ensures { result ≡ first_stall holder millis self.now.stalls.moments }
+    {
+        self.stalls.first_end(holder, millis)
     }
 
     /// One that is to be tried again, and then no more until it takes something.

@@ -2,20 +2,20 @@
 
 ghost use Rattle.std.specs.Prelude.{◌≡◌, ◌≢◌, ◌≤◌, ◌<◌, ◌+◌, ◌-◌, ◌||◌, ◌&&◌, not, true, false, None, vec_len, IfSome};
 ghost use Rattle.kb_isolation_spec.specs.Broker.{bound_to};
-ghost use Rattle.kb_node.specs.Sockets.{can_ask, is_done};
+ghost use Rattle.kb_node.specs.Sockets.{can_ask, is_denial, is_done, is_held};
 ghost use Rattle.kb_node.specs.SocketShares.{may_bind};
 ghost use Rattle.kb_node.specs.declared.socket.Next.TheVariants.{End};
 
 mod asking;
 mod carrying;
 
-use crate::closed::Closed;
 use crate::committed::Committed;
 use crate::input::Input;
 use crate::socket_shares::SocketShares;
 use crate::tenant_traffic::Heading;
 use crate::turn::Turn;
 use kb_broker::Broker;
+use kb_isolation_spec::Shut;
 use kb_log::PartitionLog;
 use kb_store::Store;
 use mio::event::Event;
@@ -33,17 +33,10 @@ pub enum Next {
     Answer,
     /// That the system has it readable or writable.
     System,
+    /// That its failed login may be answered.
+    Delay,
     /// Its connection is closed.
     End,
-}
-
-/// What was handed on and has still to be looked at for its answer.
-#[derive(Clone, Copy, Debug, PartialEq, Eq)]
-enum Asked {
-    Nothing,
-    Request,
-    /// A login without a request around it.
-    Login,
 }
 
 /// A socket that never waits, and its connection.
@@ -58,10 +51,6 @@ pub struct Socket<T> {
     written: usize,
     /// The front of the request that was handed on last.
     heading: Heading,
-    /// The name in the login that was handed on last.
-    login: String,
-    /// What was handed on since something was said last.
-    asked: Asked,
     /// Whether a read may find something.
     can_read: bool,
     /// Whether the peer sends no more than what is there.
@@ -70,10 +59,14 @@ pub struct Socket<T> {
     is_over: bool,
     /// Whether its connection is closed.
     is_ended: bool,
-    /// That the broker shut its connection, once it is closed, until that is told.
-    closed: Option<Closed>,
-    /// Whether its connection was told that it has logged in.
+    /// Whether it was told of that its connection has logged in.
     is_known: bool,
+    /// Whether it was told of that a login on its connection failed.
+    is_denied: bool,
+    /// Since when that login waits for its answer, where it does.
+    pub(crate) held: Option<u64>,
+    /// Whether a failed login may be answered.
+    may_answer: bool,
     /// Whether it was looked at which tenant has it, once it has logged in.
     is_bound: bool,
     /// Whether its turn is to come.
@@ -108,14 +101,14 @@ impl<T: Read + Write + Drop> Socket<T> {
             output: Vec::new(alloc),
             written: 0,
             heading: Heading::new(),
-            login: String::new(alloc),
-            asked: Asked::Nothing,
             can_read: true,
             is_half_closed: false,
             is_over: false,
             is_ended: false,
-            closed: None,
             is_known: false,
+            is_denied: false,
+            held: None,
+            may_answer: false,
             is_bound: false,
             is_queued: false,
             moved: 0,
@@ -134,38 +127,12 @@ impl<T: Read + Write + Drop> Socket<T> {
         self.connection
     }
 
-    /// Its other side.
-    pub fn peer(&self) -> SocketAddr {
-        self.peer
-    }
-
-    /// The name in the login that was handed on last, which is forgotten.
-    pub fn take_login(&mut self, alloc: Global) -> String
-        ensures connection { self.new.connection ≡ self.old.connection }
-        ensures ended { self.new.is_ended ≡ self.old.is_ended }
-    {
-        mem::replace(&mut self.login, String::new(alloc))
-    }
-
     /// The API key of the request that was handed on last, where it was handed on since that was asked.
     pub fn take_key(&mut self) -> Option<u16>
         ensures key { result ≡ self.old.heading.key }
         ensures rest { self.new ≡ record self.old { heading = record self.old.heading { key = None } } }
     {
         self.heading.take_key()
-    }
-
-    /// That the broker shut its connection, where it did and it was not told.
-    pub fn take_closed(&mut self) -> Option<Closed>
-        ensures connection { self.new.connection ≡ self.old.connection }
-        ensures ended { self.new.is_ended ≡ self.old.is_ended }
-    {
-        mem::replace(&mut self.closed, None)
-    }
-
-    /// Whether that is the name in the login that was handed on last.
-    pub fn is_of(&self, name: &str) -> bool {
-        self.login.as_str() == name
     }
 
     /// Whether its connection is closed.
@@ -175,11 +142,26 @@ impl<T: Read + Write + Drop> Socket<T> {
         self.is_ended
     }
 
-    /// Whether its connection is open and was not told yet that it has logged in.
+    /// Whether its connection is open, and it was not told of that it has logged in.
     pub fn is_stranger(&self) -> bool
         ensures { result ≡ (not self.now.is_known && not self.now.is_ended) }
     {
         !self.is_known && !self.is_ended
+    }
+
+    /// Whether its login failed, and it is not noted yet since when that waits for its answer.
+    pub fn is_to_be_held(&self) -> bool
+        ensures { result ≡ true → self.now.held ≡ None }
+    {
+        self.is_denied && !self.is_ended && !self.may_answer && self.held.is_none()
+    }
+
+    /// Its failed login waits no more, and may be answered.
+    pub fn let_answer(&mut self)
+        ensures { self.new ≡ record self.old { held = None; may_answer = true } }
+    {
+        self.held = None;
+        self.may_answer = true;
     }
 
     /// Whether its tenant is known, and it is counted for that.
@@ -309,14 +291,21 @@ impl<T: Read + Write + Drop> Socket<T> {
             && !broker.waits(self.connection)
     }
 
+    /// Whether a login on its connection failed, and may not be answered yet.
+    fn is_held<S: Store, L: PartitionLog + Drop>(&self, broker: &Broker<S, L>) -> bool
+        ensures { result ≡ is_held self.now.may_answer self.now.connection broker.now.state }
+    {
+        !self.may_answer && is_denial(broker.why(self.connection))
+    }
+
     /// Whether its connection is to be closed.
     fn is_done<S: Store, L: PartitionLog + Drop>(&self, broker: &Broker<S, L>) -> bool
-        ensures { result ≡ is_done self.now.is_over self.now.is_half_closed
+        ensures { result ≡ is_done self.now.is_over self.now.is_half_closed self.now.may_answer
             (vec_len self.now.output - self.now.written) self.now.connection broker.now.state }
     {
         self.is_over
-            || self.unwritten() == 0 && broker.shut(self.connection)
-            || self.is_half_closed && broker.waits(self.connection)
+            || self.unwritten() == 0 && broker.shut(self.connection) && !self.is_held(broker)
+            || self.is_half_closed && (broker.waits(self.connection) || self.is_held(broker))
     }
 
     /// What it waits for, where its connection is open.
@@ -325,6 +314,8 @@ impl<T: Read + Write + Drop> Socket<T> {
     {
         if self.unwritten() > 0 {
             Next::System
+        } else if self.is_held(broker) {
+            Next::Delay
         } else if broker.waits(self.connection) {
             Next::Answer
         } else if self.can_read || !self.input.is_short() {
@@ -333,4 +324,11 @@ impl<T: Read + Write + Drop> Socket<T> {
             Next::System
         }
     }
+}
+
+/// Whether a connection was shut for a login that failed.
+fn is_denial(cause: Option<Shut>) -> bool
+    ensures { result ≡ is_denial cause }
+{
+    matches!(cause, Some(Shut::Denied))
 }

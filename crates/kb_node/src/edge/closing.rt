@@ -11,6 +11,7 @@ use crate::edge::Edge;
 use crate::silences::Silences;
 use crate::socket::Socket;
 use crate::turn::Turn;
+use kb_isolation_spec::Login;
 use kb_log::PartitionLog;
 use kb_store::Store;
 use std::alloc::{AllocError, Global};
@@ -284,43 +285,37 @@ impl<R: Net, S: Store, L: PartitionLog + Drop> Edge<R, S, L> {
     fn put_behind(&mut self, alloc: Global, number: u64)
         ensures { self.new.host ≡ self.old.host }
     {
-        let Some(name) = self.name_of(alloc, number) else {
-            return;
-        };
+        let user = self.user_of(number);
         let spare = mem::replace(&mut self.spare, Vec::new(alloc));
         let mut round = mem::replace(&mut self.ready, spare);
-        self.queue_those(&round, &name, false);
-        self.queue_those(&round, &name, true);
+        self.queue_those(&round, user, false);
+        self.queue_those(&round, user, true);
         round.clear();
         self.spare = round;
     }
 
-    /// The name of the user of a connection, which is forgotten.
-    fn name_of(&mut self, alloc: Global, number: u64) -> Option<String>
-        ensures { self.new.host ≡ self.old.host }
-    {
-        let place = self.place_of(number)?;
-        let socket = self.sockets.get_mut(place)?;
-        Some(socket.take_login(alloc))
+    /// The place of the user who logged in on a connection, where one did.
+    fn user_of(&self, number: u64) -> Option<usize> {
+        match self.host.broker().login_of(number) {
+            Login::User(place) => Some(place),
+            Login::Nobody | Login::Failed(_) => None,
+        }
     }
 
-    /// Those of the connections whose user has the name are next, or those whose user has not.
-    fn queue_those(&mut self, numbers: &[u64], name: &str, has_name: bool)
+    /// Those of the connections that are of that user are next, or those that are not.
+    fn queue_those(&mut self, numbers: &[u64], user: Option<usize>, are_of_user: bool)
         ensures { self.new.host ≡ self.old.host }
     {
         for number in numbers {
-            self.queue_one(*number, name, has_name);
+            self.queue_one(*number, user, are_of_user);
         }
     }
 
     /// The same for one connection.
-    fn queue_one(&mut self, number: u64, name: &str, has_name: bool)
+    fn queue_one(&mut self, number: u64, user: Option<usize>, is_of_user: bool)
         ensures { self.new.host ≡ self.old.host }
     {
-        if let Some(place) = self.place_of(number)
-            && let Some(socket) = self.sockets.get(place)
-            && socket.is_of(name) == has_name
-        {
+        if (self.user_of(number) == user) == is_of_user {
             // there is room for each socket once
             let _ = self.ready.push(number);
         }
@@ -345,6 +340,9 @@ impl<R: Net, S: Store, L: PartitionLog + Drop> Edge<R, S, L> {
         {
             self.silences.end(socket.holder, number, socket.moved);
             self.times.forget(number, socket.begun, socket.looked);
+            if let Some(since) = socket.held {
+                self.delays.end(number, since);
+            }
             socket.close(alloc, &mut self.host, turn);
         }
     }

@@ -8,11 +8,9 @@ ghost use Rattle.kb_shares.specs.Turns.{joined};
 ghost use Rattle.kb_node.specs.TenantTraffic.{with_traffic};
 ghost use Rattle.kb_node.specs.Replies.{kept_for, place_of};
 
-use crate::closed::CLOSED;
 use crate::committed::Committed;
 use crate::edge::closing::note_reply;
-use crate::edge::{DENIED, Edge, HOLDERS};
-use crate::login::Denied;
+use crate::edge::{Edge, HOLDERS};
 use crate::socket::{Next, Socket};
 use crate::times::Times;
 use crate::turn::Turn;
@@ -40,10 +38,9 @@ struct Before {
     /// How many bytes are kept free for what it is told of what was asked since.
     promised: usize,
     is_stranger: bool,
-    /// What the turn had read and written, and the logins that had failed in it.
+    /// What the turn had read and written.
     read: u64,
     written: u64,
-    denied: u64,
 }
 
 impl Before {
@@ -54,7 +51,6 @@ impl Before {
             is_stranger: socket.is_stranger(),
             read: turn.read,
             written: turn.written,
-            denied: turn.denied,
         }
     }
 }
@@ -177,6 +173,7 @@ impl<R: Net, S: Store, L: PartitionLog + Drop> Edge<R, S, L> {
             &mut self.buffer,
             may_ask,
             most,
+            &mut self.news,
             turn,
         );
         self.count(place, before, turn);
@@ -293,7 +290,7 @@ impl<R: Net, S: Store, L: PartitionLog + Drop> Edge<R, S, L> {
             return;
         }
         let before = Before::of(socket, turn);
-        let next = socket.tell(alloc, &mut self.host, turn);
+        let next = socket.tell(alloc, &mut self.host, &mut self.news, turn);
         self.count(place, before, turn);
         self.note(alloc, place, before, next, turn);
     }
@@ -333,7 +330,10 @@ impl<R: Net, S: Store, L: PartitionLog + Drop> Edge<R, S, L> {
         ensures commits { self.new.host.commits ≡ self.old.host.commits }
         ensures goes { Goes S.disk R.Stream.contents R.Stream.remaining self.old.host.broker self.new.host.broker }
     {
-        self.note_served(alloc, place, before, turn);
+        self.note_served(place, before);
+        if !self.note_denied(alloc, place, turn) {
+            return;
+        }
         if !self.note_written(alloc, place, before, turn) {
             return;
         }
@@ -352,30 +352,14 @@ impl<R: Net, S: Store, L: PartitionLog + Drop> Edge<R, S, L> {
         }
     }
 
-    /// Notes whether the login of the socket at a place failed, whether the broker shut its connection, and whether it has logged in or
-    /// ended.
-    fn note_served(&mut self, alloc: Global, place: usize, before: Before, turn: &Turn)
+    /// Notes whether the socket at a place has logged in or ended.
+    fn note_served(&mut self, place: usize, before: Before)
         ensures { self.new.host ≡ self.old.host }
     {
         let Some(socket) = self.sockets.get_mut(place) else {
             return;
         };
         socket.is_queued = false;
-        if turn.denied > before.denied && self.denied.len() < DENIED {
-            // there is room for so many
-            let _ = self.denied.push(Denied {
-                address: socket.peer(),
-                name: socket.take_login(alloc),
-            });
-        }
-        if let Some(closed) = socket.take_closed() {
-            if self.closed.len() < CLOSED {
-                // there is room for so many
-                let _ = self.closed.push(closed);
-            } else {
-                self.more_closed = self.more_closed.saturating_add(1);
-            }
-        }
         if before.is_stranger && !socket.is_stranger() {
             self.strangers.forget(socket.connection());
         }
@@ -386,7 +370,32 @@ impl<R: Net, S: Store, L: PartitionLog + Drop> Edge<R, S, L> {
                 .forget(socket.connection(), socket.begun, socket.looked);
             socket.begun = None;
             socket.looked = None;
+            if let Some(since) = socket.held.take() {
+                self.delays.end(socket.connection(), since);
+            }
         }
+    }
+
+    /// Where a login on the socket at a place failed now, it waits for its answer from now on. It answers false where that cannot be noted,
+    /// and it is closed.
+    #[tactic(auto, using(crate::proofs::Goes::goes_then, crate::proofs::Goes::goes_none))]
+    fn note_denied(&mut self, alloc: Global, place: usize, turn: &mut Turn) -> bool
+        ensures commits { self.new.host.commits ≡ self.old.host.commits }
+        ensures goes { Goes S.disk R.Stream.contents R.Stream.remaining self.old.host.broker self.new.host.broker }
+    {
+        let Some(socket) = self.sockets.get_mut(place) else {
+            return false;
+        };
+        if !socket.is_to_be_held() {
+            return true;
+        }
+        let number = socket.connection();
+        socket.held = Some(self.clock);
+        if self.delays.begin(number, self.clock).is_err() {
+            self.close(alloc, number, turn);
+            return false;
+        }
+        true
     }
 
     /// Notes what the socket at a place has still to be written, for its own holder. It answers false where that cannot be noted, and it is

@@ -2,29 +2,29 @@
 
 ghost use Rattle.std.specs.Prelude.{◌≡◌, ◌≤◌, ◌<◌, ◌-◌, ◌^◌, min, true, false};
 ghost use Rattle.kb_shares.specs.Shares.{has_room, own_of, piece_for, used_by};
+ghost use Rattle.kb_node.specs.Deadlines.{first_stall, patience};
 ghost use Rattle.kb_node.specs.Replies.{place_of};
 
+use crate::deadlines::patience;
 use crate::doors::DOOR;
-use crate::edge::Edge;
 use crate::edge::beside::BESIDE;
+use crate::edge::{Accepts, Edge};
 use kb_log::PartitionLog;
 use kb_store::Store;
 use mio::event::Event;
 use std::net::Net;
 use std::time::Duration;
 
-/// How long is waited at most, in milliseconds: until an accept is tried again that was refused, or sockets that can go on while too much
-/// output is kept; until what a moment was refused is tried again; and where nothing is due, as clocks may jump.
-const SHORT_WAIT: u64 = 5;
-
+/// How long is waited at most, in milliseconds, until what was refused is tried again: an accept, or what a moment had to do.
 const REFUSED_WAIT: u64 = 100;
 
+/// How long is waited at most, in milliseconds, where nothing is due: clocks may jump.
 const LONG_WAIT: u64 = 1_000;
 
 impl<R: Net, S: Store, L: PartitionLog + Drop> Edge<R, S, L> {
     /// Waits until a socket becomes ready, a new one is there, or the broker may have something to do by the clock of the last turn, and
-    /// a second at most; and no time where a socket can go on as it is. What was refused is tried again within 100 ms: within 5 ms where
-    /// it is an accept. An edge that was bound without a watch does not wait.
+    /// a second at most; and no time where a socket can go on as it is. What was refused is tried again within 100 ms. An edge that was
+    /// bound without a watch does not wait.
     pub fn wait(&mut self) {
         let longest = self.longest_wait();
         self.listen(longest);
@@ -46,25 +46,52 @@ impl<R: Net, S: Store, L: PartitionLog + Drop> Edge<R, S, L> {
 
     /// How long may be waited.
     fn longest_wait(&self) -> Duration {
-        let millis = if self.can_ask_one() {
-            0
-        } else if self.ready.is_empty() && !self.can_accept {
-            quiet_time(self.next_deadline(), self.clock, self.is_left_due)
-        } else {
-            SHORT_WAIT
+        if self.accepts == Accepts::Ready || self.can_ask_one() {
+            return Duration::ZERO;
+        }
+        let quiet = quiet_time(self.next_deadline(), self.clock, self.is_left_due);
+        let millis = match self.accepts {
+            Accepts::Refused => quiet.min(REFUSED_WAIT),
+            Accepts::Ready | Accepts::Waiting => quiet,
         };
         Duration::from_millis(millis)
     }
 
-    /// The next moment at which there may be something to do: for the broker, for a commit, or where a socket is closed that kept silent.
+    /// The next moment at which there may be something to do: for the broker, for a commit, where a failed login is answered, or where a
+    /// socket is closed that kept silent.
     fn next_deadline(&self) -> u64 {
         self.host
             .broker()
             .next_deadline()
             .min(self.host.commits().next_commit())
             .min(self.strangers.first_deadline())
+            .min(self.delays.first_due())
             .min(self.silences.first_end(self.reply_millis))
             .min(self.times.first_end())
+            .min(self.first_stall())
+    }
+
+    /// The first moment at which a socket is closed that makes others of its holder wait: the greatest number where none does.
+    fn first_stall(&self) -> u64 {
+        let mut first = u64::MAX;
+        for number in &self.ready {
+            first = first.min(self.stall_of(*number));
+        }
+        first
+    }
+
+    /// The moment at which a socket is closed that makes that of a connection wait, where one does.
+    fn stall_of(&self, number: u64) -> u64
+        ensures open { has_room (place_of number self.now.shares) 1 self.now.replies.pool ≡ true → result ≡ 2 ^ 64 - 1 }
+        ensures stalled { has_room (place_of number self.now.shares) 1 self.now.replies.pool ≡ false → result
+            ≡ first_stall (place_of number self.now.shares) (patience false self.now.reply_millis) self.now.silences.stalls.moments }
+    {
+        if self.may_ask(number) {
+            return u64::MAX;
+        }
+        let holder = self.shares.holder(number);
+        self.silences
+            .first_stall(holder, patience(false, self.reply_millis))
     }
 
     /// Whether a socket that can go on may be asked for more.
@@ -111,7 +138,7 @@ impl<R: Net, S: Store, L: PartitionLog + Drop> Edge<R, S, L> {
     {
         let number = event.token().0 as u64;
         if number == DOOR {
-            self.can_accept = true;
+            self.accepts = Accepts::Ready;
             return;
         }
         if number == BESIDE {

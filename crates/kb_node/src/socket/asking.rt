@@ -10,8 +10,7 @@ ghost use Rattle.kb_node.specs.Requests.{awaited, is_too_long, may_begin};
 ghost use Rattle.kb_node.specs.Sockets.{can_ask};
 
 use crate::committed::Committed;
-use crate::login::note_login;
-use crate::socket::{Asked, Socket};
+use crate::socket::Socket;
 use crate::transfer::read_from;
 use crate::turn::Turn;
 use kb_log::PartitionLog;
@@ -59,11 +58,6 @@ impl<T: Read + Write + Drop> Socket<T> {
     {
         let room = host.broker().room(self.connection);
         let is_bare = host.broker().takes_login(self.connection);
-        self.asked = if is_bare {
-            Asked::Login
-        } else {
-            Asked::Request
-        };
         let is_begun = self.input.is_begun();
         if !self.input.is_short() {
             let awaited = self.input.awaited();
@@ -72,7 +66,6 @@ impl<T: Read + Write + Drop> Socket<T> {
             }
             let count = self.input.advance(room);
             let piece = self.input.passed(count);
-            note_login(alloc, &mut self.login, piece, is_bare, self.is_known);
             self.heading.note(is_begun, is_bare, piece);
             host.input(alloc, self.connection, piece);
             let reserve = reply_reserve(piece, is_begun);
@@ -144,7 +137,6 @@ impl<T: Read + Write + Drop> Socket<T> {
         if handed.is_empty() {
             return 0;
         }
-        note_login(alloc, &mut self.login, handed, is_bare, self.is_known);
         self.heading.note(is_begun, is_bare, handed);
         host.input(alloc, self.connection, handed);
         self.is_anew = self.is_anew || !self.input.is_begun();

@@ -1,23 +1,25 @@
 //! What a socket carries between its stream and its connection.
 
-ghost use Rattle.std.specs.Prelude.{◌≡◌, ◌≢◌, ◌<◌, ◌-◌, ◌++◌, ◌||◌, ℕ, List, true, false, vec_len};
+ghost use Rattle.std.specs.Prelude.{◌≡◌, ◌≢◌, ◌<◌, ◌+◌, ◌-◌, ◌^◌, ◌++◌, min, ℕ, List, true, false, None, IfSome, vec_len};
 ghost use Rattle.std.specs.Io.KnownBytes.{Appends};
-ghost use Rattle.kb_isolation_spec.specs.Calls.{is_open, output_of};
+ghost use Rattle.kb_isolation_spec.specs.Broker.{bound_to};
+ghost use Rattle.kb_isolation_spec.specs.Calls.{is_open, login_of};
 ghost use Rattle.kb_broker.specs.Places.{numbers};
 ghost use Rattle.kb_node.specs.Carries.{Carries, unhanded_of, unwritten_of};
 ghost use Rattle.kb_node.specs.Commits.{may_tell, tells_at_once};
-ghost use Rattle.kb_node.specs.Sockets.{is_done, is_welcome};
+ghost use Rattle.kb_node.specs.News.{more_with, with_one};
+ghost use Rattle.kb_node.specs.Sockets.{is_denied, is_done, is_held};
 ghost use Rattle.kb_node.specs.declared.socket.Next.TheVariants.{End};
 
 use crate::closed::Closed;
 use crate::committed::Committed;
 use crate::input::Input;
-use crate::login::is_welcome;
-use crate::socket::{Asked, Next, Socket};
+use crate::news::{LoginAttempt, News};
+use crate::socket::{Next, Socket, is_denial};
 use crate::socket_shares::SocketShares;
 use crate::transfer::write_to;
 use crate::turn::Turn;
-use kb_isolation_spec::Shut;
+use kb_broker::Broker;
 use kb_log::PartitionLog;
 use kb_store::Store;
 use std::alloc::Global;
@@ -28,7 +30,8 @@ impl<T: Read + Write + Drop> Socket<T> {
     /// is said to that. With `may_ask` false nothing is handed on, and no request begins of more than `most` bytes. It is for replies
     /// that wait for no commit.
     ///
-    /// Where the peer is gone, or the connection is shut and all is written, the connection is closed.
+    /// Where the peer is gone, or the connection is shut and all is written, the connection is closed. A failed login is answered only once
+    /// it may be.
     pub fn serve<S: Store, L: PartitionLog + Drop>(
         &mut self,
         alloc: Global,
@@ -37,6 +40,7 @@ impl<T: Read + Write + Drop> Socket<T> {
         buffer: &mut [u8],
         may_ask: bool,
         most: u64,
+        news: &mut News,
         turn: &mut Turn,
     ) -> Next
         requires not_ended { self.now.is_ended ≡ false }
@@ -49,7 +53,7 @@ impl<T: Read + Write + Drop> Socket<T> {
         ensures over { result ≡ End → self.new.is_ended ≡ true }
         // Else its connection and all others are open as before, and there is no cause to close it.
         ensures open { result ≢ End → numbers host.new.broker.state ≡ numbers host.old.broker.state }
-        ensures stays { result ≢ End → is_done self.new.is_over self.new.is_half_closed
+        ensures stays { result ≢ End → is_done self.new.is_over self.new.is_half_closed self.new.may_answer
             (vec_len self.new.output - self.new.written) self.new.connection host.new.broker.state ≡ false }
     {
         self.write_output(alloc, host, turn);
@@ -59,7 +63,7 @@ impl<T: Read + Write + Drop> Socket<T> {
                 self.write_output(alloc, host, turn);
             }
         }
-        self.finish(alloc, host, turn)
+        self.finish(alloc, host, news, turn)
     }
 
     /// Writes what is left of the output that was taken, and hands on a request where all is written that the connection had to say and
@@ -97,11 +101,12 @@ impl<T: Read + Write + Drop> Socket<T> {
 
     /// Writes what the connection has to say, once all is written that it said before. It is for replies that waited for a commit.
     ///
-    /// When the connection is closed, and when a login has failed, is as in [`Socket::serve`].
+    /// When the connection is closed is as in [`Socket::serve`].
     pub fn tell<S: Store, L: PartitionLog + Drop>(
         &mut self,
         alloc: Global,
         host: &mut Committed<S, L>,
+        news: &mut News,
         turn: &mut Turn,
     ) -> Next
         requires not_ended { self.now.is_ended ≡ false }
@@ -114,13 +119,13 @@ impl<T: Read + Write + Drop> Socket<T> {
         ensures over { result ≡ End → self.new.is_ended ≡ true }
         // Else its connection and all others are open as before, and there is no cause to close it.
         ensures open { result ≢ End → numbers host.new.broker.state ≡ numbers host.old.broker.state }
-        ensures stays { result ≢ End → is_done self.new.is_over self.new.is_half_closed
+        ensures stays { result ≢ End → is_done self.new.is_over self.new.is_half_closed self.new.may_answer
             (vec_len self.new.output - self.new.written) self.new.connection host.new.broker.state ≡ false }
     {
         if self.unwritten() == 0 && !self.is_over {
             self.write_output(alloc, host, turn);
         }
-        self.finish(alloc, host, turn)
+        self.finish(alloc, host, news, turn)
     }
 
     /// Closes the connection where it is to be closed, and answers what it waits for.
@@ -128,6 +133,7 @@ impl<T: Read + Write + Drop> Socket<T> {
         &mut self,
         alloc: Global,
         host: &mut Committed<S, L>,
+        news: &mut News,
         turn: &mut Turn,
     ) -> Next
         requires { self.now.is_ended ≡ false }
@@ -137,21 +143,100 @@ impl<T: Read + Write + Drop> Socket<T> {
         ensures ended { self.new.is_ended ≡ true → is_open self.old.connection host.new.broker.state ≡ false }
         ensures over { result ≡ End → self.new.is_ended ≡ true }
         ensures open { result ≢ End → numbers host.new.broker.state ≡ numbers host.old.broker.state }
-        ensures stays { result ≢ End → is_done self.new.is_over self.new.is_half_closed
+        ensures stays { result ≢ End → is_done self.new.is_over self.new.is_half_closed self.new.may_answer
             (vec_len self.new.output - self.new.written) self.new.connection host.new.broker.state ≡ false }
     {
-        let cause = host.broker().why(self.connection);
-        if self.asked != Asked::Nothing && matches!(cause, Some(Shut::Denied)) {
-            turn.count_denied();
-        }
-        self.asked = Asked::Nothing;
+        self.note_login(host.broker(), news);
+        self.note_denial(host.broker(), news, turn);
         if self.is_done(host.broker()) {
-            let tenant = host.broker().tenant_of(self.connection);
-            self.closed = Closed::of(self.peer, tenant, cause);
+            self.tell_closed(host.broker(), news);
             self.end(alloc, host, turn);
             return Next::End;
         }
         self.next(host.broker())
+    }
+
+    /// Notes that its connection has logged in, and tells of it, once.
+    fn note_login<S: Store, L: PartitionLog + Drop>(
+        &mut self,
+        broker: &Broker<S, L>,
+        news: &mut News,
+    )
+        ensures rest { self.new ≡ record self.old { is_known = self.new.is_known } }
+        ensures connection { self.new.connection ≡ self.old.connection }
+        ensures ended { self.new.is_ended ≡ self.old.is_ended }
+        ensures known { IfSome (bound_to self.old.connection broker.now.state) (λ tenant. self.new.is_known ≡ true) }
+        ensures told { self.old.is_known ≡ false → IfSome (bound_to self.old.connection broker.now.state)
+            (λ tenant. news.new.logins.first.items
+            ≡ with_one (record { address = self.old.peer; login = login_of self.old.connection broker.now.state })
+            news.old.logins.first.items) }
+        ensures more { self.old.is_known ≡ false → IfSome (bound_to self.old.connection broker.now.state)
+            (λ tenant. news.new.logins.more ≡ more_with news.old.logins.first.items news.old.logins.more) }
+        ensures nobody { bound_to self.old.connection broker.now.state ≡ None → (self.new ≡ self.old) × (news.new ≡ news.old) }
+        ensures once { self.old.is_known ≡ true → (self.new ≡ self.old) × (news.new ≡ news.old) }
+        ensures others { (news.new.denied ≡ news.old.denied) × (news.new.closed ≡ news.old.closed) }
+    {
+        if self.is_known {
+            return;
+        }
+        let Some(_) = broker.tenant_of(self.connection) else {
+            return;
+        };
+        self.is_known = true;
+        news.logins.add(self.attempt(broker));
+    }
+
+    /// Notes that a login on its connection failed, and tells of it, once.
+    fn note_denial<S: Store, L: PartitionLog + Drop>(
+        &mut self,
+        broker: &Broker<S, L>,
+        news: &mut News,
+        turn: &mut Turn,
+    )
+        ensures rest { self.new ≡ record self.old { is_denied = self.new.is_denied } }
+        ensures connection { self.new.connection ≡ self.old.connection }
+        ensures ended { self.new.is_ended ≡ self.old.is_ended }
+        ensures denied { is_denied self.old.connection broker.now.state ≡ true → self.new.is_denied ≡ true }
+        ensures told { self.old.is_denied ≡ false → is_denied self.old.connection broker.now.state ≡ true → news.new.denied.first.items
+            ≡ with_one (record { address = self.old.peer; login = login_of self.old.connection broker.now.state })
+            news.old.denied.first.items }
+        ensures more { self.old.is_denied ≡ false → is_denied self.old.connection broker.now.state ≡ true
+            → news.new.denied.more ≡ more_with news.old.denied.first.items news.old.denied.more }
+        ensures counted { self.old.is_denied ≡ false → is_denied self.old.connection broker.now.state ≡ true
+            → turn.new ≡ record turn.old { denied = min (turn.old.denied + 1) (2 ^ 64 - 1) } }
+        ensures none { is_denied self.old.connection broker.now.state ≡ false
+            → (self.new ≡ self.old) × (news.new ≡ news.old) × (turn.new ≡ turn.old) }
+        ensures once { self.old.is_denied ≡ true → (self.new ≡ self.old) × (news.new ≡ news.old) × (turn.new ≡ turn.old) }
+        ensures others { (news.new.logins ≡ news.old.logins) × (news.new.closed ≡ news.old.closed) }
+    {
+        if self.is_denied || !is_denial(broker.why(self.connection)) {
+            return;
+        }
+        self.is_denied = true;
+        news.denied.add(self.attempt(broker));
+        turn.count_denied();
+    }
+
+    /// The login on its connection, and from where it came.
+    fn attempt<S: Store, L: PartitionLog + Drop>(&self, broker: &Broker<S, L>) -> LoginAttempt
+        ensures { result ≡ record { address = self.now.peer; login = login_of self.now.connection broker.now.state } }
+    {
+        LoginAttempt {
+            address: self.peer,
+            login: broker.login_of(self.connection),
+        }
+    }
+
+    /// Tells of its connection, which is closed now, where the broker shut it.
+    fn tell_closed<S: Store, L: PartitionLog + Drop>(
+        &self,
+        broker: &Broker<S, L>,
+        news: &mut News,
+    ) {
+        let tenant = broker.tenant_of(self.connection);
+        if let Some(closed) = Closed::of(self.peer, tenant, broker.why(self.connection)) {
+            news.closed.add(closed);
+        }
     }
 
     /// Closes its connection as if the peer were gone.
@@ -179,7 +264,7 @@ impl<T: Read + Write + Drop> Socket<T> {
         host: &mut Committed<S, L>,
         turn: &mut Turn,
     )
-        requires { is_done self.now.is_over self.now.is_half_closed
+        requires { is_done self.now.is_over self.now.is_half_closed self.now.may_answer
             (vec_len self.now.output - self.now.written) self.now.connection host.now.broker.state ≡ true }
         ensures carries { Carries S.disk T.contents T.remaining self.old self.new host.old.broker host.new.broker }
         ensures connection { self.new.connection ≡ self.old.connection }
@@ -195,7 +280,8 @@ impl<T: Read + Write + Drop> Socket<T> {
         turn.count_closed();
     }
 
-    /// Writes what the socket takes now of the output. New output is taken only once the earlier one is written.
+    /// Writes what the socket takes now of the output. New output is taken only once the earlier one is written, and that of a failed login
+    /// once it may be answered.
     fn write_output<S: Store, L: PartitionLog + Drop>(
         &mut self,
         alloc: Global,
@@ -211,8 +297,10 @@ impl<T: Read + Write + Drop> Socket<T> {
         ensures numbers { numbers host.new.broker.state ≡ numbers host.old.broker.state }
         ensures read { turn.new.read ≡ turn.old.read }
         ensures unchanged { self.old.written < vec_len self.old.output → host.new ≡ host.old }
+        // A failed login is not answered before its time.
+        ensures held { is_held self.old.may_answer self.old.connection host.old.broker.state ≡ true → host.new ≡ host.old }
     {
-        if self.unwritten() == 0 {
+        if self.unwritten() == 0 && !self.is_held(host.broker()) {
             self.take_output(alloc, host);
         }
         self.write_on(turn);
@@ -227,18 +315,16 @@ impl<T: Read + Write + Drop> Socket<T> {
     )
         requires written { self.now.written ≡ vec_len self.now.output }
         requires may_tell { may_tell host.old.commits ≡ true }
+        requires may_answer { is_held self.now.may_answer self.now.connection host.now.broker.state ≡ false }
         ensures carries { Carries S.disk T.contents T.remaining self.old self.new host.old.broker host.new.broker }
         ensures connection { self.new.connection ≡ self.old.connection }
         ensures commits { host.new.commits ≡ host.old.commits }
         ensures ended { self.new.is_ended ≡ self.old.is_ended }
         ensures unwritten { self.new.written ≡ 0 }
-        ensures known { self.new.is_known
-            ≡ (self.old.is_known || is_welcome (output_of self.old.connection host.old.broker.state)) }
         ensures numbers { numbers host.new.broker.state ≡ numbers host.old.broker.state }
     {
         self.written = 0;
         self.output = host.take_output(alloc, self.connection);
-        self.is_known = self.is_known || is_welcome(&self.output);
     }
 
     /// Writes what the socket takes now of what was said.

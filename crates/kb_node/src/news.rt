@@ -1,0 +1,45 @@
+//! What happened in a turn and is told one by one: logins, and connections that the broker shut.
+
+use crate::closed::Closed;
+use crate::firsts::Firsts;
+use kb_isolation_spec::Login;
+use std::alloc::{AllocError, Global};
+use std::net::SocketAddr;
+
+/// A login, and from where it came.
+#[derive(Clone, Copy)]
+pub struct LoginAttempt {
+    /// From where it came.
+    pub address: SocketAddr,
+    /// The user who logged in, or the name in a login that failed.
+    pub login: Login,
+}
+
+/// What happened in a turn and is told one by one.
+#[derive(Drop)]
+pub struct News {
+    /// The logins that were right.
+    pub logins: Firsts<LoginAttempt>,
+    /// The logins that failed.
+    pub denied: Firsts<LoginAttempt>,
+    /// The connections that the broker shut and that are closed, but for logins that failed.
+    pub closed: Firsts<Closed>,
+}
+
+impl News {
+    /// None.
+    pub fn new(alloc: Global) -> Result<Self, AllocError> {
+        Ok(News {
+            logins: Firsts::new(alloc)?,
+            denied: Firsts::new(alloc)?,
+            closed: Firsts::new(alloc)?,
+        })
+    }
+
+    /// A turn begins.
+    pub(crate) fn clear(&mut self) {
+        self.logins.clear();
+        self.denied.clear();
+        self.closed.clear();
+    }
+}

@@ -27,6 +27,13 @@ struct Tenant {
     sockets: Tally,
 }
 
+/// A user who may log in.
+#[derive(Drop)]
+struct Account {
+    name: String,
+    tenant: String,
+}
+
 /// What stands in front of what was found in a folder.
 #[derive(Clone, Copy, Debug, PartialEq, Eq)]
 pub enum Word {
@@ -74,6 +81,8 @@ pub struct Journal {
     connections: u32,
     sync: Sync,
     tenants: Vec<Tenant>,
+    /// The users, in the settings' order, where their logins are told: else none.
+    users: Vec<Account>,
     /// Refusals that were counted for no tenant.
     unbound: Tally,
     /// Calls of the store that the disk refused.
@@ -82,8 +91,10 @@ pub struct Journal {
     turned_away: u64,
     /// The sockets that kept silent, were closed for that, and are not told of.
     closed: Closed,
-    /// The lines of logins that failed.
+    /// The lines of logins that were right.
     logins: Bucket,
+    /// The lines of logins that failed.
+    failed: Bucket,
     /// The lines of connections that the broker shut.
     shut: Bucket,
     pace: Pace,
@@ -102,11 +113,13 @@ impl Journal {
             connections: settings.connections,
             sync: settings.sync,
             tenants: tenants_of(rt.alloc(), settings)?,
+            users: users_of(rt.alloc(), settings)?,
             unbound: Tally::default(),
             disk: Tally::default(),
             turned_away: 0,
             closed: Closed::default(),
             logins: Bucket::default(),
+            failed: Bucket::default(),
             shut: Bucket::default(),
             pace: Pace::default(),
         })
@@ -213,10 +226,11 @@ impl Journal {
         }
     }
 
-    /// How many logins that failed, and connections that the broker shut, were passed over in seconds before that one.
+    /// How many logins, and connections that the broker shut, were passed over in seconds before that one.
     pub fn tell_passed_over(&mut self, alloc: Global, now: u64, second: u64) {
         if !self.is_quiet {
             self.tell_more_logins(alloc, now, second);
+            self.tell_more_failed(alloc, now, second);
             self.tell_more_shut(alloc, now, second);
         }
     }
@@ -320,6 +334,21 @@ fn tenants_of(alloc: Global, settings: &Settings) -> Result<Vec<Tenant>, AllocEr
         })?;
     }
     Ok(tenants)
+}
+
+/// The users whose logins are told: all of the settings in their order, or none.
+fn users_of(alloc: Global, settings: &Settings) -> Result<Vec<Account>, AllocError> {
+    let mut users = Vec::new(alloc);
+    if !settings.logins {
+        return Ok(users);
+    }
+    for user in &settings.users {
+        users.push(Account {
+            name: String::from_str(alloc, &user.name)?,
+            tenant: String::from_str(alloc, &user.tenant)?,
+        })?;
+    }
+    Ok(users)
 }
 
 /// What was found, which is empty where there is no memory for it.

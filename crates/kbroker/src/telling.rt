@@ -4,6 +4,7 @@ ghost use Rattle.std.specs.Prelude.{◌≤◌, ◌^◌};
 
 use crate::causes::text_of;
 use kb_broker::Broker;
+use kb_isolation_spec::Login;
 use kb_log::PartitionLog;
 use kb_node::{Edge, Store, Turn};
 use kb_operator::{Closed, Journal, RefusalCounts};
@@ -39,8 +40,8 @@ impl<'a, S: Store, L: PartitionLog + Drop> RefusalCounts for CountsOf<'a, S, L> 
 /// A second, in milliseconds.
 const SECOND: u64 = 1000;
 
-/// Tells what happened in a turn at a tick: logins that failed, connections that were shut and the clock at once, and counts at most once
-/// a second. Of the logins and of the connections of a second only the first are told, and then how many more there were.
+/// Tells what happened in a turn at a tick: logins, connections that were shut and the clock at once, and counts at most once a second.
+/// Of the logins and of the connections of a second only the first are told, and then how many more there were.
 pub fn tell_turn<R: Net, S: Store, L: PartitionLog + Drop>(
     rt: &HostRuntime,
     journal: &mut Journal,
@@ -52,7 +53,8 @@ pub fn tell_turn<R: Net, S: Store, L: PartitionLog + Drop>(
 {
     let (alloc, now) = (rt.alloc(), now(rt));
     let second = tick.moment / SECOND;
-    tell_denied(rt, journal, edge, turn.denied, second);
+    tell_logins(rt, journal, edge, second);
+    tell_denied(rt, journal, edge, second);
     tell_closed(rt, journal, edge, second);
     journal.tell_passed_over(alloc, now, second);
     if let Some(notice) = tick.told {
@@ -68,19 +70,38 @@ pub fn tell_turn<R: Net, S: Store, L: PartitionLog + Drop>(
     journal.tell_counts(alloc, now, tick.moment, turn.turned_away, &counts);
 }
 
+/// Tells the logins of a turn in a second that were right.
+fn tell_logins<R: Net, S: Store, L: PartitionLog + Drop>(
+    rt: &HostRuntime,
+    journal: &mut Journal,
+    edge: &Edge<R, S, L>,
+    second: u64,
+) {
+    let (alloc, now) = (rt.alloc(), now(rt));
+    let logins = &edge.news().logins;
+    for attempt in logins.first() {
+        if let Login::User(place) = attempt.login {
+            journal.tell_login(alloc, now, second, attempt.address, place);
+        }
+    }
+    journal.count_logins(logins.more());
+}
+
 /// Tells the logins of a turn in a second that failed.
 fn tell_denied<R: Net, S: Store, L: PartitionLog + Drop>(
     rt: &HostRuntime,
     journal: &mut Journal,
     edge: &Edge<R, S, L>,
-    denied: u64,
     second: u64,
 ) {
     let (alloc, now) = (rt.alloc(), now(rt));
-    for login in edge.denied() {
-        journal.tell_login(alloc, now, second, login.address, &login.name);
+    let denied = &edge.news().denied;
+    for attempt in denied.first() {
+        if let Login::Failed(name) = &attempt.login {
+            journal.tell_failed(alloc, now, second, attempt.address, name.as_slice());
+        }
     }
-    journal.count_logins(denied.saturating_sub(edge.denied().len() as u64));
+    journal.count_failed(denied.more());
 }
 
 /// Tells the connections of a turn in a second that the broker shut.
@@ -91,9 +112,10 @@ fn tell_closed<R: Net, S: Store, L: PartitionLog + Drop>(
     second: u64,
 ) {
     let (alloc, now) = (rt.alloc(), now(rt));
-    for closed in edge.closed() {
+    let shut = &edge.news().closed;
+    for closed in shut.first() {
         let cause = text_of(alloc, closed.cause);
         journal.tell_shut(alloc, now, second, closed.address, closed.tenant, cause);
     }
-    journal.count_shut(edge.more_closed());
+    journal.count_shut(shut.more());
 }

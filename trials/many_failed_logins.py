@@ -3,9 +3,9 @@
 
     trials/many_failed_logins.py KBROKER
 
-For five seconds two threads log in with a wrong password, again and again, and two ask for something before a login. Of each second the log
-has 16 lines of failed logins and 16 of closed connections at most, and one of each kind with how many more there were. All that were refused
-are counted. It prints how many lines and bytes the log has.
+For five seconds twelve threads log in with a wrong password, again and again, and two ask for something before a login. A thread fails ten
+times a second at most. Of each second the log has 16 lines of failed logins and 16 of closed connections at most, and one of each kind with
+how many more there were. All that were refused are counted. It prints how many lines and bytes the log has.
 """
 
 import re
@@ -19,6 +19,8 @@ import time
 from wire import Broker, Client
 
 SECONDS = 5
+GUESSERS = 12
+INTRUDERS = 2
 
 
 def fail(port):
@@ -55,7 +57,7 @@ def main(program):
             print("the broker does not listen")
             return 1
         until = time.monotonic() + SECONDS
-        works = [(fail, broker.port, until, failed), (intrude, broker.port, until, shut)] * 2
+        works = [(fail, broker.port, until, failed)] * GUESSERS + [(intrude, broker.port, until, shut)] * INTRUDERS
         threads = [threading.Thread(target=again, args=it) for it in works]
         for it in threads:
             it.start()
@@ -71,8 +73,10 @@ def main(program):
         print(f"{name}: {count}, lines: {lines}, lines with more: {others}, told of: {told}")
         if lines > 16 * (SECONDS + 2) or others > SECONDS + 2:
             wrong.append(f"too many lines of {name}")
-        if told != count or count < 500:
+        if told != count or count < 200:
             wrong.append(f"{name} are not all told of")
+    if len(failed) > GUESSERS * 10 * (SECONDS + 1):
+        wrong.append("guessing is not slow")
     print(f"the log has {len(log)} bytes")
     print("\n".join(wrong) or "0 things were wrong")
     return 1 if wrong else 0

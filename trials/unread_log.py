@@ -3,8 +3,8 @@
 
     trials/unread_log.py KBROKER
 
-Standard error is a pipe of one page that is not read. 5,000 logins with a wrong password make more lines than it holds, though only some
-of each second have one. Then a right one is served, and the pipe is read. The next line that is taken says how many were not. It prints how
+Standard error is a pipe of one page that is not read. 640 logins with a wrong password, of eight threads, make more lines than it holds,
+though only some of each second have one. Then a right one is served, and the pipe is read. The next line that is taken says how many were not. It prints how
 many lines there were, and how many were lost.
 """
 
@@ -15,10 +15,12 @@ import select
 import sys
 import tempfile
 import time
+from concurrent.futures import ThreadPoolExecutor
 
 from wire import Broker, Client
 
-LOGINS = 5000
+LOGINS = 640
+THREADS = 8
 
 # (Linux: sets how many bytes a pipe holds)
 F_SETPIPE_SZ = 1031
@@ -48,16 +50,15 @@ def main(program):
     fcntl.fcntl(writer, F_SETPIPE_SZ, 4096)
     with tempfile.TemporaryDirectory() as room:
         broker = Broker(program, room, before=lambda: os.dup2(writer, 2))
-        failed = 0
         try:
             if not broker.listens():
                 print("the broker does not listen")
                 return 1
-            for failed in range(LOGINS):
-                fail(broker.port)
+            with ThreadPoolExecutor(THREADS) as pool:
+                list(pool.map(fail, [broker.port] * LOGINS))
             Client(broker.port).socket.close()
         except OSError as error:
-            print(f"the broker does not answer after {failed} failed logins: {error!r}")
+            print(f"the broker does not answer: {error!r}")
             return 1
         else:
             said = read(reader, 2)

@@ -110,7 +110,7 @@ serves : (w : View) (tenant n : ℕ) (s : Session) → IsSmall w → ServesBatch
 serves w tenant n s small frame rest version body fetch at asks read = served-batches (for_tenant w.setup tenant) w.kept w.clock n s frame rest version body fetch small at asks read
 
 wakes : (w : View) (n : ℕ) (s : Session) → IsSmall w → WakesWithBatches w n s
-wakes w n s small tenant head version body deadline fetch waits read = woken-batches w.kept w.clock n tenant s head version body deadline fetch small waits read
+wakes w n s small tenant head version body deadline limit fetch waits read = woken-batches w.kept w.clock n tenant s head version body deadline limit fetch small waits read
 
 each-line : (P : Line → Type 0) → ((l : Line) → P l) → (ls : List Line) → AllByRecursion P ls
 each-line P all [] = tt

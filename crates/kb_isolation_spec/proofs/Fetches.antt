@@ -1,5 +1,5 @@
 -- A fetch is answered with whole batches, at once and after a wait.
-use Rattle.std.proofs.Common.{◌≡◌, ℕ, ℤ, List, Some, Ok, refl, sym, ◌∙◌, ap, subst, inl, inr}
+use Rattle.std.proofs.Common.{◌≡◌, ℕ, ℤ, List, Option, Some, Ok, refl, sym, ◌∙◌, ap, subst, inl, inr}
 use Rattle.kb_wire.specs.declared.api_key.TheConstants.{FETCH}
 use Rattle.kb_api_group.specs.Frames.{Whole, front}
 use Rattle.kb_api_data.specs.declared.fetch.FetchRequest.{FetchRequest}

@@ -3,6 +3,7 @@ use Rattle.std.specs.Prelude.{◌≡◌, ◌≤◌, ℕ, true, List, [], Option,
 use Rattle.kb_store.specs.Disk.{Disk}
 use Rattle.kb_log.specs.OnShelf.{Log}
 use Rattle.kb_tenant.specs.Batches.{HasSmallLogs}
+use Rattle.kb_tenant.specs.LimitsKept.{HasOrderedCommits}
 use Rattle.kb_tenant_api.specs.Hosted.{TenantState, refusals_of}
 use Rattle.kb_tenant_api.specs.Turns.{IsAccounted, all_calm}
 use Rattle.kb_tenants.specs.Tenants.{AreKept, AreKeptIn, AreLeftAlone, hosted, numbers_in}
@@ -76,6 +77,10 @@ NoneReady disk b = is_honest disk b → AreUnready AnyWait b.state
 -- the logs of each tenant are within their limits, unless the store lied
 abbrev pub AreSmall : {S : Type 0} → (S → Disk) → OnStore S → Type 0
 AreSmall disk b = is_honest disk b → (t : ℕ) → HasSmallLogs (kept_of b.state t).world
+
+-- no group of a tenant has two offsets of one partition, unless the store lied
+abbrev pub AreOrdered : {S : Type 0} → (S → Disk) → OnStore S → Type 0
+AreOrdered disk b = is_honest disk b → (t : ℕ) → HasOrderedCommits (kept_of b.state t).world
 
 -- what holds between the events
 pub record IsReadyOn {S : Type 0} (disk : S → Disk) (b : OnStore S) : Type 0 where

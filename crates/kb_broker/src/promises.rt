@@ -1,8 +1,14 @@
-//! Laws about whole runs, each as the contract of a function with an empty body.
+//! Laws about whole runs, each as the contract of a function with an empty body, or with one that only looks at a broker.
 
-ghost use Rattle.std.specs.Prelude.{◌≡◌, ◌≢◌, ℕ, List, Some, true, false, map};
+ghost use Rattle.std.specs.Prelude.{◌≡◌, ◌≢◌, ℕ, Bool, List, Some, true, false, map};
 ghost use Rattle.kb_settings.specs.declared.settings.Settings.{Settings};
-ghost use Rattle.kb_isolation_spec.specs.Broker.{BrokerState, IsCalmFor, IsRun, bound_to};
+ghost use Rattle.kb_tenant.specs.LimitsKept.{AreLimitsKept};
+ghost use Rattle.kb_isolation_spec.specs.Broker.{BrokerState, IsCalmFor, IsRun, Mine, bound_to, kept_of, view_of};
+ghost use Rattle.kb_isolation_spec.specs.Greeting.{node_of};
+ghost use Rattle.kb_isolation_spec.specs.Left.{LeavesWorlds};
+ghost use Rattle.kb_isolation_spec.specs.LimitsKept.{StaysWithin};
+ghost use Rattle.kb_isolation_spec.specs.Machine.{Happening, Sent};
+ghost use Rattle.kb_isolation_spec.specs.Owners.{purge};
 ghost use Rattle.kb_isolation_spec.specs.Calls.{is_open, is_shut};
 ghost use Rattle.kb_isolation_spec.specs.Machine.{find_line};
 ghost use Rattle.kb_isolation_spec.specs.Stranded.{NoneStranded, members_of};
@@ -11,9 +17,14 @@ ghost use Rattle.kb_isolation_spec.specs.Isolation.{IsIsolated, own_events, own_
 ghost use Rattle.kb_broker.specs.declared.opening.Listing.{Listing};
 ghost use Rattle.kb_broker.specs.declared.run.Event.{Event};
 ghost use Rattle.kb_broker.specs.declared.run.Written.{Written};
+ghost use Rattle.kb_broker.specs.Hosts.{is_honest};
 ghost use Rattle.kb_broker.specs.Members.{numbered_from};
 ghost use Rattle.kb_broker.specs.Opening.{opening_listing};
 ghost use Rattle.kb_broker.specs.Runs.{happenings, sent_of, connections_of};
+
+use crate::broker::Broker;
+use kb_log::PartitionLog;
+use kb_store::Store;
 
 /// A tenant on a broker that it shares gets what it gets on one that it has to itself. Both are newly opened with the same settings.
 /// To the first come events of everybody, to the second only those of the tenant's connections and the moments. Then all that the
@@ -59,3 +70,22 @@ pub fn nobody_is_stranded()
         → members_of b.tenants t n ≡ 0 }
     ensures elsewhere { (t n : ℕ) (b : BrokerState) → NoneStranded b → bound_to n b ≢ Some t → members_of b.tenants t n ≡ 0 }
 {}
+
+/// No run of a broker brings what a tenant has past its limits, whatever others do: the bytes of its batches, its topics, their
+/// partitions, and the offsets that its groups have committed. Each is at most the limit, or at most what it was before the run. The
+/// store is honest before it.
+///
+/// `moments`: so it is at each moment of the run of the tenant's machine. `worlds`: and so it is of what the tenant has on the broker
+/// behind a run in which nothing was refused to it, nor to a connection that is not bound. What is said of that run is what
+/// `Broker::run` ensures (`worlds`).
+pub fn limits_are_kept<S: Store, L: PartitionLog + Drop>(broker: &Broker<S, L>)
+    ensures moments { is_honest S.disk broker.now → (t : ℕ) (mine : ℕ → Bool) (es : List Happening) → IsRun broker.now.state.last es
+        → Mine t mine es broker.now.state
+        → StaysWithin (node_of broker.now.state.setup t).limits (kept_of broker.now.state t).world (purge mine es)
+        (view_of t mine broker.now.state) }
+    ensures worlds { is_honest S.disk broker.now → (t : ℕ) (es : List Happening) (after : BrokerState) (got : List Sent)
+        → IsRun broker.now.state.last es → LeavesWorlds es broker.now.state after got → IsCalmFor t broker.now.state after
+        → AreLimitsKept (node_of broker.now.state.setup t).limits (kept_of broker.now.state t).world (kept_of after t).world }
+{
+    broker.connections();
+}

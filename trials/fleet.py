@@ -267,6 +267,13 @@ def moved(program, room, fleet, machines, proxy):
     return stood
 
 
+def removed(program, room, machine):
+    """Removes what the bakery left on the broker that it went from."""
+    machine.stop()
+    print(run(program, "tenant", "remove", "--data", machine.data, "--tenant", "bakery", "--yes").strip())
+    machine.start(f"{room}/fleet/{machine.name}.toml")
+
+
 def is_up(customers):
     """Whether each customer has something acknowledged from now on, within twenty seconds."""
     counts = [len(it.acknowledged) for it in customers]
@@ -312,25 +319,46 @@ def table_of(fleet, what="tenants"):
 
 
 def looked_at(program, room):
-    """What holds, by name."""
+    """What holds, by name. At last everything that was started is ended."""
     fleet, machines, proxy, table, customers = began(program, room)
     prometheus = Prometheus(room) if shutil.which("prometheus") and shutil.which("promtool") else None
     if not prometheus:
         print("there is no Prometheus here: its part is left out")
-    for it in customers:
-        client = it.client()
-        yield f"{it.name} is told its address", client.told() == (it.host, PORT)
-        client.create(b"orders")
-        it.start()
-    yield "all produce", is_up(customers)
-    if prometheus:
-        yield from pages_are_well(room, table_of(fleet, "metrics_token"))
-        yield from watched(prometheus, table)
+    try:
+        for it in customers:
+            client = it.client()
+            yield f"{it.name} is told its address", client.told() == (it.host, PORT)
+            client.create(b"orders")
+            it.start()
+        yield "all produce", is_up(customers)
+        if prometheus:
+            yield from pages_are_well(room, table_of(fleet, "metrics_token"))
+            yield from watched(prometheus, table)
+        yield from tenant_moves(program, room, fleet, machines, proxy, customers, prometheus)
+        yield from standby_goes_on(room, fleet, machines, table, customers, prometheus)
+    finally:
+        for it in machines.values():
+            if it.process and it.process.poll() is None:
+                it.stop(signal.SIGKILL)
+        proxy.terminate()
+        proxy.wait()
+        if prometheus:
+            prometheus.stop()
+
+
+def tenant_moves(program, room, fleet, machines, proxy, customers, prometheus):
+    """What holds when a tenant moves."""
     stood = moved(program, room, fleet, machines, proxy)
     yield "all produce after the move", is_up(customers)
     pauses = {it.name: round(it.pause, 2) for it in customers}
     print(f"brokers stood still for { {name: round(it, 2) for name, it in stood.items()} } s; the longest pause of each: {pauses}")
     yield from watched(prometheus, table_of(fleet)) if prometheus else []
+    removed(program, room, machines["one"])
+    yield "all produce after the removal", is_up(customers)
+
+
+def standby_goes_on(room, fleet, machines, table, customers, prometheus):
+    """What holds when a standby takes the place of a broker, and what all tenants have at last."""
     for it in customers:
         it.pause = 0.0
     before = standby(room, machines, [it for it in customers if table[it.name]["broker"] == "two"])
@@ -344,11 +372,6 @@ def looked_at(program, room):
         yield from watched(prometheus, table_of(fleet))
         lag = "max by (tenant, group) (kbroker_group_lag)"
         yield "each group's lag is what its client is told", soon(lambda: prometheus.says(lag, "tenant", "group") == lags(customers))
-        prometheus.stop()
-    for it in machines.values():
-        if it.process and it.process.poll() is None:
-            it.stop(signal.SIGKILL)
-    proxy.kill()
 
 
 def main(program):

@@ -13,8 +13,8 @@ returns-in_ok-body-in-IllegalState-clause-ok c =
 
 pub returns-in_ok-reply-in-LogsIn-clause-ok : goal.returns-in_ok-reply-in-LogsIn-clause-ok
 returns-in_ok-reply-in-LogsIn-clause-ok c =
-    logs_in c.args.setup.now _ _ c.args.self.now _ c.args.head _ _ refl c.in-LogsIn.is (c.self-in-LogsIn.view_is ∙ c.in_ok-reply-in-LogsIn.ensures.ok) (c.deref-in-LogsIn.ensures.value ∙ c.in_ok-body-in-LogsIn.ensures)
+    logs_in c.args.setup.now _ _ c.args.self.now _ _ c.args.head _ _ refl c.in-LogsIn.is c.in_ok-reply-in-LogsIn.ensures.ok (c.deref-in-LogsIn.ensures.value ∙ c.in_ok-body-in-LogsIn.ensures) c.bind.ensures
 
 pub returns-in_ok-reply-in-Denies-clause-ok : goal.returns-in_ok-reply-in-Denies-clause-ok
 returns-in_ok-reply-in-Denies-clause-ok c =
-    denies c.args.setup.now _ c.args.self.now _ _ c.args.head _ _ _ refl c.in-Denies.is c.new-text-in-Denies.ensures (c.deref-in-Denies.ensures.value ∙ c.in_ok-body-in-Denies.ensures) c.in_ok-reply-in-Denies.ensures.ok c.shut_down.ensures
+    denies c.args.setup.now _ _ c.args.self.now _ _ c.args.head _ _ _ refl c.in-Denies.is c.new-text-in-Denies.ensures (c.deref-in-Denies.ensures.value ∙ c.in_ok-body-in-Denies.ensures) c.in_ok-reply-in-Denies.ensures.ok c.deny.ensures

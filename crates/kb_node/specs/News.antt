@@ -1,10 +1,8 @@
 -- What a turn keeps, to be told one by one.
-use Rattle.std.specs.Prelude.{ℕ, ◌+◌, ◌-◌, ◌^◌, min, List, [], ◌∷◌, ◌++◌, length, nat_lt, if◌then◌else◌}
+use Rattle.std.specs.Prelude.{◌≡◌, ◌≤◌, ◌<◌, ◌+◌, ◌-◌, ◌^◌, ◌++◌, ◌∷◌, [], min, vec_len}
+use Rattle.kb_node.specs.declared.firsts.Firsts.{Firsts}
 
--- the first ones with one more: 16 are kept
-abbrev pub with_one : {T : Type 0} → T → List T → List T
-with_one it first = if nat_lt (length first) 16 then first ++ it ∷ [] else first
-
--- how many there are behind the first ones with one more
-abbrev pub more_with : {T : Type 0} → List T → ℕ → ℕ
-more_with first more = if nat_lt (length first) 16 then more else min (more + 1) (2 ^ 64 - 1)
+-- One more is there: of the first 16 it is the last, and behind these it is only counted.
+abbrev pub IsAdded : {T : Type 0} → T → Firsts T → Firsts T → Type 0
+IsAdded it old new = (vec_len old.first < 16 → (new.first.items ≡ old.first.items ++ it ∷ []) × (new.more ≡ old.more))
+    × (16 ≤ vec_len old.first → (new.first.items ≡ old.first.items) × (new.more ≡ min (old.more + 1) (2 ^ 64 - 1)))

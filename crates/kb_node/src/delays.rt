@@ -1,10 +1,8 @@
 //! Failed logins, which are answered late: so guessing passwords is slow.
 
 ghost use Rattle.std.specs.Prelude.{◌≡◌, [], OnErr, OnOk};
-ghost use Rattle.std.specs.BTreeMap.{is_at};
 ghost use Rattle.std.specs.BTreeSet.{insert_key};
-ghost use Rattle.std.specs.Set.{remove_key};
-ghost use Rattle.kb_node.specs.Deadlines.{by_moment, first_end, silent, without_silent};
+ghost use Rattle.kb_node.specs.Deadlines.{by_moment, first_end, silent, without_silent, without_since};
 
 use crate::deadlines::Moments;
 use std::alloc::{AllocError, Global};
@@ -37,11 +35,13 @@ impl Delays {
         self.moments.begin(connection, now)
     }
 
-    /// One that waits since then is closed. Takes no memory.
-    pub fn end(&mut self, connection: u64, since: u64)
-        ensures { self.new.moments.moments.keys ≡ remove_key (is_at (by_moment (since, connection))) self.old.moments.moments.keys }
+    /// One is closed, which waits since then, where it does. Takes no memory.
+    pub fn forget(&mut self, connection: u64, since: Option<u64>)
+        ensures { self.new.moments.moments.keys ≡ without_since connection since self.old.moments.moments.keys }
     {
-        self.moments.end(connection, since);
+        if let Some(moment) = since {
+            self.moments.end(connection, moment);
+        }
     }
 
     /// The one that waits for longest, where it may be answered now. It waits no more.

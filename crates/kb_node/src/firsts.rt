@@ -1,7 +1,6 @@
 //! The first ones of a kind, and how many more there were.
 
-ghost use Rattle.std.specs.Prelude.{◌≡◌, ◌≤◌, [], vec_capacity};
-ghost use Rattle.kb_node.specs.News.{more_with, with_one};
+ghost use Rattle.std.specs.Prelude.{◌≡◌, ◌≤◌, ◌<◌, ◌+◌, ◌-◌, ◌^◌, ◌++◌, ◌∷◌, [], min, vec_capacity, vec_len};
 
 use std::alloc::{AllocError, Global};
 
@@ -35,8 +34,10 @@ impl<T: Copy> Firsts<T> {
 
     /// One more, which is only counted behind the first 16.
     pub fn add(&mut self, it: T)
-        ensures first { self.new.first.items ≡ with_one it self.old.first.items }
-        ensures more { self.new.more ≡ more_with self.old.first.items self.old.more }
+        ensures kept { vec_len self.old.first < 16 → (self.new.first.items ≡ self.old.first.items ++ it ∷ [])
+            × (self.new.more ≡ self.old.more) }
+        ensures counted { 16 ≤ vec_len self.old.first → (self.new.first.items ≡ self.old.first.items)
+            × (self.new.more ≡ min (self.old.more + 1) (2 ^ 64 - 1)) }
     {
         if self.first.len() < KEPT {
             self.first.push_reserved(it);

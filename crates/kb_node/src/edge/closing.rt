@@ -340,9 +340,7 @@ impl<R: Net, S: Store, L: PartitionLog + Drop> Edge<R, S, L> {
         {
             self.silences.end(socket.holder, number, socket.moved);
             self.times.forget(number, socket.begun, socket.looked);
-            if let Some(since) = socket.held {
-                self.delays.end(number, since);
-            }
+            self.delays.forget(number, socket.held);
             socket.close(alloc, &mut self.host, turn);
         }
     }

@@ -370,9 +370,8 @@ impl<R: Net, S: Store, L: PartitionLog + Drop> Edge<R, S, L> {
                 .forget(socket.connection(), socket.begun, socket.looked);
             socket.begun = None;
             socket.looked = None;
-            if let Some(since) = socket.held.take() {
-                self.delays.end(socket.connection(), since);
-            }
+            self.delays.forget(socket.connection(), socket.held);
+            socket.held = None;
         }
     }
 

@@ -7,7 +7,7 @@ ghost use Rattle.kb_isolation_spec.specs.Calls.{is_open, login_of};
 ghost use Rattle.kb_broker.specs.Places.{numbers};
 ghost use Rattle.kb_node.specs.Carries.{Carries, unhanded_of, unwritten_of};
 ghost use Rattle.kb_node.specs.Commits.{may_tell, tells_at_once};
-ghost use Rattle.kb_node.specs.News.{more_with, with_one};
+ghost use Rattle.kb_node.specs.News.{IsAdded};
 ghost use Rattle.kb_node.specs.Sockets.{is_denied, is_done, is_held};
 ghost use Rattle.kb_node.specs.declared.socket.Next.TheVariants.{End};
 
@@ -166,12 +166,8 @@ impl<T: Read + Write + Drop> Socket<T> {
         ensures connection { self.new.connection ≡ self.old.connection }
         ensures ended { self.new.is_ended ≡ self.old.is_ended }
         ensures known { IfSome (bound_to self.old.connection broker.now.state) (λ tenant. self.new.is_known ≡ true) }
-        ensures told { self.old.is_known ≡ false → IfSome (bound_to self.old.connection broker.now.state)
-            (λ tenant. news.new.logins.first.items
-            ≡ with_one (record { address = self.old.peer; login = login_of self.old.connection broker.now.state })
-            news.old.logins.first.items) }
-        ensures more { self.old.is_known ≡ false → IfSome (bound_to self.old.connection broker.now.state)
-            (λ tenant. news.new.logins.more ≡ more_with news.old.logins.first.items news.old.logins.more) }
+        ensures told { self.old.is_known ≡ false → IfSome (bound_to self.old.connection broker.now.state) (λ tenant. IsAdded
+            (record { address = self.old.peer; login = login_of self.old.connection broker.now.state }) news.old.logins news.new.logins) }
         ensures nobody { bound_to self.old.connection broker.now.state ≡ None → (self.new ≡ self.old) × (news.new ≡ news.old) }
         ensures once { self.old.is_known ≡ true → (self.new ≡ self.old) × (news.new ≡ news.old) }
         ensures others { (news.new.denied ≡ news.old.denied) × (news.new.closed ≡ news.old.closed) }
@@ -197,11 +193,8 @@ impl<T: Read + Write + Drop> Socket<T> {
         ensures connection { self.new.connection ≡ self.old.connection }
         ensures ended { self.new.is_ended ≡ self.old.is_ended }
         ensures denied { is_denied self.old.connection broker.now.state ≡ true → self.new.is_denied ≡ true }
-        ensures told { self.old.is_denied ≡ false → is_denied self.old.connection broker.now.state ≡ true → news.new.denied.first.items
-            ≡ with_one (record { address = self.old.peer; login = login_of self.old.connection broker.now.state })
-            news.old.denied.first.items }
-        ensures more { self.old.is_denied ≡ false → is_denied self.old.connection broker.now.state ≡ true
-            → news.new.denied.more ≡ more_with news.old.denied.first.items news.old.denied.more }
+        ensures told { self.old.is_denied ≡ false → is_denied self.old.connection broker.now.state ≡ true → IsAdded
+            (record { address = self.old.peer; login = login_of self.old.connection broker.now.state }) news.old.denied news.new.denied }
         ensures counted { self.old.is_denied ≡ false → is_denied self.old.connection broker.now.state ≡ true
             → turn.new ≡ record turn.old { denied = min (turn.old.denied + 1) (2 ^ 64 - 1) } }
         ensures none { is_denied self.old.connection broker.now.state ≡ false

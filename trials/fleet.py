@@ -3,7 +3,7 @@
 
     trials/fleet.py KBROKER
 
-It wants root, `ip netns`, HAProxy and OpenSSL. Settings come from `examples/fleet/settings.py`. Six tenants produce through the proxy, each by
+It wants root, `ip netns`, `arping`, HAProxy and OpenSSL. Settings come from `examples/fleet/settings.py`. Six tenants produce through the proxy, each by
 the name of its own, which TLS tells (SNI), and commit offsets. Then one moves by the steps of FLEET, and later a broker is killed with its
 network, and a standby goes on with the last backup. What is looked at: each tenant is told its own address; each acknowledged record is
 where it was acknowledged, also after the move; groups go on from their offsets; on the standby all is there that was acknowledged before
@@ -89,9 +89,9 @@ class Machine:
 class Named(Client):
     """A client that connects through the proxy by its tenant's name."""
 
-    def __init__(self, host, user, password, authority):
+    def __init__(self, host, user, password, authority, timeout):
         context = ssl.create_default_context(cafile=authority)
-        plain = socket.create_connection((PROXY, PORT), timeout=5)
+        plain = socket.create_connection((PROXY, PORT), timeout=timeout)
         self.socket = context.wrap_socket(plain, server_hostname=host)
         self.ask(17, 1, text(b"PLAIN"))
         words = b"\0" + user.encode() + b"\0" + password.encode()
@@ -113,8 +113,8 @@ class Customer(threading.Thread):
         self.words = [self.host, *next(iter(table["users"].items())), authority]
         self.acknowledged, self.commits, self.pause, self.ends = {}, [], 0.0, False
 
-    def client(self):
-        return Named(*self.words)
+    def client(self, timeout=20):
+        return Named(*self.words, timeout)
 
     def run(self):
         client, number, last = None, 0, time.monotonic()
@@ -122,7 +122,7 @@ class Customer(threading.Thread):
             number += 1
             value = f"{self.name} {number}".encode()
             try:
-                client = client or self.client()
+                client = client or self.client(5)
                 code, offset = client.produce(b"orders", batch(value))
                 if code == 0:
                     self.acknowledged[offset] = value
@@ -159,6 +159,11 @@ def soon(holds):
                 return True
         time.sleep(0.1)
     return False
+
+
+def listens(address, port):
+    """Whether somebody listens there, within twenty seconds."""
+    return soon(lambda: socket.create_connection((address, port), timeout=1).close() is None)
 
 
 def page(address, token=None):
@@ -294,6 +299,7 @@ def standby(room, machines, customers):
     run("ip", "netns", "del", f"{NET}-two")
     run("ip", "-n", f"{NET}-standby", "addr", "add", f'{ADDRESS["two"]}/24', "dev", "eth0")
     other.start(f"{room}/fleet/two.toml")
+    run("ip", "netns", "exec", f"{NET}-standby", "arping", "-c", "1", "-U", "-I", "eth0", ADDRESS["two"])
     return before
 
 
@@ -305,10 +311,10 @@ def began(program, room):
     machines = {name: Machine(program, room, name) for name in ADDRESS}
     for name in ("one", "two", "three"):
         machines[name].start(f"{room}/fleet/{name}.toml")
-    time.sleep(0.5)
     proxy = subprocess.Popen(["haproxy", "-W", "-db", "-f", f"{room}/fleet/haproxy.cfg"], stderr=subprocess.DEVNULL)
     table = table_of(fleet)
-    time.sleep(0.5)
+    if not all([*(listens(ADDRESS[name], 9092) for name in ("one", "two", "three")), listens(PROXY, PORT)]):
+        raise SystemExit("a broker or the proxy does not listen")
     return fleet, machines, proxy, table, [Customer(name, it, authority) for name, it in table.items()]
 
 

@@ -2,6 +2,7 @@
 use Rattle.std.specs.Prelude.{ℕ, ℤ, List, [], ◌∷◌, ◌++◌, ◌==◌, map, length, codes, decimal, Option, None, Some, if◌then◌else◌, slice_index_or}
 use Rattle.std.specs.Fmt.{signed_decimal}
 use Rattle.std.specs.List.{flat_map, range_with_len}
+use Rattle.kb_metrics.specs.Limits.{each_limit, limit_text}
 use Rattle.kb_metrics.specs.Rows.{Commit, Group, Lag, Partition, Tenant}
 use Rattle.kb_metrics.specs.Text.{HeadText, behind_text, counter_head, front_text, gauge_head, rows_text, sample_text}
 use Rattle.kb_metrics.specs.declared.families.Family.{Family}
@@ -15,6 +16,9 @@ head_of families.Connections = gauge_head (codes "kbroker_connections") (codes "
 head_of families.Waiting = gauge_head (codes "kbroker_waiting_requests") (codes "Connections that wait for the answer to a request.")
 head_of families.Topics = gauge_head (codes "kbroker_topics") (codes "Topics.")
 head_of families.Partitions = gauge_head (codes "kbroker_partitions") (codes "Partitions of all topics.")
+head_of families.StoredBytes = gauge_head (codes "kbroker_stored_bytes") (codes "Bytes of the batches in all logs, where they are known.")
+head_of families.CommittedOffsets = gauge_head (codes "kbroker_committed_offsets") (codes "Offsets that groups committed, one for each group and partition.")
+head_of families.Limit = gauge_head (codes "kbroker_limit") (codes "Limits that are set.")
 head_of families.Members = gauge_head (codes "kbroker_group_members") (codes "Members of each group.")
 head_of families.Lag = gauge_head (codes "kbroker_group_lag") (codes "Records between the committed offsets and the ends of the partitions to which the group committed.")
 head_of families.Requests = counter_head (codes "kbroker_requests_total") (codes "Requests, by API.")
@@ -53,6 +57,11 @@ front_of family tenant = front_text (head_of family).name (tenant_label tenant)
 abbrev pub number_text : Family → List ℕ → ℕ → List ℕ
 number_text family tenant n = sample_text (head_of family).name (tenant_label tenant) [] n
 
+-- a number, where it is known
+abbrev pub known_text : Family → List ℕ → Option ℕ → List ℕ
+known_text family tenant None = []
+known_text family tenant (Some n) = number_text family tenant n
+
 -- how many members a group has
 abbrev pub members_text : List ℕ → Group → List ℕ
 members_text front g = behind_text front ((codes "group", g.id) ∷ []) (decimal g.members)
@@ -82,6 +91,9 @@ said_of families.Connections t = number_text families.Connections t.name t.conne
 said_of families.Waiting t = number_text families.Waiting t.name t.waiting
 said_of families.Topics t = number_text families.Topics t.name t.topics
 said_of families.Partitions t = number_text families.Partitions t.name t.partitions
+said_of families.StoredBytes t = known_text families.StoredBytes t.name t.stored
+said_of families.CommittedOffsets t = number_text families.CommittedOffsets t.name t.committed_offsets
+said_of families.Limit t = flat_map (limit_text (front_of families.Limit t.name)) (each_limit t.limits)
 said_of families.Members t = flat_map (members_text (front_of families.Members t.name)) t.groups
 said_of families.Lag t = flat_map (lag_text (front_of families.Lag t.name)) t.lags
 said_of families.Requests t = requests_text (front_of families.Requests t.name) t.requests
@@ -95,8 +107,9 @@ family_text ts family = rows_text (head_of family) (said_of family) ts
 
 abbrev pub all_families : List Family
 all_families =
-    families.Connections ∷ families.Waiting ∷ families.Topics ∷ families.Partitions ∷ families.Members ∷ families.Lag ∷ families.Requests
-    ∷ families.RequestBytes ∷ families.ResponseBytes ∷ families.Refusals ∷ []
+    families.Connections ∷ families.Waiting ∷ families.Topics ∷ families.Partitions ∷ families.StoredBytes ∷ families.CommittedOffsets
+    ∷ families.Limit ∷ families.Members ∷ families.Lag ∷ families.Requests ∷ families.RequestBytes ∷ families.ResponseBytes
+    ∷ families.Refusals ∷ []
 
 -- all that is said of tenants, a family after another
 abbrev pub families_text : List Tenant → List ℕ

@@ -7,10 +7,12 @@ use Rattle.kb_settings.specs.Names.{in_order}
 use Rattle.kb_topics.specs.ByName.{by_name}
 use Rattle.kb_topics.specs.Known.{CommittedOffset, PartitionState, TopicState}
 use Rattle.kb_tenant_state.specs.Calls.{committed, end_of, numbered, start_of}
+use Rattle.kb_tenant_state.specs.Stored.{offsets_in, up_to_end}
 use Rattle.kb_tenant_state.specs.World.{World}
 use Rattle.kb_tenant_state.specs.declared.topic_partition.TopicPartition.{TopicPartition}
 use Rattle.kb_metrics.specs.Families.{committed_text, families_text, offsets_text}
 use Rattle.kb_metrics.specs.Rows.{Commit, Group, Lag, Partition, Tenant}
+use Rattle.kb_metrics.specs.declared.limits.Limits.{Limits}
 
 -- 1. Lag
 
@@ -82,11 +84,14 @@ commits w = flat_map (λ t. topic_commits t.1) (by_name w.known.topics)
 
 -- 3. What is said of a tenant
 
--- a tenant: its name, what it keeps of topics and of groups, what is counted of its connections, and its refusals
+-- a tenant: its name, what it keeps of topics and of groups, the bytes of its batches where they are known, its limits, what is counted
+-- of its connections, and its refusals
 pub record Observed : Type 0 where
   pub name : List ℕ
   pub world : World
+  pub stored : Option ℕ
   pub groups : List Entry
+  pub limits : Limits
   pub connections : ℕ
   pub waiting : ℕ
   pub requests : List ℕ
@@ -104,8 +109,8 @@ partition_count ts = counted (sum_by (λ t. length t.1.partitions) ts)
 abbrev pub group_of : Entry → Group
 group_of e = record { id = e.id; members = length e.group.members; generation = e.group.generation }
 
--- What pages show of a tenant. By its form it is a function of what that tenant keeps and of what is counted of its own connections:
--- nothing of another tenant is in it.
+-- What pages show of a tenant. By its form it is a function of what that tenant keeps, of its own limits and of what is counted of its own
+-- connections: nothing of another tenant is in it.
 abbrev pub tenant_of : Observed → Tenant
 tenant_of o = record {
   name = o.name;
@@ -113,6 +118,9 @@ tenant_of o = record {
   waiting = o.waiting;
   topics = length o.world.known.topics;
   partitions = partition_count o.world.known.topics;
+  stored = o.stored;
+  committed_offsets = up_to_end (offsets_in o.world.known);
+  limits = o.limits;
   groups = map group_of o.groups;
   lags = lags o.world;
   requests = o.requests;

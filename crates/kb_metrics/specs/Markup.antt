@@ -1,8 +1,8 @@
 -- HTML: how names and numbers stand on a page.
-use Rattle.std.specs.Prelude.{ℕ, ℤ, ◌+◌, ◌-◌, ◌/◌, ◌%◌, ◌≡◌, List, [], ◌∷◌, ◌++◌, Bool, false, ◌==◌, ◌&&◌, ◌||◌, nat_le, nat_lt, if◌then◌else◌, codes, decimal}
+use Rattle.std.specs.Prelude.{ℕ, ℤ, ◌+◌, ◌-◌, ◌/◌, ◌%◌, ◌≡◌, List, [], ◌∷◌, ◌++◌, Bool, false, ◌==◌, ◌&&◌, ◌||◌, not, nat_le, nat_lt, if◌then◌else◌, codes, decimal}
 use Rattle.std.specs.Prelude.{Option, None, Some, map, max, length, slice_index_or}
 use Rattle.std.specs.Fmt.{signed_decimal}
-use Rattle.std.specs.List.{flat_map, range_with_len}
+use Rattle.std.specs.List.{flat_map, list_all, range_with_len}
 use Rattle.kb_metrics.specs.Text.{value_text}
 use Rattle.kb_metrics.specs.declared.markup.Cell.{Cell}
 use Rattle.kb_metrics.specs.declared.markup.Fact.{Fact}
@@ -20,6 +20,13 @@ entity b =
 
 abbrev pub marked : List ℕ → List ℕ
 marked name = flat_map entity name
+
+-- a byte that stands for itself
+abbrev pub is_bare_byte : ℕ → Bool
+is_bare_byte b = not (b == 38 || b == 60 || b == 62 || b == 34 || b == 39)
+
+abbrev pub is_bare : List ℕ → Bool
+is_bare name = list_all is_bare_byte name
 
 -- begins or ends a tag, or a value in quotes
 abbrev pub is_markup : ℕ → Bool
@@ -72,6 +79,14 @@ cell c = cell_start c.0 ++ decimal c.1 ++ tag_text tags.CellEnd
 
 unfoldable pub signed_cell : List ℕ → ℤ → List ℕ
 signed_cell label n = cell_start label ++ signed_decimal n ++ tag_text tags.CellEnd
+
+-- a number, or words where there is none
+abbrev pub number_or : List ℕ → Option ℕ → List ℕ
+number_or words None = words
+number_or words (Some n) = decimal n
+
+unfoldable pub cell_or : List ℕ → List ℕ → Option ℕ → List ℕ
+cell_or label words n = cell_start label ++ number_or words n ++ tag_text tags.CellEnd
 
 -- a name that leads to the page of its tenant
 unfoldable pub link_cell : List ℕ → List ℕ → List ℕ

@@ -1,5 +1,6 @@
 -- What pages show of a tenant, row by row.
-use Rattle.std.specs.Prelude.{ℕ, ℤ, List, map}
+use Rattle.std.specs.Prelude.{ℕ, ℤ, List, map, Option}
+use Rattle.kb_metrics.specs.declared.limits.Limits.{Limits}
 use Rattle.kb_metrics.specs.declared.rows.LagRow.{LagRow}
 use Rattle.kb_metrics.specs.declared.rows.GroupRow.{GroupRow}
 use Rattle.kb_metrics.specs.declared.rows.PartitionRow.{PartitionRow}
@@ -32,13 +33,17 @@ pub record Commit : Type 0 where
   pub number : ℕ
   pub offset : ℤ
 
--- a tenant: numbers of its connections, of what it keeps, and of its traffic; requests stand at the places of their API keys
+-- a tenant: numbers of its connections, of what it keeps, and of its traffic, and its limits; the bytes of its batches where they are
+-- known; requests stand at the places of their API keys
 pub record Tenant : Type 0 where
   pub name : List ℕ
   pub connections : ℕ
   pub waiting : ℕ
   pub topics : ℕ
   pub partitions : ℕ
+  pub stored : Option ℕ
+  pub committed_offsets : ℕ
+  pub limits : Limits
   pub groups : List Group
   pub lags : List Lag
   pub requests : List ℕ
@@ -67,6 +72,9 @@ tenant_row t = record {
   waiting = t.waiting;
   topics = t.topics;
   partitions = t.partitions;
+  stored = t.stored;
+  committed_offsets = t.committed_offsets;
+  limits = t.limits;
   groups = map group_row t.groups.items;
   lags = map lag_row t.lags.items;
   requests = t.requests.now;

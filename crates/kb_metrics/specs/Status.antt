@@ -2,7 +2,7 @@
 use Rattle.std.specs.Prelude.{ℕ, ℤ, ◌^◌, ◌-◌, List, [], ◌∷◌, ◌++◌, length, min, codes, Option, None, Some, slice_get}
 use Rattle.std.specs.Option.{option_map}
 use Rattle.std.specs.List.{flat_map, range_with_len, sum_by}
-use Rattle.kb_metrics.specs.Markup.{cell, fact_text, line_text, link_cell, marked, name_cell, plot_cell, signed_cell, tag_text}
+use Rattle.kb_metrics.specs.Markup.{cell, cell_or, fact_text, line_text, link_cell, marked, name_cell, plot_cell, signed_cell, tag_text}
 use Rattle.kb_metrics.specs.Rates.{History}
 use Rattle.kb_metrics.specs.Rows.{Group, Lag, Partition, Tenant}
 use Rattle.kb_metrics.specs.declared.markup.Tag.TheVariants as tags
@@ -31,6 +31,7 @@ piece_text pieces.Head =
 piece_text pieces.Tenants =
     codes "</table>\n<h2>Tenants</h2>\n<table class=\"w\">\n<tr><th>Tenant</th><th>Connections</th>"
     ++ codes "<th>Waiting</th><th>Topics</th><th>Partitions</th><th>Groups</th><th>Lag</th><th>Refusals</th>"
+    ++ codes "<th>Stored bytes</th><th>Stored bytes, at most</th>"
     ++ codes "<th>Bytes in</th><th>Bytes out</th><th>In a second</th><th>Out a second</th></tr>\n"
 piece_text pieces.Partitions =
     codes "</table>\n<h2>Partitions</h2>\n<table class=\"w\">\n<tr><th>Topic</th><th>Partition</th>"
@@ -75,8 +76,16 @@ lag_sum ls = min (sum_by (λ l. l.value) ls) (2 ^ 64 - 1)
 unfoldable pub tenant_cells : Tenant → List (List ℕ × ℕ)
 tenant_cells t =
     (codes "Connections", t.connections) ∷ (codes "Waiting", t.waiting) ∷ (codes "Topics", t.topics) ∷ (codes "Partitions", t.partitions)
-    ∷ (codes "Groups", length t.groups) ∷ (codes "Lag", lag_sum t.lags) ∷ (codes "Refusals", t.refusals)
-    ∷ (codes "Bytes in", t.request_bytes) ∷ (codes "Bytes out", t.response_bytes) ∷ []
+    ∷ (codes "Groups", length t.groups) ∷ (codes "Lag", lag_sum t.lags) ∷ (codes "Refusals", t.refusals) ∷ []
+
+-- the bytes of its batches, and how many it may have
+unfoldable pub stored_cells : Tenant → List ℕ
+stored_cells t =
+    cell_or (codes "Stored bytes") (codes "not known") t.stored
+    ++ cell_or (codes "Stored bytes, at most") (codes "no limit") t.limits.bytes
+
+unfoldable pub traffic_cells : Tenant → List (List ℕ × ℕ)
+traffic_cells t = (codes "Bytes in", t.request_bytes) ∷ (codes "Bytes out", t.response_bytes) ∷ []
 
 -- the bytes of a second, in and out
 unfoldable pub both_plots : History → List ℕ
@@ -89,7 +98,8 @@ plots_text (Some h) = both_plots h
 -- a tenant's row
 unfoldable pub tenant_text : Tenant → Option History → List ℕ
 tenant_text t h =
-    tag_text tags.Row ++ link_cell (codes "Tenant") t.name ++ flat_map cell (tenant_cells t) ++ plots_text h ++ tag_text tags.RowEnd
+    tag_text tags.Row ++ link_cell (codes "Tenant") t.name ++ flat_map cell (tenant_cells t) ++ stored_cells t
+    ++ flat_map cell (traffic_cells t) ++ plots_text h ++ tag_text tags.RowEnd
 
 abbrev pub row_text : Option Tenant → Option History → List ℕ
 row_text None h = []

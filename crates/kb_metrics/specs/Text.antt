@@ -1,6 +1,6 @@
 -- The text format of Prometheus, 0.0.4, and how a label's value is read back.
-use Rattle.std.specs.Prelude.{ℕ, ◌+◌, ◌/◌, ◌%◌, List, [], ◌∷◌, ◌++◌, Bool, true, false, ◌==◌, if◌then◌else◌, Option, None, Some, codes, decimal}
-use Rattle.std.specs.List.{flat_map}
+use Rattle.std.specs.Prelude.{ℕ, ◌+◌, ◌/◌, ◌%◌, List, [], ◌∷◌, ◌++◌, Bool, true, false, ◌==◌, ◌||◌, not, if◌then◌else◌, Option, None, Some, codes, decimal}
+use Rattle.std.specs.List.{flat_map, list_all}
 use Rattle.kb_metrics.specs.declared.text.Head.{Head}
 use Rattle.kb_metrics.specs.declared.text.Kind.{Kind}
 use Rattle.kb_metrics.specs.declared.text.Kind.TheVariants as kinds
@@ -17,6 +17,13 @@ escape b = if b == 92 then 92 ∷ 92 ∷ [] else if b == 34 then 92 ∷ 34 ∷ [
 
 abbrev pub escaped : List ℕ → List ℕ
 escaped value = flat_map escape value
+
+-- a byte that stands for itself
+abbrev pub is_plain_byte : ℕ → Bool
+is_plain_byte b = not (b == 92 || b == 34 || b == 10)
+
+abbrev pub is_plain : List ℕ → Bool
+is_plain value = list_all is_plain_byte value
 
 -- `name="value"`
 abbrev pub label_text : List ℕ × List ℕ → List ℕ

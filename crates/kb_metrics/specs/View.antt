@@ -10,7 +10,9 @@ abbrev pub observed : {L : Type 0} → (L → Log) → Files → TenantGauges L 
 observed log files g = record {
   name = g.name.now;
   world = world_of log g.parts.now files;
+  stored = g.parts.now.stored;
   groups = g.groups.now.groups;
+  limits = g.limits;
   connections = g.connections;
   waiting = g.waiting;
   requests = g.traffic.requests.now;

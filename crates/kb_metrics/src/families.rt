@@ -4,11 +4,13 @@ ghost use Rattle.std.specs.Prelude.{◌≡◌, ◌++◌, IfOk, OnOk, Some, map, 
 ghost use Rattle.std.specs.List.{flat_map};
 ghost use Rattle.kb_metrics.specs.Families.{all_families, api_name, api_text, commit_text, committed_text, counted_text};
 ghost use Rattle.kb_metrics.specs.Families.{end_text, ends_text, families_text, family_text, front_of, head_of};
-ghost use Rattle.kb_metrics.specs.Families.{lag_text, members_text, number_text, offset_text, offsets_text, requests_text};
+ghost use Rattle.kb_metrics.specs.Families.{known_text, lag_text, members_text, number_text, offset_text, offsets_text, requests_text};
 ghost use Rattle.kb_metrics.specs.Families.{said_of, start_text, starts_text, tenant_label};
+ghost use Rattle.kb_metrics.specs.Limits.{each_limit, limit_text};
 ghost use Rattle.kb_metrics.specs.Rows.{commit_row, group_row, lag_row, partition_row, tenant_row};
-ghost use Rattle.kb_metrics.specs.Text.{counter_head, gauge_head, head_seen, label_of};
+ghost use Rattle.kb_metrics.specs.Text.{head_seen, label_of};
 
+use crate::limits::{Limits, limit_rows};
 use crate::row::{Row, push_rows};
 use crate::rows::{CommitRow, GroupRow, LagRow, PartitionRow, TenantRow};
 use crate::text::{Head, Kind, Label, push_behind, push_family, push_front, push_sample};
@@ -22,6 +24,9 @@ pub enum Family {
     Waiting,
     Topics,
     Partitions,
+    StoredBytes,
+    CommittedOffsets,
+    Limit,
     Members,
     Lag,
     Requests,
@@ -37,62 +42,69 @@ impl Family {
     fn head(self) -> Head
         ensures { head_seen result ≡ head_of self }
     {
-        match self {
-            Family::Connections => gauge(
-                "kbroker_connections",
-                "Open connections that are logged in.",
-            ),
-            Family::Waiting => gauge(
-                "kbroker_waiting_requests",
-                "Connections that wait for the answer to a request.",
-            ),
-            Family::Topics => gauge("kbroker_topics", "Topics."),
-            Family::Partitions => gauge("kbroker_partitions", "Partitions of all topics."),
-            Family::Members => gauge("kbroker_group_members", "Members of each group."),
-            Family::Lag => gauge(
-                "kbroker_group_lag",
-                "Records between the committed offsets and the ends of the partitions to which the group committed.",
-            ),
-            Family::Requests => counter("kbroker_requests_total", "Requests, by API."),
-            Family::RequestBytes => counter("kbroker_request_bytes_total", "Bytes of requests."),
-            Family::ResponseBytes => counter("kbroker_response_bytes_total", "Bytes of responses."),
-            Family::Refusals => counter(
-                "kbroker_refusals_total",
-                "Calls of memory and of the store that were refused.",
-            ),
-            Family::Start => gauge(
-                "kbroker_partition_start_offset",
-                "Offset of the first record.",
-            ),
-            Family::End => gauge(
-                "kbroker_partition_end_offset",
-                "Offset behind the last record.",
-            ),
-            Family::Committed => gauge(
-                "kbroker_group_committed_offset",
-                "Offset that a group committed.",
-            ),
+        Head {
+            name: self.name(),
+            help: self.help(),
+            kind: self.kind(),
         }
     }
-}
 
-fn gauge(name: &'static str, help: &'static str) -> Head
-    ensures { head_seen result ≡ gauge_head name.now help.now }
-{
-    Head {
-        name,
-        help,
-        kind: Kind::Gauge,
+    fn name(self) -> &'static str
+        ensures { result.now ≡ (head_of self).name }
+    {
+        match self {
+            Family::Connections => "kbroker_connections",
+            Family::Waiting => "kbroker_waiting_requests",
+            Family::Topics => "kbroker_topics",
+            Family::Partitions => "kbroker_partitions",
+            Family::StoredBytes => "kbroker_stored_bytes",
+            Family::CommittedOffsets => "kbroker_committed_offsets",
+            Family::Limit => "kbroker_limit",
+            Family::Members => "kbroker_group_members",
+            Family::Lag => "kbroker_group_lag",
+            Family::Requests => "kbroker_requests_total",
+            Family::RequestBytes => "kbroker_request_bytes_total",
+            Family::ResponseBytes => "kbroker_response_bytes_total",
+            Family::Refusals => "kbroker_refusals_total",
+            Family::Start => "kbroker_partition_start_offset",
+            Family::End => "kbroker_partition_end_offset",
+            Family::Committed => "kbroker_group_committed_offset",
+        }
     }
-}
 
-fn counter(name: &'static str, help: &'static str) -> Head
-    ensures { head_seen result ≡ counter_head name.now help.now }
-{
-    Head {
-        name,
-        help,
-        kind: Kind::Counter,
+    fn help(self) -> &'static str
+        ensures { result.now ≡ (head_of self).help }
+    {
+        match self {
+            Family::Connections => "Open connections that are logged in.",
+            Family::Waiting => "Connections that wait for the answer to a request.",
+            Family::Topics => "Topics.",
+            Family::Partitions => "Partitions of all topics.",
+            Family::StoredBytes => "Bytes of the batches in all logs, where they are known.",
+            Family::CommittedOffsets => "Offsets that groups committed, one for each group and partition.",
+            Family::Limit => "Limits that are set.",
+            Family::Members => "Members of each group.",
+            Family::Lag => "Records between the committed offsets and the ends of the partitions to which the group committed.",
+            Family::Requests => "Requests, by API.",
+            Family::RequestBytes => "Bytes of requests.",
+            Family::ResponseBytes => "Bytes of responses.",
+            Family::Refusals => "Calls of memory and of the store that were refused.",
+            Family::Start => "Offset of the first record.",
+            Family::End => "Offset behind the last record.",
+            Family::Committed => "Offset that a group committed.",
+        }
+    }
+
+    fn kind(self) -> Kind
+        ensures { result ≡ (head_of self).kind }
+    {
+        match self {
+            Family::Requests
+            | Family::RequestBytes
+            | Family::ResponseBytes
+            | Family::Refusals => Kind::Counter,
+            _ => Kind::Gauge,
+        }
     }
 }
 
@@ -134,6 +146,9 @@ pub(crate) fn push_families(out: &mut Vec<u8>, tenants: &[TenantRow<'_>]) -> Res
         Family::Waiting,
         Family::Topics,
         Family::Partitions,
+        Family::StoredBytes,
+        Family::CommittedOffsets,
+        Family::Limit,
         Family::Members,
         Family::Lag,
         Family::Requests,
@@ -204,6 +219,9 @@ impl<'a> Row<Family> for TenantRow<'a> {
             Family::Waiting => push_number(out, family, tenant, self.waiting),
             Family::Topics => push_number(out, family, tenant, self.topics),
             Family::Partitions => push_number(out, family, tenant, self.partitions),
+            Family::StoredBytes => push_known(out, family, tenant, self.stored),
+            Family::CommittedOffsets => push_number(out, family, tenant, self.committed_offsets),
+            Family::Limit => push_limits(out, family, tenant, &self.limits),
             Family::Members => push_members(out, family, tenant, &self.groups),
             Family::Lag => push_lags(out, family, tenant, &self.lags),
             Family::Requests => push_requests(out, family, tenant, self.requests),
@@ -225,6 +243,35 @@ fn push_number(
     ensures { OnOk result (out.new.items ≡ out.old.items ++ number_text family tenant.now value) }
 {
     push_sample(out, family.head().name, tenant_label(tenant), &[], value)
+}
+
+/// Writes a number of a tenant, where it is known.
+fn push_known(
+    out: &mut Vec<u8>,
+    family: Family,
+    tenant: &str,
+    value: Option<u64>,
+) -> Result<(), AllocError>
+    ensures { OnOk result (out.new.items ≡ out.old.items ++ known_text family tenant.now value) }
+{
+    match value {
+        Some(value) => push_number(out, family, tenant, value),
+        None => Ok(()),
+    }
+}
+
+/// Writes the limits that are set for a tenant.
+fn push_limits(
+    out: &mut Vec<u8>,
+    family: Family,
+    tenant: &str,
+    limits: &Limits,
+) -> Result<(), AllocError>
+    ensures { OnOk result (out.new.items
+        ≡ out.old.items ++ flat_map (limit_text (front_of family tenant.now)) (each_limit limits.now)) }
+{
+    let front = front(out, family, tenant)?;
+    push_rows(out, front.as_slice(), &limit_rows(limits))
 }
 
 /// Writes how many members each group has.

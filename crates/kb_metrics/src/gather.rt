@@ -4,6 +4,7 @@ ghost use Rattle.std.specs.Prelude.{◌≡◌, ◌++◌, ◌∷◌, [], map, OnO
 ghost use Rattle.kb_store.specs.Disk.{Files};
 ghost use Rattle.kb_topics.specs.Catalog.{known};
 ghost use Rattle.kb_tenant_state.specs.Parts.{world_of};
+ghost use Rattle.kb_tenant_state.specs.Stored.{offsets_in, offsets_to, up_to_end};
 ghost use Rattle.kb_metrics.specs.Gauges.{between, commit_of, commits, commits_in};
 ghost use Rattle.kb_metrics.specs.Gauges.{group_of, lags, partition_count, partition_of, partitions};
 ghost use Rattle.kb_metrics.specs.Gauges.{tenant_of, topic_commits, topic_lags, topic_partitions};
@@ -48,6 +49,9 @@ pub(crate) fn tenant_row<'a, L: PartitionLog>(
         waiting: tenant.waiting,
         topics: parts.topic_count() as u64,
         partitions: partition_count(parts.catalog()),
+        stored: parts.stored_bytes(),
+        committed_offsets: offset_count(parts.catalog()),
+        limits: tenant.limits,
         groups: group_rows(alloc, tenant.groups.groups())?,
         lags: lag_rows(alloc, parts)?,
         requests: tenant.traffic.requests,
@@ -64,6 +68,28 @@ fn partition_count<L: PartitionLog>(catalog: &Catalog<L>) -> u64
     let mut count: u64 = 0;
     for (_, topic) in catalog.by_instance() {
         count = count.saturating_add(topic.partitions().len() as u64);
+    }
+    count
+}
+
+/// How many offsets groups committed to the topics of a catalog together. It stays at the greatest number.
+fn offset_count<L: PartitionLog>(catalog: &Catalog<L>) -> u64
+    ensures { result ≡ up_to_end (offsets_in (known catalog.now)) }
+{
+    let mut count: u64 = 0;
+    for (_, topic) in catalog.by_instance() {
+        count = count.saturating_add(topic_offset_count(topic));
+    }
+    count
+}
+
+/// How many offsets groups committed to a topic. It stays at the greatest number.
+fn topic_offset_count(topic: &Topic) -> u64
+    ensures { result ≡ up_to_end (offsets_to topic.now.partitions) }
+{
+    let mut count: u64 = 0;
+    for partition in topic.partitions() {
+        count = count.saturating_add(partition.commits().len() as u64);
     }
     count
 }

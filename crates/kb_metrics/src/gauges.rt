@@ -7,6 +7,7 @@ ghost use Rattle.kb_metrics.specs.View.{observed};
 
 use crate::families::{push_committed, push_families, push_offsets};
 use crate::gather::{commit_rows, partition_rows, tenant_rows};
+use crate::limits::Limits;
 use kb_coordinator::Coordinator;
 use kb_log::PartitionLog;
 use kb_tenant_state::Parts;
@@ -21,12 +22,13 @@ pub struct Traffic<'a> {
     pub response_bytes: u64,
 }
 
-/// A tenant to look at: its name, its topics with their partitions, its groups, and what is counted of its connections.
+/// A tenant to look at: its name, its topics with their partitions, its groups, its limits, and what is counted of its connections.
 #[derive(Drop)]
 pub struct TenantGauges<'a, L: PartitionLog> {
     pub name: &'a str,
     pub parts: &'a Parts<L>,
     pub groups: &'a Coordinator,
+    pub limits: Limits,
     /// Connections that are bound to it.
     pub connections: u64,
     /// Those of them that wait for the answer to a request.
@@ -34,8 +36,8 @@ pub struct TenantGauges<'a, L: PartitionLog> {
     pub traffic: Traffic<'a>,
 }
 
-/// Writes what is said of tenants, a family after another: connections, what waits, topics, partitions, the members of each group, its lag
-/// in each topic, requests by API, bytes, and refusals.
+/// Writes what is said of tenants, a family after another: connections, what waits, topics, partitions, stored bytes where they are known,
+/// committed offsets, limits, the members of each group, its lag in each topic, requests by API, bytes, and refusals.
 ///
 /// What is said of a tenant is a function of what stands in its own gauges. After an `Err`, which is want of memory, some of it may be
 /// there.

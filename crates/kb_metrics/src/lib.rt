@@ -14,6 +14,7 @@ mod gather;
 mod gauges;
 mod lag;
 mod laws;
+mod limits;
 mod markup;
 mod pages;
 mod rates;
@@ -25,6 +26,7 @@ mod text;
 
 pub use gauges::{TenantGauges, Traffic, push_partitions, push_tenants};
 pub use laws::{label_values_are_read_back, names_begin_no_tag};
+pub use limits::Limits;
 pub use pages::{push_status, push_tenant_status};
 pub use rates::{Noted, PerSecond, Rates};
 pub use server::{Closed, ProcessGauges, ServerGauges, push_process, push_server};

@@ -1,9 +1,9 @@
 //! HTML: how names and numbers stand on a page.
 
-ghost use Rattle.std.specs.Prelude.{◌≡◌, ◌++◌, ◌<◌, map, length, decimal, OnOk, true};
+ghost use Rattle.std.specs.Prelude.{◌≡◌, ◌++◌, ◌<◌, map, length, decimal, OnOk};
 ghost use Rattle.std.specs.List.{flat_map, range_with_len};
-ghost use Rattle.kb_metrics.specs.Markup.{cell, cell_of, cell_start, entity, fact_of, fact_text, greatest, hex_digit, is_unreserved};
-ghost use Rattle.kb_metrics.specs.Markup.{known_line, line_text, link_cell, marked, name_cell, newest, plot_cell, point_text, points_text};
+ghost use Rattle.kb_metrics.specs.Markup.{cell, cell_of, cell_or, cell_start, entity, fact_of, fact_text, greatest, hex_digit, is_bare, is_unreserved};
+ghost use Rattle.kb_metrics.specs.Markup.{known_line, line_text, link_cell, marked, name_cell, newest, number_or, plot_cell, point_text, points_text};
 ghost use Rattle.kb_metrics.specs.Markup.{query, query_byte, sample_at, signed_cell, tag_text};
 ghost use Rattle.kb_metrics.specs.Text.{value_text};
 
@@ -72,6 +72,7 @@ pub(crate) fn push_tag(out: &mut Vec<u8>, tag: Tag) -> Result<(), AllocError>
 }
 
 /// Writes a name, at once where none of its bytes is an entity.
+#[tactic(auto, using(crate::proofs::Plain::bare_marked))]
 pub(crate) fn push_marked(out: &mut Vec<u8>, name: &[u8]) -> Result<(), AllocError>
     ensures { OnOk result (out.new.items ≡ out.old.items ++ marked name.now) }
 {
@@ -82,16 +83,12 @@ pub(crate) fn push_marked(out: &mut Vec<u8>, name: &[u8]) -> Result<(), AllocErr
     }
 }
 
-/// Whether a name is written as it is.
+/// Whether each byte of a name stands for itself.
 fn is_bare(name: &[u8]) -> bool
-    ensures { result ≡ true → marked name.now ≡ name.now }
+    ensures { result ≡ is_bare name.now }
 {
-    for byte in name {
-        if matches!(*byte, b'&' | b'<' | b'>' | b'"' | b'\'') {
-            return false;
-        }
-    }
-    true
+    name.iter()
+        .all(|byte| !matches!(*byte, b'&' | b'<' | b'>' | b'"' | b'\''))
 }
 
 /// Writes a name, byte by byte.
@@ -195,6 +192,30 @@ pub(crate) fn push_cell(out: &mut Vec<u8>, label: &str, value: u64) -> Result<()
     push_cell_start(out, label)?;
     push_number(out, value)?;
     push_tag(out, Tag::CellEnd)
+}
+
+/// Writes a cell with a number, or with words where there is none.
+#[tactic(auto, unfolding(crate::specs::Markup::cell_or))]
+pub(crate) fn push_cell_or(
+    out: &mut Vec<u8>,
+    label: &str,
+    words: &str,
+    value: Option<u64>,
+) -> Result<(), AllocError>
+    ensures { OnOk result (out.new.items ≡ out.old.items ++ cell_or label.now words.now value) }
+{
+    push_cell_start(out, label)?;
+    push_number_or(out, words, value)?;
+    push_tag(out, Tag::CellEnd)
+}
+
+fn push_number_or(out: &mut Vec<u8>, words: &str, value: Option<u64>) -> Result<(), AllocError>
+    ensures { OnOk result (out.new.items ≡ out.old.items ++ number_or words.now value) }
+{
+    match value {
+        Some(value) => push_number(out, value),
+        None => out.extend_from_slice(words.as_bytes()),
+    }
 }
 
 /// Writes a cell with a number that may be below 0.

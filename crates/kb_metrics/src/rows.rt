@@ -1,5 +1,7 @@
 //! What pages show of a tenant, row by row.
 
+use crate::limits::Limits;
+
 /// How far a group is behind in a topic.
 #[derive(Clone, Copy)]
 pub(crate) struct LagRow<'a> {
@@ -34,7 +36,7 @@ pub(crate) struct CommitRow<'a> {
     pub(crate) offset: i64,
 }
 
-/// A tenant, with the numbers of its connections, of what it keeps, and of its traffic.
+/// A tenant, with the numbers of its connections, of what it keeps, and of its traffic, and with its limits.
 #[derive(Drop)]
 pub(crate) struct TenantRow<'a> {
     pub(crate) name: &'a str,
@@ -42,6 +44,10 @@ pub(crate) struct TenantRow<'a> {
     pub(crate) waiting: u64,
     pub(crate) topics: u64,
     pub(crate) partitions: u64,
+    /// The bytes of its batches; none where they are not known.
+    pub(crate) stored: Option<u64>,
+    pub(crate) committed_offsets: u64,
+    pub(crate) limits: Limits,
     pub(crate) groups: Vec<GroupRow<'a>>,
     pub(crate) lags: Vec<LagRow<'a>>,
     /// Each number stands at the place of its API key.

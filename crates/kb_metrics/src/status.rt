@@ -8,13 +8,13 @@ ghost use Rattle.kb_metrics.specs.Rows.{group_row, lag_row, partition_row, tenan
 ghost use Rattle.kb_metrics.specs.Status.{begin_text, both_plots, closed_facts, facts_text};
 ghost use Rattle.kb_metrics.specs.Status.{group_line, lag_line, lag_sum, offset_cells, partition_line};
 ghost use Rattle.kb_metrics.specs.Status.{piece_text, place_cells, plots_text};
-ghost use Rattle.kb_metrics.specs.Status.{process_facts, row_at, rows_text, socket_facts};
+ghost use Rattle.kb_metrics.specs.Status.{process_facts, row_at, rows_text, socket_facts, stored_cells};
 ghost use Rattle.kb_metrics.specs.Status.{status_text, tenant_cells, tenant_page, tenant_text};
-ghost use Rattle.kb_metrics.specs.Status.{title_text, trouble_facts, whole};
+ghost use Rattle.kb_metrics.specs.Status.{title_text, traffic_cells, trouble_facts, whole};
 ghost use Rattle.kb_metrics.specs.declared.text.Value.TheVariants.{Thousandths, Whole};
 
 use crate::markup::{
-    Cell, Fact, Tag, push_cell, push_cells, push_facts, push_link_cell, push_name_cell,
+    Cell, Fact, Tag, push_cell, push_cell_or, push_cells, push_facts, push_link_cell, push_name_cell,
     push_plot_cell, push_signed_cell, push_tag, push_text_line,
 };
 use crate::rates::Rates;
@@ -56,6 +56,7 @@ impl Piece {
             Piece::Tenants => {
                 "</table>\n<h2>Tenants</h2>\n<table class=\"w\">\n<tr><th>Tenant</th><th>Connections</th>\
                 <th>Waiting</th><th>Topics</th><th>Partitions</th><th>Groups</th><th>Lag</th><th>Refusals</th>\
+                <th>Stored bytes</th><th>Stored bytes, at most</th>\
                 <th>Bytes in</th><th>Bytes out</th><th>In a second</th><th>Out a second</th></tr>\n"
             }
             Piece::Partitions => {
@@ -280,12 +281,14 @@ fn push_tenant(
     push_tag(out, Tag::Row)?;
     push_link_cell(out, "Tenant", tenant.name)?;
     push_cells(out, &tenant_cells(tenant))?;
+    push_stored_cells(out, tenant)?;
+    push_cells(out, &traffic_cells(tenant))?;
     push_plots(out, rates)?;
     push_tag(out, Tag::RowEnd)
 }
 
 #[tactic(auto, unfolding(crate::specs::Status::tenant_cells))]
-fn tenant_cells(tenant: &TenantRow<'_>) -> [Cell; 9]
+fn tenant_cells(tenant: &TenantRow<'_>) -> [Cell; 7]
     ensures { map cell_of result ≡ tenant_cells (tenant_row tenant.now) }
 {
     [
@@ -296,6 +299,24 @@ fn tenant_cells(tenant: &TenantRow<'_>) -> [Cell; 9]
         cell("Groups", tenant.groups.len() as u64),
         cell("Lag", lag_sum(&tenant.lags)),
         cell("Refusals", tenant.refusals),
+    ]
+}
+
+/// Writes the bytes of a tenant's batches, and how many it may have.
+#[tactic(auto, unfolding(crate::specs::Status::stored_cells))]
+fn push_stored_cells(out: &mut Vec<u8>, tenant: &TenantRow<'_>) -> Result<(), AllocError>
+    ensures { OnOk result (out.new.items ≡ out.old.items ++ stored_cells (tenant_row tenant.now)) }
+{
+    let most = tenant.limits.bytes;
+    push_cell_or(out, "Stored bytes", "not known", tenant.stored)?;
+    push_cell_or(out, "Stored bytes, at most", "no limit", most)
+}
+
+#[tactic(auto, unfolding(crate::specs::Status::traffic_cells))]
+fn traffic_cells(tenant: &TenantRow<'_>) -> [Cell; 2]
+    ensures { map cell_of result ≡ traffic_cells (tenant_row tenant.now) }
+{
+    [
         cell("Bytes in", tenant.request_bytes),
         cell("Bytes out", tenant.response_bytes),
     ]

@@ -1,9 +1,9 @@
 //! The text format of Prometheus, 0.0.4.
 
-ghost use Rattle.std.specs.Prelude.{◌≡◌, ◌++◌, ◌∷◌, ◌/◌, ◌<◌, [], map, OnOk, decimal, true};
+ghost use Rattle.std.specs.Prelude.{◌≡◌, ◌++◌, ◌∷◌, ◌/◌, ◌<◌, [], map, OnOk, decimal};
 ghost use Rattle.std.specs.List.{flat_map};
 ghost use Rattle.kb_metrics.specs.Text.{behind_text, digit, end_text, escape, escaped, figure_of, figure_text, front_text, head_seen};
-ghost use Rattle.kb_metrics.specs.Text.{head_text, kind_text, label_of, label_text, more_text, rows_text, sample_text, value_text};
+ghost use Rattle.kb_metrics.specs.Text.{head_text, is_plain, kind_text, label_of, label_text, more_text, rows_text, sample_text, value_text};
 
 use crate::row::{Row, push_rows};
 use itoa::{Buffer, Integer};
@@ -287,6 +287,7 @@ fn push_label(out: &mut Vec<u8>, label: Label<'_>) -> Result<(), AllocError>
 }
 
 /// Writes a label's value, at once where none of its bytes stands behind a backslash.
+#[tactic(auto, using(crate::proofs::Plain::plain_escaped))]
 fn push_escaped(out: &mut Vec<u8>, value: &[u8]) -> Result<(), AllocError>
     ensures { OnOk result (out.new.items ≡ out.old.items ++ escaped value.now) }
 {
@@ -297,16 +298,13 @@ fn push_escaped(out: &mut Vec<u8>, value: &[u8]) -> Result<(), AllocError>
     }
 }
 
-/// Whether a label's value is written as it is.
+/// Whether each byte of a label's value stands for itself.
 fn is_plain(value: &[u8]) -> bool
-    ensures { result ≡ true → escaped value.now ≡ value.now }
+    ensures { result ≡ is_plain value.now }
 {
-    for byte in value {
-        if matches!(*byte, b'\\' | b'"' | b'\n') {
-            return false;
-        }
-    }
-    true
+    value
+        .iter()
+        .all(|byte| !matches!(*byte, b'\\' | b'"' | b'\n'))
 }
 
 /// Writes a label's value, byte by byte.

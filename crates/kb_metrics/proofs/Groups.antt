@@ -1,14 +1,15 @@
 -- The groups of a topic in order, whichever of its partitions they were put from.
-use Rattle.std.proofs.Common.{◌≡◌, ◌∙◌, ◌<◌, ◌||◌, ℕ, List, ◌∷◌, ◌++◌, Bool, true, false, map, length, get_or, refl, sym, ap, subst, arith}
-use Rattle.std.proofs.Math.ListN.{get_or-map, length-map}
-use Rattle.std.proofs.lemmas.List.{get_or_default}
-use Rattle.std.specs.List.{Contains, list_any}
+use Rattle.std.proofs.Common.{◌≡◌, ◌∙◌, ◌||◌, ℕ, List, [], ◌∷◌, ◌++◌, Bool, Some, true, false, refl, sym, ap, subst, append_assoc}
+use Rattle.std.proofs.lemmas.List.{append-nil}
+use Rattle.std.proofs.lemmas.Option.{get_or_from_slice_get, slice_get_within}
+use Rattle.std.specs.List.{Contains, list_any, slice_get}
 use Rattle.std.specs.Str.{bytes_eq}
 use Rattle.std.specs.Cmp.Lexicographic.{same_text}
 use Rattle.std.proofs.lemmas.List.Folds.{list_any-append}
 use Rattle.kb_settings.proofs.NamesInOrder.{any-in_order, any-of, only-in_order, rises-in_order}
 use Rattle.kb_settings.specs.Names.{in_order}
-use Rattle.kb_metrics.specs.Slots.{HaveSame}
+use Rattle.kb_metrics.specs.Slots.{HaveSame, is_at}
+use Rattle.kb_metrics.proofs.Commits.{is_there}
 
 pub in_order-same : (xs ys : List (List ℕ)) → HaveSame xs ys → in_order xs ≡ in_order ys
 in_order-same xs ys h = only-in_order ys (in_order xs) (rises-in_order xs) (λ q. any-in_order q xs ∙ h q)
@@ -30,9 +31,18 @@ once_more xs zs n there q =
     ] refl in
     list_any-append (bytes_eq q) xs zs ∙ same ∙ sym (list_any-append (bytes_eq q) xs (n ∷ zs))
 
--- the name at a place stands among the names
-pub stands : {X : Type 0} (view : X → List ℕ) (xs : List X) (i : ℕ) (d : X) (n : List ℕ) → i < length xs
-    → bytes_eq (view (get_or xs i d)) n ≡ true → Contains (map view xs) n
-stands view xs i d n lt e =
-    let within : i < length (map view xs) = omega (arith, length-map xs view, lt) in
-    (i, within, sym (get_or_default (map view xs) i (view d) n within) ∙ get_or-map view xs i d ∙ same_text _ _ (sym e))
+at_place : (ns : List (List ℕ)) (i : ℕ) (n : List ℕ) → is_at ns i n ≡ true → Contains ns n
+at_place ns i n h =
+    let get : slice_get ns i ≡ Some n = is_there n (slice_get ns i) h in
+    (i, slice_get_within ns i n get, get_or_from_slice_get ns i n n get)
+
+-- a name that is at a place is there
+pub there : (ns : List (List ℕ)) (i : ℕ) (n : List ℕ) → is_at ns i n ≡ true → HaveSame ns (ns ++ n ∷ [])
+there ns i n h q = ap (list_any (bytes_eq q)) (sym (append-nil ns)) ∙ once_more ns [] n (at_place ns i n h) q
+
+-- one more of the names that are still to come
+pub one_more : (ns new rest more all : List (List ℕ)) (n : List ℕ) → HaveSame (ns ++ rest) all → rest ≡ n ∷ more → HaveSame new (ns ++ n ∷ [])
+    → HaveSame (new ++ more) all
+one_more ns new rest more all n h first put q =
+    append-same new (ns ++ n ∷ []) more put q ∙ ap (list_any (bytes_eq q)) (append_assoc ns (n ∷ []) more)
+    ∙ ap (λ xs. list_any (bytes_eq q) (ns ++ xs)) (sym first) ∙ h q

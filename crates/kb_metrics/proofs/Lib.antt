@@ -1,3 +1,4 @@
+pub mod Commits
 pub mod Groups
 pub mod Lags
 pub mod Plain

@@ -1,5 +1,5 @@
 -- Steps of a list that is written piece by piece.
-use Rattle.std.proofs.Common.{◌≡◌, ◌∙◌, ◌+◌, ◌<◌, ℕ, List, [], ◌∷◌, ◌++◌, length, map, take, get_or, sym, ap, append_assoc, arith, Result, Ok, Err, OnOk}
+use Rattle.std.proofs.Common.{◌≡◌, ◌∙◌, ◌+◌, ◌<◌, ℕ, List, [], ◌∷◌, ◌++◌, length, map, take, get_or, refl, sym, ap, append_assoc, arith, Result, Ok, Err, OnOk}
 use Rattle.std.specs.List.{flat_map, range_with_len}
 use Rattle.std.proofs.lemmas.List.{flat_map_more, map-append, map-id, map_more}
 use Rattle.std.proofs.lemmas.List.FromFn.{map-range_with_len_more}
@@ -54,3 +54,8 @@ element_more T S v o out new xs i d same lt e h =
     let front = map T (map v (take i xs)) in
     h ∙ ap (λ y. out ++ y ∷ []) (same (v x)) ∙ ap (λ ys. ys ++ T (v x) ∷ []) e ∙ append_assoc o front (T (v x) ∷ [])
     ∙ ap (λ ys. o ++ ys) (sym (ap (map T) (map_more v xs i d lt) ∙ map-append T (map v (take i xs)) (v x ∷ [])))
+
+-- functions that agree give the same list
+pub map_alike : {X Y : Type 0} (S T : X → Y) (xs : List X) → ((x : X) → S x ≡ T x) → map S xs ≡ map T xs
+map_alike S T [] same = refl
+map_alike S T (x ∷ xs) same = ap (λ y. y ∷ map S xs) (same x) ∙ ap (λ ys. T x ∷ ys) (map_alike S T xs same)

@@ -81,10 +81,12 @@ impl Family {
             Family::Topics => "Topics.",
             Family::Partitions => "Partitions of all topics.",
             Family::StoredBytes => "Bytes of the batches in all logs, where they are known.",
-            Family::CommittedOffsets => "Offsets that groups committed, one for each group and partition.",
+            Family::CommittedOffsets =>
+                "Offsets that groups committed, one for each group and partition.",
             Family::Limit => "Limits that are set.",
             Family::Members => "Members of each group.",
-            Family::Lag => "Records between the committed offsets and the ends of the partitions to which the group committed.",
+            Family::Lag =>
+                "Records between the committed offsets and the ends of the partitions to which the group committed.",
             Family::Requests => "Requests, by API.",
             Family::RequestBytes => "Bytes of requests.",
             Family::ResponseBytes => "Bytes of responses.",
@@ -99,10 +101,8 @@ impl Family {
         ensures { result ≡ (head_of self).kind }
     {
         match self {
-            Family::Requests
-            | Family::RequestBytes
-            | Family::ResponseBytes
-            | Family::Refusals => Kind::Counter,
+            Family::Requests | Family::RequestBytes | Family::ResponseBytes | Family::Refusals =>
+                Kind::Counter,
             _ => Kind::Gauge,
         }
     }

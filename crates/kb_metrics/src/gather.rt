@@ -1,6 +1,7 @@
 //! What pages show of tenants is gathered, row by row.
 
 ghost use Rattle.std.specs.Prelude.{◌≡◌, ◌++◌, ◌∷◌, [], map, OnOk, IfOk, option_copied, slice_get};
+ghost use Rattle.std.specs.List.{All};
 ghost use Rattle.kb_store.specs.Disk.{Files};
 ghost use Rattle.kb_topics.specs.Catalog.{known};
 ghost use Rattle.kb_tenant_state.specs.Parts.{world_of};
@@ -9,7 +10,7 @@ ghost use Rattle.kb_metrics.specs.Gauges.{between, commit_of, commits, commits_i
 ghost use Rattle.kb_metrics.specs.Gauges.{group_of, lags, partition_count, partition_of, partitions};
 ghost use Rattle.kb_metrics.specs.Gauges.{tenant_of, topic_commits, topic_lags, topic_partitions};
 ghost use Rattle.kb_metrics.specs.Rows.{commit_row, group_row, lag_row, partition_row, tenant_row};
-ghost use Rattle.kb_metrics.specs.Slots.{lag_row_among, slot_of};
+ghost use Rattle.kb_metrics.specs.Slots.{AreKept, IsKept, lag_row_among, slot_of};
 ghost use Rattle.kb_metrics.specs.View.{observed};
 
 use crate::gauges::TenantGauges;
@@ -145,27 +146,44 @@ fn push_topic_lags<'a, L: PartitionLog>(
     if groups.is_empty() {
         return Ok(());
     }
-    let slots = slots(alloc, parts, instance, topic.partitions().len())?;
-    for group in &groups {
-        push_lag(rows, &slots, group, topic.name())?;
+    let slots = slots(alloc, parts, instance, topic.partitions().len(), &groups)?;
+    push_lags(rows, &slots, &groups, topic.name())
+}
+
+/// Puts a row for each group and a topic, whose partitions are those.
+#[tactic(auto, using(crate::proofs::Commits::kept_at))]
+fn push_lags<'a>(
+    rows: &mut Vec<LagRow<'a>>,
+    slots: &[Slot<'_>],
+    groups: &[&'a str],
+    topic: &'a str,
+) -> Result<(), AllocError>
+    requires { All (AreKept (map (λ group. group.now) groups.now)) slots.now }
+    ensures { OnOk result (map lag_row rows.new.items ≡ map lag_row rows.old.items
+        ++ map (lag_row_among (map slot_of slots.now) topic.now) (map (λ group. group.now) groups.now)) }
+{
+    for place in 0..groups.len() {
+        push_lag(rows, slots, place, groups[place], topic)?;
     }
     Ok(())
 }
 
-/// Puts a row for a group and a topic, whose partitions are those.
+/// Puts a row for the group at a place and a topic, whose partitions are those.
 fn push_lag<'a>(
     rows: &mut Vec<LagRow<'a>>,
     slots: &[Slot<'_>],
+    place: usize,
     group: &'a str,
     topic: &'a str,
 ) -> Result<(), AllocError>
+    requires { All (IsKept place group.now) slots.now }
     ensures { OnOk result (map lag_row rows.new.items
         ≡ map lag_row rows.old.items ++ lag_row_among (map slot_of slots.now) topic.now group.now ∷ []) }
 {
     rows.push(LagRow {
         group,
         topic,
-        value: lag(slots, group),
+        value: lag(slots, place, group),
     })?;
     Ok(())
 }

@@ -1,43 +1,53 @@
 //! How far groups are behind.
 
-ghost use Rattle.std.specs.Prelude.{◌≡◌, ◌++◌, ◌-ℤ◌, IfOk, OnOk, map, option_copied, slice_get, true};
+ghost use Rattle.std.specs.Prelude.{◌≡◌, ◌++◌, ◌∷◌, [], ◌-ℤ◌, IfOk, OnOk, Some, map, option_copied, slice_get};
 ghost use Rattle.std.specs.Option.{option_and_then};
-ghost use Rattle.std.specs.List.{Contains, range_with_len};
+ghost use Rattle.std.specs.List.{All, range_with_len};
+ghost use Rattle.std.specs.List.Sorted.{IsStrictlySortedBy};
 ghost use Rattle.kb_batch.specs.Batch.{natural};
-ghost use Rattle.kb_settings.specs.Names.{in_order};
+ghost use Rattle.kb_settings.specs.Names.{byte_order, in_order};
 ghost use Rattle.kb_store.specs.Disk.{Files};
 ghost use Rattle.kb_tenant_state.specs.Parts.{world_of};
 ghost use Rattle.kb_metrics.specs.Gauges.{groups_at, groups_in};
-ghost use Rattle.kb_metrics.specs.Slots.{HaveSame, lag_among, lag_in, slot_at, slot_of};
+ghost use Rattle.kb_metrics.specs.Slots.{AreKept, AreOffsets, HaveSame, IsKept, is_at, lag_among, lag_in};
+ghost use Rattle.kb_metrics.specs.Slots.{offset_of, slot_at, slot_of};
 
 use kb_log::PartitionLog;
 use kb_tenant_state::{Parts, TopicPartition};
 use kb_topics::{Partition, Topic};
 use std::alloc::{AllocError, Global};
 
-/// Where a partition ends, and what groups committed to it; none where it is not there.
-#[derive(Clone, Copy)]
+/// Where a partition ends, and what is known of it; none where it is not there.
+#[derive(Drop)]
 pub struct Slot<'a> {
     pub end: Option<i64>,
     pub partition: Option<&'a Partition>,
+    /// What the first groups of its topic committed to it, in the order of groups. Mostly all of them committed to it, and then no group
+    /// has to be looked up by its name.
+    pub offsets: Vec<i64>,
 }
 
-/// The first partitions of a topic, so many, each looked up once.
+/// The first partitions of a topic, so many, each looked up once. The groups are those of the topic.
 pub fn slots<'a, L: PartitionLog>(
     alloc: Global,
     parts: &'a Parts<L>,
     instance: u64,
     count: usize,
+    groups: &[&str],
 ) -> Result<Vec<Slot<'a>>, AllocError>
-    ensures { IfOk result (λ slots. (files : Files)
+    requires { IsStrictlySortedBy byte_order (map (λ group. group.now) groups.now) }
+    ensures seen { IfOk result (λ slots. (files : Files)
         → map slot_of slots.items ≡ map (slot_at (world_of L.log parts.now files) instance) (range_with_len 0 count)) }
+    ensures kept { IfOk result (λ slots. All (AreKept (map (λ group. group.now) groups.now)) slots.items) }
 {
     let topic = parts.topic(instance);
     let mut slots = Vec::with_capacity(alloc, count)?;
     for number in 0..count {
+        let partition = partition_in(topic, number);
         slots.push(Slot {
             end: parts.end(TopicPartition { instance, number }),
-            partition: partition_in(topic, number),
+            partition,
+            offsets: offsets_in(alloc, partition, groups)?,
         })?;
     }
     Ok(slots)
@@ -50,31 +60,80 @@ fn partition_in<'a>(topic: Option<&'a Topic>, number: usize) -> Option<&'a Parti
     topic?.partitions().get(number)
 }
 
-/// How far a group is behind in partitions together. It stays at the greatest number.
-pub fn lag(slots: &[Slot<'_>], group: &str) -> u64
+/// What the first groups committed to a partition, as far as the groups that committed to it are these.
+fn offsets_in(
+    alloc: Global,
+    partition: Option<&Partition>,
+    groups: &[&str],
+) -> Result<Vec<i64>, AllocError>
+    requires { IsStrictlySortedBy byte_order (map (λ group. group.now) groups.now) }
+    ensures { IfOk result (λ offsets. AreOffsets (map (λ group. group.now) groups.now) (option_copied partition.entry) offsets.items) }
+{
+    match partition {
+        Some(partition) => offsets_of(alloc, partition, groups),
+        None => Ok(Vec::new(alloc)),
+    }
+}
+
+#[tactic(auto, using(crate::proofs::Commits::are_offsets))]
+fn offsets_of(alloc: Global, partition: &Partition, groups: &[&str]) -> Result<Vec<i64>, AllocError>
+    requires { IsStrictlySortedBy byte_order (map (λ group. group.now) groups.now) }
+    ensures { IfOk result (λ offsets. AreOffsets (map (λ group. group.now) groups.now) (Some partition.now) offsets.items) }
+{
+    let commits = partition.commits();
+    let mut offsets = Vec::with_capacity(alloc, commits.len())?;
+    for (group, committed) in commits {
+        if !is_at(groups, offsets.len(), group.as_str()) {
+            break;
+        }
+        offsets.push(committed.offset())?;
+    }
+    Ok(offsets)
+}
+
+/// How far the group at a place is behind in partitions together. It stays at the greatest number.
+pub fn lag(slots: &[Slot<'_>], place: usize, group: &str) -> u64
+    requires { All (IsKept place group.now) slots.now }
     ensures { result ≡ lag_among group.now (map slot_of slots.now) }
 {
     let mut sum: u64 = 0;
     for slot in slots {
-        sum = sum.saturating_add(lag_in(slot, group));
+        sum = sum.saturating_add(lag_in(slot, place, group));
     }
     sum
 }
 
-/// How far a group is behind in a partition: 0 where it committed nothing to it, or there is no such partition.
-fn lag_in(slot: &Slot<'_>, group: &str) -> u64
+/// How far the group at a place is behind in a partition: 0 where it committed nothing to it, or there is no such partition.
+fn lag_in(slot: &Slot<'_>, place: usize, group: &str) -> u64
+    requires { IsKept place group.now slot.now }
     ensures { result ≡ lag_in group.now (slot_of slot.now) }
 {
     let Some(end) = slot.end else {
         return 0;
     };
-    let Some(partition) = slot.partition else {
-        return 0;
-    };
-    match partition.committed(group) {
-        Some(committed) => behind(end, committed.offset()),
+    match offset_in(slot, place, group) {
+        Some(offset) => behind(end, offset),
         None => 0,
     }
+}
+
+/// What the group at a place committed to a partition.
+fn offset_in(slot: &Slot<'_>, place: usize, group: &str) -> Option<i64>
+    requires { IsKept place group.now slot.now }
+    ensures { result ≡ offset_of group.now (slot_of slot.now).1 }
+{
+    match slot.offsets.get(place) {
+        Some(offset) => Some(*offset),
+        None => offset_by_name(slot.partition, group),
+    }
+}
+
+/// What a group committed to a partition.
+fn offset_by_name(partition: Option<&Partition>, group: &str) -> Option<i64>
+    ensures { result ≡ offset_of group.now (option_copied partition.entry) }
+{
+    let committed = partition?.committed(group)?;
+    Some(committed.offset())
 }
 
 /// The end less a committed offset, at least 0.
@@ -116,20 +175,31 @@ fn push_groups<'a>(groups: &mut Vec<&'a str>, partition: &'a Partition) -> Resul
 {
     let mut place: usize = 0;
     for (group, _) in partition.commits() {
-        if !is_at(groups, place, group.as_str()) {
-            groups.push(group.as_str())?;
-        }
+        push_group(groups, place, group.as_str())?;
         place = place.saturating_add(1);
     }
     Ok(())
 }
 
+/// Puts a group behind those, unless it stands at that place.
+#[tactic(auto, using(crate::proofs::Groups::there))]
+fn push_group<'a>(groups: &mut Vec<&'a str>, place: usize, group: &'a str) -> Result<(), AllocError>
+    ensures { OnOk result (HaveSame (map (λ group. group.now) groups.new.items)
+        (map (λ group. group.now) groups.old.items ++ group.now ∷ [])) }
+{
+    if is_at(groups, place, group) {
+        return Ok(());
+    }
+    groups.push(group)?;
+    Ok(())
+}
+
 /// Whether a name stands at a place of names.
 fn is_at(names: &[&str], place: usize, name: &str) -> bool
-    ensures { result ≡ true → Contains (map (λ n. n.now) names.now) name.now }
+    ensures { result ≡ is_at (map (λ n. n.now) names.now) place name.now }
 {
-    if place >= names.len() {
-        return false;
+    match names.get(place) {
+        Some(there) => *there == name,
+        None => false,
     }
-    names[place] == name
 }

@@ -2,9 +2,11 @@
 
 ghost use Rattle.std.specs.Prelude.{◌≡◌, ◌++◌, ◌<◌, map, length, decimal, OnOk};
 ghost use Rattle.std.specs.List.{flat_map, range_with_len};
-ghost use Rattle.kb_metrics.specs.Markup.{cell, cell_of, cell_or, cell_start, entity, fact_of, fact_text, greatest, hex_digit, is_bare, is_unreserved};
-ghost use Rattle.kb_metrics.specs.Markup.{known_line, line_text, link_cell, marked, name_cell, newest, number_or, plot_cell, point_text, points_text};
-ghost use Rattle.kb_metrics.specs.Markup.{query, query_byte, sample_at, signed_cell, tag_text};
+ghost use Rattle.kb_metrics.specs.Markup.{cell, cell_of, cell_or, cell_start, entity, fact_of, fact_text};
+ghost use Rattle.kb_metrics.specs.Markup.{greatest, hex_digit, is_bare, is_unreserved, known_line, line_text};
+ghost use Rattle.kb_metrics.specs.Markup.{link_cell, marked, name_cell, newest, number_or, plot_cell};
+ghost use Rattle.kb_metrics.specs.Markup.{point_text, points_text, query, query_byte, sample_at, signed_cell};
+ghost use Rattle.kb_metrics.specs.Markup.{tag_text};
 ghost use Rattle.kb_metrics.specs.Text.{value_text};
 
 use crate::row::{Row, push_rows};

@@ -14,8 +14,8 @@ ghost use Rattle.kb_metrics.specs.Status.{title_text, traffic_cells, trouble_fac
 ghost use Rattle.kb_metrics.specs.declared.text.Value.TheVariants.{Thousandths, Whole};
 
 use crate::markup::{
-    Cell, Fact, Tag, push_cell, push_cell_or, push_cells, push_facts, push_link_cell, push_name_cell,
-    push_plot_cell, push_signed_cell, push_tag, push_text_line,
+    Cell, Fact, Tag, push_cell, push_cell_or, push_cells, push_facts, push_link_cell,
+    push_name_cell, push_plot_cell, push_signed_cell, push_tag, push_text_line,
 };
 use crate::rates::Rates;
 use crate::row::{Row, push_rows};

@@ -2,8 +2,9 @@
 
 ghost use Rattle.std.specs.Prelude.{◌≡◌, ◌++◌, ◌∷◌, ◌/◌, ◌<◌, [], map, OnOk, decimal};
 ghost use Rattle.std.specs.List.{flat_map};
-ghost use Rattle.kb_metrics.specs.Text.{behind_text, digit, end_text, escape, escaped, figure_of, figure_text, front_text, head_seen};
-ghost use Rattle.kb_metrics.specs.Text.{head_text, is_plain, kind_text, label_of, label_text, more_text, rows_text, sample_text, value_text};
+ghost use Rattle.kb_metrics.specs.Text.{behind_text, digit, end_text, escape, escaped, figure_of};
+ghost use Rattle.kb_metrics.specs.Text.{figure_text, front_text, head_seen, head_text, is_plain, kind_text};
+ghost use Rattle.kb_metrics.specs.Text.{label_of, label_text, more_text, rows_text, sample_text, value_text};
 
 use crate::row::{Row, push_rows};
 use itoa::{Buffer, Integer};

@@ -88,6 +88,9 @@ def told(tried, broker, port):
         tried.is_so("topics", value("kbroker_topics", tenant=tenant), topics)
         tried.is_so("partitions", value("kbroker_partitions", tenant=tenant), partitions)
         tried.is_so("refusals", value("kbroker_refusals_total", tenant=tenant), 0)
+        tried.is_so("groups at most", value("kbroker_limit", tenant=tenant, what="groups"), 1000)
+        tried.is_so("topics at most", value("kbroker_limit", tenant=tenant, what="topics"), None)
+    tried.is_so("offsets", [value("kbroker_committed_offsets", tenant=it) for it in "ab"], [4, 1])
     lags = {key[1]: it for key, it in got.items() if key[0] == "kbroker_group_lag"}
     wanted = {("a", "readers"): 6 + 5, ("a", "ahead"): 0, ("a", ODD.decode()): 19, ("b", "readers"): 20}
     tried.is_so("lags", lags, {(("group", group), ("tenant", tenant), ("topic", "orders")): it for (tenant, group), it in wanted.items()})

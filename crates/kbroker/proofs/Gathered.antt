@@ -1,5 +1,5 @@
 -- What is gathered place by place.
-use Rattle.std.proofs.Common.{◌≡◌, ◌∙◌, ◌+◌, ℕ, List, [], ◌∷◌, ◌++◌, map, sym, ap, zero-add}
+use Rattle.std.proofs.Common.{◌≡◌, ◌∙◌, ◌+◌, ℕ, List, [], ◌∷◌, ◌++◌, map, refl, sym, ap, zero-add}
 use Rattle.std.specs.List.{flat_map, range_with_len}
 use Rattle.std.proofs.lemmas.List.{flat_map_more, map-id}
 use Rattle.std.proofs.lemmas.List.FromFn.{map-range_with_len_more}
@@ -14,3 +14,7 @@ pub place_more : {A : Type 0} (at : ℕ → List A) (out new : List A) (n : ℕ)
     → new ≡ out ++ at n → new ≡ flat_map at (range_with_len 0 (n + 1))
 place_more at out new n e h =
     h ∙ ap (λ y. y ++ at n) e ∙ flat_map_more at [] (range_with_len 0 n) n ∙ ap (λ ys. flat_map at ys) (one_more n)
+
+pub map_both : {X Y Z : Type 0} (f : Y → Z) (g : X → Y) (xs : List X) → map f (map g xs) ≡ map (λ x. f (g x)) xs
+map_both f g [] = refl
+map_both f g (x ∷ xs) = ap (λ ys. f (g x) ∷ ys) (map_both f g xs)

@@ -1,10 +1,18 @@
 -- What pages of metrics tell of a broker.
-use Rattle.std.specs.Prelude.{◌≡◌, ◌++◌, ℕ, List, [], ◌∷◌, length, Option, None, Some, option_map, slice_get}
+use Rattle.std.specs.Prelude.{◌≡◌, ◌++◌, ℕ, List, [], ◌∷◌, map, length, Option, None, Some, option_map, slice_get}
 use Rattle.std.specs.List.{flat_map, range_with_len}
 use Rattle.kb_isolation_spec.specs.Broker.{BrokerState}
 use Rattle.kb_isolation_spec.specs.Machine.{Line}
 use Rattle.kb_broker.specs.Counts.{lines_of, waiting_lines}
-use Rattle.kb_metrics.specs.Gauges.{Observed}
+use Rattle.kb_store.specs.Disk.{Files}
+use Rattle.kb_log.specs.OnShelf.{Log}
+use Rattle.kb_settings.specs.Values.{Values, data_of, groups_of}
+use Rattle.kb_settings.specs.declared.tenant_limits.DataLimits.{DataLimits}
+use Rattle.kb_settings.specs.declared.tenant_limits.GroupLimits.{GroupLimits}
+use Rattle.kb_metrics.specs.Gauges.{Observed, tenants_text}
+use Rattle.kb_metrics.specs.View.{observed}
+use Rattle.kb_metrics.specs.declared.gauges.TenantGauges.{TenantGauges}
+use Rattle.kb_metrics.specs.declared.limits.Limits.{Limits}
 use Rattle.kb_node.specs.declared.tenant_traffic.TenantTraffic.{TenantTraffic}
 use Rattle.kb_tenant_api.specs.Hosted.{TenantState}
 
@@ -21,13 +29,30 @@ abbrev pub response_bytes_of : Option TenantTraffic → ℕ
 response_bytes_of None = 0
 response_bytes_of (Some t) = t.response_bytes
 
--- What is told of the tenant at a place: what it keeps, how many connections are bound to it and how many of them wait, and what was
--- counted at its place.
-abbrev pub observed_at : ℕ → List Line → List TenantTraffic → TenantState → Observed
-observed_at place lines traffic t = record {
+abbrev pub limits_in : DataLimits → GroupLimits → Limits
+limits_in data groups = record {
+  topics = data.topics;
+  partitions = data.partitions;
+  offsets = data.offsets;
+  bytes = data.bytes;
+  fetch_bytes = None;
+  groups = Some groups.groups;
+  group_bytes = Some groups.bytes;
+}
+
+-- what the tenant of a name may have
+abbrev pub limits_of : List ℕ → Values → Limits
+limits_of name values = limits_in (data_of name values) (groups_of name values)
+
+-- What is told of the tenant at a place: what it keeps, its limits, how many connections are bound to it and how many of them wait, and what
+-- was counted at its place. The bytes of its batches stand apart, since they may not be known.
+abbrev pub observed_at : Values → ℕ → List Line → List TenantTraffic → TenantState → Observed
+observed_at values place lines traffic t = record {
   name = t.name;
   world = t.kept.world;
+  stored = None;
   groups = t.kept.groups.groups;
+  limits = limits_of t.name values;
   connections = length (lines_of place lines);
   waiting = length (waiting_lines place lines);
   requests = requests_of (slice_get traffic place);
@@ -42,13 +67,24 @@ listed None = []
 listed (Some x) = x ∷ []
 
 -- of the tenant at a place of a broker, where there is one
-abbrev pub observed_slot : BrokerState → List TenantTraffic → ℕ → List Observed
-observed_slot b traffic place = listed (option_map (observed_at place b.lines traffic) (slice_get b.tenants place))
+abbrev pub observed_slot : Values → BrokerState → List TenantTraffic → ℕ → List Observed
+observed_slot values b traffic place = listed (option_map (observed_at values place b.lines traffic) (slice_get b.tenants place))
 
 -- of all its tenants, by their places
-abbrev pub observed_from : BrokerState → List TenantTraffic → List Observed
-observed_from b traffic = flat_map (observed_slot b traffic) (range_with_len 0 (length b.tenants))
+abbrev pub observed_from : Values → BrokerState → List TenantTraffic → List Observed
+observed_from values b traffic = flat_map (observed_slot values b traffic) (range_with_len 0 (length b.tenants))
+
+-- what is observed of a tenant, but for the bytes of its batches
+abbrev pub unstored : Observed → Observed
+unstored o = record o { stored = None }
+
+abbrev pub looked_at : {L : Type 0} → (L → Log) → Files → TenantGauges L → Observed
+looked_at log files g = unstored (observed log files g)
 
 -- a text that begins with another
 abbrev pub BeginsWith : List ℕ → List ℕ → Type 0
 BeginsWith front text = (rest : List ℕ) × (text ≡ front ++ rest)
+
+-- the page of metrics begins with what is said of tenants of which this is observed, whatever is known of the bytes of their batches
+abbrev pub IsMetrics : List Observed → List ℕ → Type 0
+IsMetrics seen text = (os : List Observed) × (map unstored os ≡ seen) × BeginsWith (tenants_text os) text

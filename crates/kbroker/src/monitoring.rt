@@ -14,22 +14,23 @@ use std::time::Instant;
 
 /// The pages, and what they tell of.
 #[derive(Drop)]
-pub struct Monitoring {
+pub struct Monitoring<'a> {
     pages: Pages<HostRuntime>,
+    settings: &'a Settings,
     history: History,
     /// When the turn began that is under way.
     begun: Option<Instant>,
 }
 
-impl Monitoring {
+impl<'a> Monitoring<'a> {
     /// The pages on the address that the settings name, where they name one. From then on the edge counts what its tenants ask. The moment
     /// is in milliseconds since the beginning of 1970.
     pub fn open<R: Net, S: Store, L: PartitionLog + Drop>(
         rt: &HostRuntime,
-        settings: &Settings,
+        settings: &'a Settings,
         edge: &mut Edge<R, S, L>,
         started: u64,
-    ) -> Result<Option<Monitoring>, Fault> {
+    ) -> Result<Option<Monitoring<'a>>, Fault> {
         let alloc = rt.alloc();
         let Some(endpoint) = &settings.metrics.address else {
             return Ok(None);
@@ -42,6 +43,7 @@ impl Monitoring {
             Ok(pages) => {
                 let monitoring = Monitoring {
                     pages,
+                    settings,
                     history,
                     begun: None,
                 };
@@ -62,6 +64,7 @@ impl Monitoring {
         let shown = Shown {
             rt,
             edge,
+            settings: self.settings,
             history: &self.history,
             now: self.history.started(),
         };
@@ -90,6 +93,7 @@ impl Monitoring {
         let shown = Shown {
             rt,
             edge,
+            settings: self.settings,
             history: &self.history,
             now,
         };

@@ -165,7 +165,7 @@ fn settle<S: Store, L: PartitionLog + Drop>(broker: &mut Broker<S, L>) -> Result
 fn turn_on<R: Net, S: Store, L: PartitionLog + Drop>(
     rt: &HostRuntime,
     edge: &mut Edge<R, S, L>,
-    monitoring: &mut Option<Monitoring>,
+    monitoring: &mut Option<Monitoring<'_>>,
     journal: &mut Journal,
     folder: &mut FolderJournal,
 ) -> Result<(), StoreFault> {

@@ -4,7 +4,8 @@ ghost use Rattle.std.specs.Prelude.{◌≡◌, ◌++◌, ◌/◌, [], IfOk, OnOk
 ghost use Rattle.kb_store.specs.Disk.{Files};
 ghost use Rattle.kb_metrics.specs.Gauges.{tenants_text};
 ghost use Rattle.kb_metrics.specs.View.{observed};
-ghost use Rattle.kbroker.specs.Observed.{BeginsWith, observed_at, observed_from, observed_slot};
+ghost use Rattle.kb_settings.specs.Values.{values_of};
+ghost use Rattle.kbroker.specs.Observed.{BeginsWith, IsMetrics, limits_of, looked_at, observed_at, observed_from, observed_slot};
 ghost use Rattle.kbroker.specs.Causes.{causes_text, refused_text, sockets_text};
 ghost use Rattle.kb_metrics.specs.Rates.{in_minute};
 ghost use Rattle.kbroker.specs.Observed.{request_bytes_of, requests_of, response_bytes_of};
@@ -14,10 +15,10 @@ use crate::process::{cpu_millis, most_files, open_files, resident_bytes};
 use kb_broker::TenantView;
 use kb_log::PartitionLog;
 use kb_metrics::{
-    Closed, ProcessGauges, ServerGauges, TenantGauges, Traffic, push_number, push_partitions,
-    push_process, push_server, push_status, push_tenant_status, push_tenants,
+    Closed, Limits, ProcessGauges, ServerGauges, TenantGauges, Traffic, push_number,
+    push_partitions, push_process, push_server, push_status, push_tenant_status, push_tenants,
 };
-use kb_node::{Edge, Store};
+use kb_node::{Edge, Settings, Store};
 use kb_pages::{Form, Source};
 use kb_version::VERSION;
 use std::alloc::{AllocError, Global};
@@ -30,6 +31,7 @@ use std::os::fd::RawFd;
 pub struct Shown<'a, R: Net, S: Store, L: PartitionLog + Drop> {
     pub rt: &'a HostRuntime,
     pub edge: &'a Edge<R, S, L>,
+    pub settings: &'a Settings,
     pub history: &'a History,
     /// The moment, in milliseconds.
     pub now: u64,
@@ -38,7 +40,8 @@ pub struct Shown<'a, R: Net, S: Store, L: PartitionLog + Drop> {
 impl<'a, R: Net, S: Store, L: PartitionLog + Drop> Source for Shown<'a, R, S, L> {
     // Of the other pages nothing is said here: what is written there is `kb_metrics`'s contract.
     ghost told = { λ shown. record {
-      metrics = BeginsWith (tenants_text (observed_from shown.edge.now.host.broker.state shown.edge.now.traffic.items));
+      metrics = IsMetrics
+          (observed_from (values_of shown.settings.now) shown.edge.now.host.broker.state shown.edge.now.traffic.items);
       causes = λ text. text ≡ causes_text (in_minute (shown.now / 1000) shown.history.now.refused)
           (vec_len shown.edge.now.sockets) shown.edge.now.limit;
       status = λ text. Unit {0};
@@ -49,7 +52,7 @@ impl<'a, R: Net, S: Store, L: PartitionLog + Drop> Source for Shown<'a, R, S, L>
 
     fn push_all(&self, alloc: Global, form: Form, out: &mut Vec<u8>) -> Result<(), AllocError> {
         match form {
-            Form::Metrics => push_metrics(alloc, self.rt, self.edge, self.history, out),
+            Form::Metrics => push_metrics(alloc, self, out),
             Form::Status => push_status_page(alloc, self, out),
         }
     }
@@ -66,7 +69,7 @@ impl<'a, R: Net, S: Store, L: PartitionLog + Drop> Source for Shown<'a, R, S, L>
         tenant: &[u8],
         out: &mut Vec<u8>,
     ) -> Result<bool, AllocError> {
-        let Some(gauges) = gauges_named(self.edge, tenant) else {
+        let Some(gauges) = gauges_named(self.edge, self.settings, tenant) else {
             return Ok(false);
         };
         match form {
@@ -110,19 +113,17 @@ fn push_sockets(out: &mut Vec<u8>, sockets: usize, limit: usize) -> Result<(), A
 /// Writes the page of metrics, which tells the longest turn.
 fn push_metrics<R: Net, S: Store, L: PartitionLog + Drop>(
     alloc: Global,
-    rt: &HostRuntime,
-    edge: &Edge<R, S, L>,
-    history: &History,
+    shown: &Shown<'_, R, S, L>,
     out: &mut Vec<u8>,
 ) -> Result<(), AllocError>
     requires { out.old.items ≡ [] }
-    ensures { OnOk result (BeginsWith
-        (tenants_text (observed_from edge.now.host.broker.state edge.now.traffic.items)) out.new.items) }
+    ensures { OnOk result (IsMetrics
+        (observed_from (values_of shown.now.settings.now) shown.now.edge.now.host.broker.state shown.now.edge.now.traffic.items) out.new.items) }
 {
-    let tenants = tenants_of(alloc, edge)?;
-    let server = server_of(edge, history);
-    let process = process_of(rt, history);
-    history.is_told.set(true);
+    let tenants = tenants_of(alloc, shown.edge, shown.settings)?;
+    let server = server_of(shown.edge, shown.history);
+    let process = process_of(shown.rt, shown.history);
+    shown.history.is_told.set(true);
     push_all(alloc, out, &tenants, &server, &process)
 }
 
@@ -132,7 +133,7 @@ fn push_status_page<R: Net, S: Store, L: PartitionLog + Drop>(
     shown: &Shown<'_, R, S, L>,
     out: &mut Vec<u8>,
 ) -> Result<(), AllocError> {
-    let tenants = tenants_of(alloc, shown.edge)?;
+    let tenants = tenants_of(alloc, shown.edge, shown.settings)?;
     let server = server_of(shown.edge, shown.history);
     let process = process_of(shown.rt, shown.history);
     push_status(
@@ -165,14 +166,15 @@ fn push_all<L: PartitionLog>(
 fn tenants_of<'a, R: Net, S: Store, L: PartitionLog + Drop>(
     alloc: Global,
     edge: &'a Edge<R, S, L>,
+    settings: &Settings,
 ) -> Result<Vec<TenantGauges<'a, L>>, AllocError>
-    ensures { IfOk result (λ tenants. map (observed L.log (S.disk edge.now.host.broker.store).files) tenants.items
-        ≡ observed_from edge.now.host.broker.state edge.now.traffic.items) }
+    ensures { IfOk result (λ tenants. map (looked_at L.log (S.disk edge.now.host.broker.store).files) tenants.items
+        ≡ observed_from (values_of settings.now) edge.now.host.broker.state edge.now.traffic.items) }
 {
     let count = edge.broker().tenants_len();
     let mut tenants = Vec::with_capacity(alloc, count)?;
     for place in 0..count {
-        push_gauges(&mut tenants, edge, place)?;
+        push_gauges(&mut tenants, edge, settings, place)?;
     }
     Ok(tenants)
 }
@@ -181,13 +183,14 @@ fn tenants_of<'a, R: Net, S: Store, L: PartitionLog + Drop>(
 fn push_gauges<'a, R: Net, S: Store, L: PartitionLog + Drop>(
     tenants: &mut Vec<TenantGauges<'a, L>>,
     edge: &'a Edge<R, S, L>,
+    settings: &Settings,
     place: usize,
 ) -> Result<(), AllocError>
-    ensures { OnOk result (map (observed L.log (S.disk edge.now.host.broker.store).files) tenants.new.items
-        ≡ map (observed L.log (S.disk edge.now.host.broker.store).files) tenants.old.items
-        ++ observed_slot edge.now.host.broker.state edge.now.traffic.items place) }
+    ensures { OnOk result (map (looked_at L.log (S.disk edge.now.host.broker.store).files) tenants.new.items
+        ≡ map (looked_at L.log (S.disk edge.now.host.broker.store).files) tenants.old.items
+        ++ observed_slot (values_of settings.now) edge.now.host.broker.state edge.now.traffic.items place) }
 {
-    if let Some(gauges) = gauges_at(edge, place) {
+    if let Some(gauges) = gauges_at(edge, settings, place) {
         tenants.push(gauges)?;
     }
     Ok(())
@@ -196,10 +199,11 @@ fn push_gauges<'a, R: Net, S: Store, L: PartitionLog + Drop>(
 /// What is looked at of the tenant at a place, where there is one.
 fn gauges_at<'a, R: Net, S: Store, L: PartitionLog + Drop>(
     edge: &'a Edge<R, S, L>,
+    settings: &Settings,
     place: usize,
 ) -> Option<TenantGauges<'a, L>>
-    ensures { option_map (observed L.log (S.disk edge.now.host.broker.store).files) result
-        ≡ option_map (observed_at place edge.now.host.broker.state.lines edge.now.traffic.items)
+    ensures { option_map (looked_at L.log (S.disk edge.now.host.broker.store).files) result
+        ≡ option_map (observed_at (values_of settings.now) place edge.now.host.broker.state.lines edge.now.traffic.items)
         (slice_get edge.now.host.broker.state.tenants place) }
 {
     let broker = edge.broker();
@@ -212,6 +216,7 @@ fn gauges_at<'a, R: Net, S: Store, L: PartitionLog + Drop>(
         name,
         parts,
         groups,
+        limits: limits_of(settings, name),
         connections: broker.connections_of(place) as u64,
         waiting: broker.waiting_of(place) as u64,
         traffic: traffic_at(edge, place),
@@ -221,16 +226,34 @@ fn gauges_at<'a, R: Net, S: Store, L: PartitionLog + Drop>(
 /// What is looked at of the tenant of a name, where there is one.
 fn gauges_named<'a, R: Net, S: Store, L: PartitionLog + Drop>(
     edge: &'a Edge<R, S, L>,
+    settings: &Settings,
     name: &[u8],
 ) -> Option<TenantGauges<'a, L>> {
     for place in 0..edge.broker().tenants_len() {
-        if let Some(gauges) = gauges_at(edge, place)
+        if let Some(gauges) = gauges_at(edge, settings, place)
             && gauges.name.as_bytes() == name
         {
             return Some(gauges);
         }
     }
     None
+}
+
+/// What the tenant of a name may have.
+fn limits_of(settings: &Settings, tenant: &str) -> Limits
+    ensures { result ≡ limits_of tenant.now (values_of settings.now) }
+{
+    let data = settings.data_of(tenant);
+    let groups = settings.groups_of(tenant);
+    Limits {
+        topics: data.topics,
+        partitions: data.partitions,
+        offsets: data.offsets,
+        bytes: data.bytes,
+        fetch_bytes: None,
+        groups: Some(u64::from(groups.groups)),
+        group_bytes: Some(groups.bytes),
+    }
 }
 
 /// What was counted of the tenant at a place: nothing where that is not counted.

@@ -1,14 +1,23 @@
-use Rattle.std.proofs.Common.{◌≡◌, ◌∙◌, ap, map, subst}
-use Rattle.kb_metrics.specs.Gauges.{tenants_text}
+use Rattle.std.proofs.Common.{◌≡◌, ◌∙◌, ap, map}
+use Rattle.kb_settings.specs.Values.{values_of}
 use Rattle.kb_metrics.specs.View.{observed}
-use Rattle.kbroker.specs.Observed.{BeginsWith, observed_from}
+use Rattle.kbroker.specs.Observed.{looked_at, observed_from, unstored}
 use Rattle.kbroker.proofs.Begun.{on_ok}
+use Rattle.kbroker.proofs.Gathered.{map_both}
 use Rattle.kbroker.proofs.shown.push_metrics.Goals as goal
 
 pub returns : goal.returns
 returns g c =
-    let edge = c.args.edge.now in
-    let files = (g.S.Store.disk edge.host.broker.store).files in
-    let all : map (observed g.L.PartitionLog.log files) c.deref.result.now ≡ observed_from edge.host.broker.state edge.traffic.items =
-    ap (map (observed g.L.PartitionLog.log files)) c.deref.ensures.value ∙ c.in_ok-tenants.ensures in
-    on_ok _ _ (λ told. subst (λ ts. BeginsWith (tenants_text ts) c.push_all.new.out.items) all (told files)) c.push_all.result c.push_all.ensures
+    let shown = c.args.shown.now in
+    let files = (g.S.Store.disk shown.edge.now.host.broker.store).files in
+    let tenants = c.deref.result.now in
+    let all : map (looked_at g.L.PartitionLog.log files) tenants
+    ≡ observed_from (values_of shown.settings.now) shown.edge.now.host.broker.state shown.edge.now.traffic.items =
+    ap (map (looked_at g.L.PartitionLog.log files)) c.deref.ensures.value ∙ c.in_ok-tenants.ensures in
+    on_ok _ _
+    (λ told. (
+      map (observed g.L.PartitionLog.log files) tenants,
+      map_both unstored (observed g.L.PartitionLog.log files) tenants ∙ all,
+      told files,
+    ))
+    c.push_all.result c.push_all.ensures

@@ -1,16 +1,16 @@
 -- Output that is taken changes nothing of what a connection's bytes lead it to.
-use Rattle.std.proofs.Common.{◌≡◌, ℕ, ℤ, zero, suc, Bool, true, false, cond, eqb, nat_lt, List, [], ◌∷◌, ◌++◌, length, refl, sym, ap, ◌∙◌, Option, Some, None}
+use Rattle.std.proofs.Common.{◌≡◌, ℕ, ℤ, zero, suc, Bool, true, false, cond, eqb, nat_lt, List, [], ◌∷◌, ◌++◌, length, refl, sym, ap, ◌∙◌, Option, Some, None, Ok, Err}
 use Rattle.std.specs.Str.{bytes_eq}
-use Rattle.std.specs.Prelude.{codes}
+use Rattle.std.specs.Prelude.{codes, Result}
 use Rattle.kb_api_group.specs.Frames.{Front, Whole, Partial, TooSmall, TooLarge, front}
-use Rattle.kb_wire.specs.declared.error_code.ErrorCode.TheVariants as errors
 use Rattle.kb_tenant.specs.Replies.{reply_size}
 use Rattle.kb_isolation_spec.specs.declared.shut.Shut.{Shut}
 use Rattle.kb_isolation_spec.specs.declared.shut.Shut.TheVariants as causes
 use Rattle.kb_isolation_spec.specs.declared.head.Head.{Head}
+use Rattle.kb_isolation_spec.specs.declared.login.Known.{Known}
 use Rattle.kb_isolation_spec.specs.Requests.{Asked, Versions, OtherVersions, Handshake, Authenticate, Another, Malformed, request, unserved}
 use Rattle.kb_isolation_spec.specs.Session.{Greeting, Unshaken, Shaken, Bare, Stage, Greets, BoundTo, Session, shut_down, replied, throttled, fed, room, unanswerable}
-use Rattle.kb_isolation_spec.specs.Greeting.{Setup, authenticate_reply, login, logged_in, bare_login, greeting_after, shaken, authenticated, greeted_by, greeted_frame, greeted_at, greeted}
+use Rattle.kb_isolation_spec.specs.Greeting.{Setup, bound, failed, failed_reply, login, logged_in, bare_login, greeting_after, shaken, authenticated, greeted_by, greeted_frame, greeted_at, greeted}
 use Rattle.kb_isolation_spec.specs.Machine.{Happening, Opens, Comes, Closes, Moment, Line, again}
 use Rattle.kb_isolation_spec.specs.Owners.{greet_turn_at, greet_turn, heard, whose, destiny, Pairwise}
 use Rattle.kb_isolation_spec.specs.Broker.{BrokerState, Mine}
@@ -44,9 +44,15 @@ same-shaken false head version s t e = same-replied head _ s t e
 same-denied : (head : Head) (body : List ℕ) (s t : Session) → Same s t → Same (shut_down causes.Denied (replied head body s)) (shut_down causes.Denied (replied head body t))
 same-denied head body s t e = same-shut causes.Denied (replied head body s) (replied head body t) (same-replied head body s t e)
 
-same-logged_in : (o : Option ℕ) (head : Head) (s t : Session) → Same s t → Same (logged_in o head s) (logged_in o head t)
-same-logged_in (Some u) head s t e = same-replied head _ _ _ (same-stage (BoundTo u None) s t e)
-same-logged_in None head s t e = same-denied head (authenticate_reply errors.SaslAuthenticationFailed (Some (codes "authentication failed"))) s t e
+same-bound : (known : Known) (s t : Session) → Same s t → Same (bound known s) (bound known t)
+same-bound known s t e = ap (bound known) e
+
+same-failed : (name : List ℕ) (s t : Session) → Same s t → Same (failed name s) (failed name t)
+same-failed name s t e = ap (failed name) e
+
+same-logged_in : (o : Result Known (List ℕ)) (head : Head) (s t : Session) → Same s t → Same (logged_in o head s) (logged_in o head t)
+same-logged_in (Ok known) head s t e = same-replied head _ (bound known s) (bound known t) (same-bound known s t e)
+same-logged_in (Err name) head s t e = same-denied head failed_reply (failed name s) (failed name t) (same-failed name s t e)
 
 same-authenticated : (setup : Setup) (h : Bool) (head : Head) (message : List ℕ) (s t : Session) → Same s t → Same (authenticated setup h head message s) (authenticated setup h head message t)
 same-authenticated setup true head message s t e = same-logged_in (login setup.users message) head s t e
@@ -61,9 +67,9 @@ same-greeted_by setup h head (Authenticate message) s t e = same-authenticated s
 same-greeted_by setup h head (Another key version body) s t e = same-shut (causes.NotLoggedIn head.api_key head.api_version) s t e
 same-greeted_by setup h head Malformed s t e = same-shut (unserved setup.versions head) s t e
 
-same-bare_login : (o : Option ℕ) (s t : Session) → Same s t → Same (bare_login o s) (bare_login o t)
-same-bare_login (Some u) s t e = same-stage (BoundTo u None) s t e
-same-bare_login None s t e = same-shut causes.Denied s t e
+same-bare_login : (o : Result Known (List ℕ)) (s t : Session) → Same s t → Same (bare_login o s) (bare_login o t)
+same-bare_login (Ok known) s t e = same-bound known s t e
+same-bare_login (Err name) s t e = same-shut causes.Denied (failed name s) (failed name t) (same-failed name s t e)
 
 same-greeted_frame : (setup : Setup) (h : Greeting) (frame : List ℕ) (s t : Session) → Same s t → Same (greeted_frame setup h frame s) (greeted_frame setup h frame t)
 same-greeted_frame setup Unshaken frame s t e = let r = request setup.versions frame in same-greeted_by setup false r.head r.asked s t e

@@ -28,6 +28,9 @@ const ROUNDS: usize = 64;
 /// How many sockets are served in a round at most, a request each. Behind it the system is asked who else can go on.
 const ROUND: usize = 16;
 
+/// A request of so many bytes is long: it is the last of its round.
+const LONG: usize = 65_536;
+
 /// How many sockets are asked at most in a turn whose replies wait for a commit.
 const TOGETHER: usize = 256;
 
@@ -132,7 +135,8 @@ impl<R: Net, S: Store, L: PartitionLog + Drop> Edge<R, S, L> {
         Ok(())
     }
 
-    /// The next sockets in line are served once, a round of them.
+    /// The next sockets in line are served once, a round of them. It ends behind one whose request is long, so that whoever became ready
+    /// meanwhile waits for one such request at most.
     #[tactic(auto, using(crate::proofs::Goes::goes_then, crate::proofs::Goes::goes_none))]
     fn serve(&mut self, alloc: Global, turn: &mut Turn)
         requires { tells_at_once self.old.host.commits ≡ true }
@@ -143,7 +147,22 @@ impl<R: Net, S: Store, L: PartitionLog + Drop> Edge<R, S, L> {
             let Some(number) = self.line.next() else {
                 break;
             };
+            let is_long = self.is_long(number);
             self.serve_one(alloc, number, turn);
+            if is_long {
+                break;
+            }
+        }
+    }
+
+    /// Whether the request that a connection has begun is long.
+    fn is_long(&self, number: u64) -> bool {
+        let Some(place) = self.place_of(number) else {
+            return false;
+        };
+        match self.sockets.get(place) {
+            Some(socket) => socket.begun() >= LONG,
+            None => false,
         }
     }
 

@@ -118,7 +118,8 @@ fn push_metrics<R: Net, S: Store, L: PartitionLog + Drop>(
 ) -> Result<(), AllocError>
     requires { out.old.items ≡ [] }
     ensures { OnOk result (IsMetrics
-        (observed_from (values_of shown.now.settings.now) shown.now.edge.now.host.broker.state shown.now.edge.now.traffic.items) out.new.items) }
+        (observed_from (values_of shown.now.settings.now) shown.now.edge.now.host.broker.state shown.now.edge.now.traffic.items)
+        out.new.items) }
 {
     let tenants = tenants_of(alloc, shown.edge, shown.settings)?;
     let server = server_of(shown.edge, shown.history);

@@ -1,3 +1,4 @@
 mod Begun
 mod Gathered
+mod Named
 mod Opened

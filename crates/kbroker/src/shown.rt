@@ -1,11 +1,12 @@
 //! What is on the pages of a broker that serves.
 
-ghost use Rattle.std.specs.Prelude.{◌≡◌, ◌++◌, ◌/◌, [], IfOk, OnOk, map, option_map, slice_get, vec_len};
+ghost use Rattle.std.specs.Prelude.{◌≡◌, ◌++◌, ◌/◌, [], None, IfOk, OnOk, map, option_map, slice_get, vec_len};
 ghost use Rattle.kb_store.specs.Disk.{Files};
-ghost use Rattle.kb_metrics.specs.Gauges.{tenants_text};
+ghost use Rattle.kb_metrics.specs.Gauges.{partitions_text, tenants_text};
 ghost use Rattle.kb_metrics.specs.View.{observed};
 ghost use Rattle.kb_settings.specs.Values.{values_of};
-ghost use Rattle.kbroker.specs.Observed.{BeginsWith, IsMetrics, limits_of, looked_at, observed_at, observed_from, observed_slot};
+ghost use Rattle.kbroker.specs.Observed.{BeginsWith, limits_of, looked_at, observed_at, observed_from, observed_slot};
+ghost use Rattle.kbroker.specs.Pages.{IsMetrics, IsPageOf, IsStatus, named, page_in, page_of};
 ghost use Rattle.kbroker.specs.Causes.{causes_text, refused_text, sockets_text};
 ghost use Rattle.kb_metrics.specs.Rates.{in_minute};
 ghost use Rattle.kbroker.specs.Observed.{request_bytes_of, requests_of, response_bytes_of};
@@ -38,17 +39,16 @@ pub struct Shown<'a, R: Net, S: Store, L: PartitionLog + Drop> {
 }
 
 impl<'a, R: Net, S: Store, L: PartitionLog + Drop> Source for Shown<'a, R, S, L> {
-    // Of the other pages nothing is said here: what is written there is `kb_metrics`'s contract.
-    ghost told = { λ shown. record {
-      metrics = IsMetrics
-          (observed_from (values_of shown.settings.now) shown.edge.now.host.broker.state shown.edge.now.traffic.items);
-      causes = λ text. text ≡ causes_text (in_minute (shown.now / 1000) shown.history.now.refused)
-          (vec_len shown.edge.now.sockets) shown.edge.now.limit;
-      status = λ text. Unit {0};
-      partitions = λ name. λ text. Unit {0};
-      tenant = λ name. λ text. Unit {0};
-      is_unknown = λ name. Unit {0};
-    } };
+    ghost told = { λ shown. let seen =
+        observed_from (values_of shown.settings.now) shown.edge.now.host.broker.state shown.edge.now.traffic.items in record {
+          metrics = IsMetrics seen;
+          causes = λ text. text ≡ causes_text (in_minute (shown.now / 1000) shown.history.now.refused)
+              (vec_len shown.edge.now.sockets) shown.edge.now.limit;
+          status = IsStatus seen shown.history.now.rates.items;
+          partitions = IsPageOf partitions_text seen;
+          tenant = IsPageOf page_of seen;
+          is_unknown = λ name. named name seen ≡ None;
+        } };
 
     fn push_all(&self, alloc: Global, form: Form, out: &mut Vec<u8>) -> Result<(), AllocError> {
         match form {
@@ -69,14 +69,14 @@ impl<'a, R: Net, S: Store, L: PartitionLog + Drop> Source for Shown<'a, R, S, L>
         tenant: &[u8],
         out: &mut Vec<u8>,
     ) -> Result<bool, AllocError> {
-        let Some(gauges) = gauges_named(self.edge, self.settings, tenant) else {
-            return Ok(false);
-        };
-        match form {
-            Form::Metrics => push_partitions(alloc, out, &gauges)?,
-            Form::Status => push_tenant_status(alloc, out, &gauges)?,
+        let tenants = tenants_of(alloc, self.edge, self.settings)?;
+        match named(&tenants, tenant) {
+            Some(gauges) => {
+                push_page(alloc, form, gauges, out)?;
+                Ok(true)
+            }
+            None => Ok(false),
         }
-        Ok(true)
     }
 
     fn wake_by(&self, file: RawFd) -> io::Result<()> {
@@ -133,7 +133,12 @@ fn push_status_page<R: Net, S: Store, L: PartitionLog + Drop>(
     alloc: Global,
     shown: &Shown<'_, R, S, L>,
     out: &mut Vec<u8>,
-) -> Result<(), AllocError> {
+) -> Result<(), AllocError>
+    requires { out.old.items ≡ [] }
+    ensures { OnOk result (IsStatus
+        (observed_from (values_of shown.now.settings.now) shown.now.edge.now.host.broker.state shown.now.edge.now.traffic.items)
+        shown.now.history.now.rates.items out.new.items) }
+{
     let tenants = tenants_of(alloc, shown.edge, shown.settings)?;
     let server = server_of(shown.edge, shown.history);
     let process = process_of(shown.rt, shown.history);
@@ -224,20 +229,30 @@ fn gauges_at<'a, R: Net, S: Store, L: PartitionLog + Drop>(
     })
 }
 
-/// What is looked at of the tenant of a name, where there is one.
-fn gauges_named<'a, R: Net, S: Store, L: PartitionLog + Drop>(
-    edge: &'a Edge<R, S, L>,
-    settings: &Settings,
+/// The first tenant of a name, where there is one.
+fn named<'a, 'b, L: PartitionLog>(
+    tenants: &'b [TenantGauges<'a, L>],
     name: &[u8],
-) -> Option<TenantGauges<'a, L>> {
-    for place in 0..edge.broker().tenants_len() {
-        if let Some(gauges) = gauges_at(edge, settings, place)
-            && gauges.name.as_bytes() == name
-        {
-            return Some(gauges);
-        }
+) -> Option<&'b TenantGauges<'a, L>>
+    ensures { (files : Files) → option_map (λ t. looked_at L.log files t.now) result
+        ≡ named name.now (map (looked_at L.log files) tenants.now) }
+{
+    tenants.iter().find(|tenant| tenant.name.as_bytes() == name)
+}
+
+/// Writes the page of a tenant in a form.
+fn push_page<L: PartitionLog>(
+    alloc: Global,
+    form: Form,
+    tenant: &TenantGauges<'_, L>,
+    out: &mut Vec<u8>,
+) -> Result<(), AllocError>
+    ensures { OnOk result ((files : Files) → out.new.items ≡ out.old.items ++ page_in form (observed L.log files tenant.now)) }
+{
+    match form {
+        Form::Metrics => push_partitions(alloc, out, tenant),
+        Form::Status => push_tenant_status(alloc, out, tenant),
     }
-    None
 }
 
 /// What the tenant of a name may have.

@@ -1,0 +1,31 @@
+use Rattle.std.proofs.Common.{◌≡◌, ◌∙◌, ◌++◌, ap, map}
+use Rattle.kb_settings.specs.Values.{values_of}
+use Rattle.kb_metrics.specs.Gauges.{tenant_of}
+use Rattle.kb_metrics.specs.Status.{status_text}
+use Rattle.kb_metrics.specs.View.{observed}
+use Rattle.kbroker.specs.Observed.{looked_at, observed_from, unstored}
+use Rattle.kbroker.proofs.Begun.{on_ok}
+use Rattle.kbroker.proofs.Gathered.{map_both}
+use Rattle.kbroker.proofs.shown.push_status_page.Goals as goal
+
+pub returns : goal.returns
+returns g c =
+    let shown = c.args.shown.now in
+    let files = (g.S.Store.disk shown.edge.now.host.broker.store).files in
+    let tenants = c.deref.result.now in
+    let os = map (observed g.L.PartitionLog.log files) tenants in
+    let server = c.server_of.result in
+    let process = c.process_of.result in
+    let all : map (looked_at g.L.PartitionLog.log files) tenants
+    ≡ observed_from (values_of shown.settings.now) shown.edge.now.host.broker.state shown.edge.now.traffic.items =
+    ap (map (looked_at g.L.PartitionLog.log files)) c.deref.ensures.value ∙ c.in_ok-tenants.ensures in
+    on_ok _ _
+    (λ told. (
+      os,
+      server,
+      process,
+      map_both unstored (observed g.L.PartitionLog.log files) tenants ∙ all,
+      told files ∙ ap (λ o. o ++ status_text server process (map tenant_of os) c.deref-2.result.now) c.requires
+          ∙ ap (status_text server process (map tenant_of os)) c.deref-2.ensures.value,
+    ))
+    c.push_status.result c.push_status.ensures

@@ -33,9 +33,9 @@ abbrev pub limits_in : DataLimits → GroupLimits → Limits
 limits_in data groups = record {
   topics = data.topics;
   partitions = data.partitions;
-  offsets = data.offsets;
+  offsets = Some data.offsets;
   bytes = data.bytes;
-  fetch_bytes = None;
+  fetch_bytes = data.fetch_bytes;
   groups = Some groups.groups;
   group_bytes = Some groups.bytes;
 }

@@ -264,9 +264,9 @@ fn limits_of(settings: &Settings, tenant: &str) -> Limits
     Limits {
         topics: data.topics,
         partitions: data.partitions,
-        offsets: data.offsets,
+        offsets: Some(data.offsets),
         bytes: data.bytes,
-        fetch_bytes: None,
+        fetch_bytes: data.fetch_bytes,
         groups: Some(u64::from(groups.groups)),
         group_bytes: Some(groups.bytes),
     }

@@ -45,6 +45,14 @@ loop-known-preserved g c =
       among = λ known. (let no : false ≡ true = known in absurd (cc));
     }
 
+pub returns-then-not-known-clause-continues : goal.returns-then-not-known-clause-continues
+returns-then-not-known-clause-continues g c =
+    let disk = g.S.Store.disk in
+    let a = c.args.self.now in
+    let t = c.run_all_turns.ensures in
+    (gone-then disk a _ c.run_all_turns.new.self (subst (HasGone disk a) (sym c.self-2.view_is) c.loop-known.invariant.gone)
+    t.continues t.later t.turned).going
+
 pub returns-then-not-known-clause-later : goal.returns-then-not-known-clause-later
 returns-then-not-known-clause-later g c =
     let disk = g.S.Store.disk in

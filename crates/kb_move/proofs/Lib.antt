@@ -1,4 +1,5 @@
 pub mod Alike
+pub mod Backup
 pub mod Copies
 pub mod Disks
 pub mod Honest

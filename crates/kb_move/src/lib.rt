@@ -12,5 +12,8 @@ mod owned;
 
 pub use copy::{Copied, copy_tenant};
 pub use fault::MoveFault;
-pub use laws::{alike_files_open_alike, copies_leave_the_others, copies_open_alike};
+pub use laws::{
+    alike_files_open_alike, backups_open_to_their_moment, copies_leave_the_others,
+    copies_open_alike,
+};
 pub use owned::{TenantFiles, tenant_files};

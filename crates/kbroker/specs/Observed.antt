@@ -30,12 +30,12 @@ response_bytes_of None = 0
 response_bytes_of (Some t) = t.response_bytes
 
 abbrev pub limits_in : DataLimits → GroupLimits → Limits
-limits_in data groups = record {
-  topics = data.topics;
-  partitions = data.partitions;
-  offsets = Some data.offsets;
-  bytes = data.bytes;
-  fetch_bytes = data.fetch_bytes;
+limits_in limits groups = record {
+  topics = limits.topics;
+  partitions = limits.partitions;
+  offsets = Some limits.offsets;
+  bytes = limits.bytes;
+  fetch_bytes = limits.fetch_bytes;
   groups = Some groups.groups;
   group_bytes = Some groups.bytes;
 }

@@ -2,3 +2,4 @@ mod Begun
 mod Gathered
 mod Named
 mod Opened
+mod Told

@@ -52,8 +52,12 @@ impl<'a, R: Net, S: Store, L: PartitionLog + Drop> Source for Shown<'a, R, S, L>
 
     fn push_all(&self, alloc: Global, form: Form, out: &mut Vec<u8>) -> Result<(), AllocError> {
         match form {
-            Form::Metrics => push_metrics(alloc, self, out),
-            Form::Status => push_status_page(alloc, self, out),
+            Form::Metrics => {
+                push_metrics(alloc, self.rt, self.edge, self.settings, self.history, out)
+            }
+            Form::Status => {
+                push_status_page(alloc, self.rt, self.edge, self.settings, self.history, out)
+            }
         }
     }
 
@@ -113,43 +117,41 @@ fn push_sockets(out: &mut Vec<u8>, sockets: usize, limit: usize) -> Result<(), A
 /// Writes the page of metrics, which tells the longest turn.
 fn push_metrics<R: Net, S: Store, L: PartitionLog + Drop>(
     alloc: Global,
-    shown: &Shown<'_, R, S, L>,
+    rt: &HostRuntime,
+    edge: &Edge<R, S, L>,
+    settings: &Settings,
+    history: &History,
     out: &mut Vec<u8>,
 ) -> Result<(), AllocError>
     requires { out.old.items ≡ [] }
     ensures { OnOk result (IsMetrics
-        (observed_from (values_of shown.now.settings.now) shown.now.edge.now.host.broker.state shown.now.edge.now.traffic.items)
-        out.new.items) }
+        (observed_from (values_of settings.now) edge.now.host.broker.state edge.now.traffic.items) out.new.items) }
 {
-    let tenants = tenants_of(alloc, shown.edge, shown.settings)?;
-    let server = server_of(shown.edge, shown.history);
-    let process = process_of(shown.rt, shown.history);
-    shown.history.is_told.set(true);
+    let tenants = tenants_of(alloc, edge, settings)?;
+    let server = server_of(edge, history);
+    let process = process_of(rt, history);
+    history.is_told.set(true);
     push_all(alloc, out, &tenants, &server, &process)
 }
 
 /// Writes the status page.
 fn push_status_page<R: Net, S: Store, L: PartitionLog + Drop>(
     alloc: Global,
-    shown: &Shown<'_, R, S, L>,
+    rt: &HostRuntime,
+    edge: &Edge<R, S, L>,
+    settings: &Settings,
+    history: &History,
     out: &mut Vec<u8>,
 ) -> Result<(), AllocError>
     requires { out.old.items ≡ [] }
     ensures { OnOk result (IsStatus
-        (observed_from (values_of shown.now.settings.now) shown.now.edge.now.host.broker.state shown.now.edge.now.traffic.items)
-        shown.now.history.now.rates.items out.new.items) }
+        (observed_from (values_of settings.now) edge.now.host.broker.state edge.now.traffic.items)
+        history.now.rates.items out.new.items) }
 {
-    let tenants = tenants_of(alloc, shown.edge, shown.settings)?;
-    let server = server_of(shown.edge, shown.history);
-    let process = process_of(shown.rt, shown.history);
-    push_status(
-        alloc,
-        out,
-        &server,
-        &process,
-        &tenants,
-        &shown.history.rates,
-    )
+    let tenants = tenants_of(alloc, edge, settings)?;
+    let server = server_of(edge, history);
+    let process = process_of(rt, history);
+    push_status(alloc, out, &server, &process, &tenants, &history.rates)
 }
 
 /// Writes the metrics: tenants first.

@@ -10,14 +10,14 @@ use Rattle.kbroker.proofs.shown.push_status_page.Goals as goal
 
 pub returns : goal.returns
 returns g c =
-    let shown = c.args.shown.now in
-    let files = (g.S.Store.disk shown.edge.now.host.broker.store).files in
+    let edge = c.args.edge.now in
+    let files = (g.S.Store.disk edge.host.broker.store).files in
     let tenants = c.deref.result.now in
     let os = map (observed g.L.PartitionLog.log files) tenants in
     let server = c.server_of.result in
     let process = c.process_of.result in
     let all : map (looked_at g.L.PartitionLog.log files) tenants
-    ≡ observed_from (values_of shown.settings.now) shown.edge.now.host.broker.state shown.edge.now.traffic.items =
+    ≡ observed_from (values_of c.args.settings.now) edge.host.broker.state edge.traffic.items =
     ap (map (looked_at g.L.PartitionLog.log files)) c.deref.ensures.value ∙ c.in_ok-tenants.ensures in
     on_ok _ _
     (λ told. (

@@ -1,3 +1,4 @@
+pub mod Both
 pub mod FetchRecords
 pub mod Layouts
 pub mod Lawful

@@ -6,6 +6,7 @@
 //! core is the protocol's table row: what is read is exactly what is spelled so, and what is written is read again.
 #![tactic(auto)]
 
+mod both;
 mod create_topics;
 mod create_topics_v1;
 mod delete_records;
@@ -21,6 +22,7 @@ mod metadata;
 mod metadata_versions;
 mod produce;
 
+pub use both::Both;
 pub use create_topics::{
     CreateAssignment, CreateConfig, CreateTopic, CreateTopicReply, CreateTopicsReply,
     CreateTopicsRequest,

@@ -93,7 +93,7 @@ module _ (a b : Scene Seen) (node : Node) (clock : ℕ) (request : Request) (tou
   fetch_told (Err fault) is told same = tt
 
   pub list_offsets_told : (r : Result Answer ReadFault) → request.api_key ≡ LIST_OFFSETS
-      → IfOk r (λ answer. WhereHonest a b (AnswersListing (HasFailed a b) request.correlation_id a.state.world request.body.now answer))
+      → IfOk r (λ answer. WhereHonest a b (AnswersListing (HasFailed a b) request.correlation_id request.api_version a.state.world request.body.now answer))
       → WhereHonest a b (b.state.world ≡ a.state.world)
       → IfOk r (λ answer. WhereHonest a b (IsToldOf a b node clock request touched answer))
   list_offsets_told (Ok answer) is told same = λ honest agree. record {

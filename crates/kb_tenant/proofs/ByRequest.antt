@@ -7,7 +7,7 @@ use Rattle.kb_wire.specs.declared.api_key.TheConstants.{PRODUCE, FETCH, LIST_OFF
 use Rattle.kb_wire.specs.declared.api_key.TheConstants.{FIND_COORDINATOR, CREATE_TOPICS, DELETE_TOPICS, DELETE_RECORDS, INIT_PRODUCER_ID}
 use Rattle.kb_wire.specs.declared.fault.WireFault.{WireFault}
 use Rattle.kb_wire.specs.declared.fault.WireFault.TheVariants as faults
-use Rattle.kb_api_data.specs.Layouts.{produce_request, list_offsets_request, delete_records_request, delete_topics_request, init_producer_id_request}
+use Rattle.kb_api_data.specs.Layouts.{produce_request, delete_records_request, delete_topics_request, init_producer_id_request}
 use Rattle.kb_api_data.specs.declared.create_topics_v1.CreateTopicsRequestV1.{CreateTopicsRequestV1}
 use Rattle.kb_api_data.specs.declared.delete_records.DeleteRecordsRequest.{DeleteRecordsRequest}
 use Rattle.kb_api_data.specs.declared.delete_topics.DeleteTopicsRequest.{DeleteTopicsRequest}
@@ -16,8 +16,7 @@ use Rattle.kb_api_data.specs.declared.init_producer_id.InitProducerIdRequest.{In
 use Rattle.kb_api_data.specs.declared.list_offsets.ListOffsetsRequest.{ListOffsetsRequest}
 use Rattle.kb_api_data.specs.declared.metadata.MetadataRequest.{MetadataRequest}
 use Rattle.kb_api_data.specs.declared.produce.ProduceRequest.{ProduceRequest}
-use Rattle.kb_api_group.specs.Layouts.{find_coordinator_request, offset_commit_request}
-use Rattle.kb_api_group.specs.declared.find_coordinator.FindCoordinatorRequest.{FindCoordinatorRequest}
+use Rattle.kb_api_group.specs.Layouts.{offset_commit_request}
 use Rattle.kb_api_group.specs.declared.offset_commit.OffsetCommitRequest.{OffsetCommitRequest}
 use Rattle.kb_api_group.specs.declared.offset_fetch_v2.OffsetFetchRequestV2.{OffsetFetchRequestV2}
 use Rattle.kb_tenant_state.specs.World.{World}
@@ -25,7 +24,9 @@ use Rattle.kb_tenant.specs.CreateTopics.{asked_creations, checked_all, created_a
 use Rattle.kb_tenant.specs.Entries.{commit_entries, create_topics_entries, delete_records_entries, delete_topics_entries, fetch_entries}
 use Rattle.kb_tenant.specs.Entries.{list_offsets_entries, metadata_entries, offset_fetch_entries, produce_entries, within}
 use Rattle.kb_tenant.specs.Fetch.{asked_fetch}
+use Rattle.kb_tenant.specs.FindCoordinator.{asked_coordinator}
 use Rattle.kb_tenant.specs.Limits.{is_past}
+use Rattle.kb_tenant.specs.ListOffsets.{asked_listing}
 use Rattle.kb_tenant.specs.Metadata.{asked_metadata}
 use Rattle.kb_tenant.specs.OffsetFetch.{asked_offsets}
 use Rattle.kb_tenant.specs.Replies.{Reaction, Replies, Shuts}
@@ -37,11 +38,11 @@ use Rattle.kb_tenant.specs.declared.node.Node.{Node}
 pub record Cases (P : Outcome → Type 0) (node : Node) (w : World) (clock : ℕ) (version : ℤ) (body : List ℕ) : Type 0 where
   pub produce : (r : ProduceRequest) → whole produce_request body ≡ Ok r → P (of_produce node.limits.bytes w r)
   pub fetch : (r : FetchRequest) → asked_fetch version body ≡ Ok r → P (of_fetch version node.limits.fetch_bytes w clock r)
-  pub list_offsets : (r : ListOffsetsRequest) → whole list_offsets_request body ≡ Ok r → P (of_list_offsets w r)
+  pub list_offsets : (r : ListOffsetsRequest) → asked_listing version body ≡ Ok r → P (of_list_offsets w r)
   pub metadata : (r : MetadataRequest) → asked_metadata version body ≡ Ok r → P (of_metadata node version w r)
   pub offset_commit : (r : OffsetCommitRequest) → whole offset_commit_request body ≡ Ok r → P (of_offset_commit node.limits w r)
   pub offset_fetch : (r : OffsetFetchRequestV2) → asked_offsets version body ≡ Ok r → P (of_offset_fetch node.limits.reply_bytes version w r)
-  pub find_coordinator : (r : FindCoordinatorRequest) → whole find_coordinator_request body ≡ Ok r → P (of_find_coordinator node w r)
+  pub find_coordinator : (is_group : Bool) → asked_coordinator version body ≡ Ok is_group → P (of_find_coordinator node version w is_group)
   pub create_topics : (r : CreateTopicsRequestV1) → asked_creations version body ≡ Ok r → P (of_create_topics node.limits version w r)
   pub delete_topics : (r : DeleteTopicsRequest) → whole delete_topics_request body ≡ Ok r → P (of_delete_topics version w r)
   pub delete_records : (r : DeleteRecordsRequest) → whole delete_records_request body ≡ Ok r → P (of_delete_records w r)
@@ -82,11 +83,11 @@ by_request P node w clock n key version body c =
     let trims : Outcome = if_read w (within limit delete_records_entries (whole delete_records_request body)) (of_delete_records w) in
     let deletes : Outcome = if_read w (within limit delete_topics_entries (whole delete_topics_request body)) (of_delete_topics version w) in
     let creates : Outcome = if_read w (within limit create_topics_entries (asked_creations version body)) (of_create_topics node.limits version w) in
-    let finds : Outcome = if_read w (whole find_coordinator_request body) (of_find_coordinator node w) in
+    let finds : Outcome = if_read w (asked_coordinator version body) (of_find_coordinator node version w) in
     let asks : Outcome = if_read w (within limit offset_fetch_entries (asked_offsets version body)) (of_offset_fetch node.limits.reply_bytes version w) in
     let commits : Outcome = if_read w (within limit commit_entries (whole offset_commit_request body)) (of_offset_commit node.limits w) in
     let tells : Outcome = if_read w (within limit metadata_entries (asked_metadata version body)) (of_metadata node version w) in
-    let lists : Outcome = if_read w (within limit list_offsets_entries (whole list_offsets_request body)) (of_list_offsets w) in
+    let lists : Outcome = if_read w (within limit list_offsets_entries (asked_listing version body)) (of_list_offsets w) in
     let fetches : Outcome = if_read w (within limit fetch_entries (asked_fetch version body)) (of_fetch version node.limits.fetch_bytes w clock) in
     let produces : Outcome = if_read w (within limit produce_entries (whole produce_request body)) (of_produce node.limits.bytes w) in
     let from_inits : Outcome = if int_eq key INIT_PRODUCER_ID then inits else shut in
@@ -101,11 +102,11 @@ by_request P node w clock n key version body c =
     let from_fetches : Outcome = if int_eq key FETCH then fetches else from_lists in
     either P (int_eq key PRODUCE) produces from_fetches (read_within P w limit produce_entries (whole produce_request body) (of_produce node.limits.bytes w) c.produce c.shut)
     (either P (int_eq key FETCH) fetches from_lists (read_within P w limit fetch_entries (asked_fetch version body) (of_fetch version node.limits.fetch_bytes w clock) c.fetch c.shut)
-    (either P (int_eq key LIST_OFFSETS) lists from_tells (read_within P w limit list_offsets_entries (whole list_offsets_request body) (of_list_offsets w) c.list_offsets c.shut)
+    (either P (int_eq key LIST_OFFSETS) lists from_tells (read_within P w limit list_offsets_entries (asked_listing version body) (of_list_offsets w) c.list_offsets c.shut)
     (either P (int_eq key METADATA) tells from_commits (read_within P w limit metadata_entries (asked_metadata version body) (of_metadata node version w) c.metadata c.shut)
     (either P (int_eq key OFFSET_COMMIT) commits from_asks (read_within P w limit commit_entries (whole offset_commit_request body) (of_offset_commit node.limits w) c.offset_commit c.shut)
     (either P (int_eq key OFFSET_FETCH) asks from_finds (read_within P w limit offset_fetch_entries (asked_offsets version body) (of_offset_fetch node.limits.reply_bytes version w) c.offset_fetch c.shut)
-    (either P (int_eq key FIND_COORDINATOR) finds from_creates (read_by P w (whole find_coordinator_request body) (of_find_coordinator node w) c.find_coordinator c.shut)
+    (either P (int_eq key FIND_COORDINATOR) finds from_creates (read_by P w (asked_coordinator version body) (of_find_coordinator node version w) c.find_coordinator c.shut)
     (either P (int_eq key CREATE_TOPICS) creates from_deletes (read_within P w limit create_topics_entries (asked_creations version body) (of_create_topics node.limits version w) c.create_topics c.shut)
     (either P (int_eq key DELETE_TOPICS) deletes from_trims (read_within P w limit delete_topics_entries (whole delete_topics_request body) (of_delete_topics version w) c.delete_topics c.shut)
     (either P (int_eq key DELETE_RECORDS) trims from_inits (read_within P w limit delete_records_entries (whole delete_records_request body) (of_delete_records w) c.delete_records c.shut)

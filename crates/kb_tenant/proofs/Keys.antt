@@ -3,9 +3,7 @@ use Rattle.std.proofs.Common.{◌≡◌, ◌∙◌, ◌++◌, ℕ, ℤ, Bool, tr
 use Rattle.std.specs.Prelude.{if◌then◌else◌}
 use Rattle.std.specs.declared.alloc.Global.{Global}
 use Rattle.std.specs.declared.vec.Vec.{Vec}
-use Rattle.kb_wire.specs.Codec.{whole}
 use Rattle.kb_wire.specs.declared.api_key.TheConstants.{METADATA, OFFSET_FETCH, FIND_COORDINATOR}
-use Rattle.kb_api_group.specs.Layouts.{find_coordinator_request}
 use Rattle.kb_api_data.specs.declared.create_topics_v1.CreateTopicsRequestV1.{CreateTopicsRequestV1}
 use Rattle.kb_tenant_state.specs.World.{World}
 use Rattle.kb_tenant.specs.CreateTopics.{checked_all, created_all, creations_in, made_of}
@@ -14,6 +12,7 @@ use Rattle.kb_api_data.specs.declared.fetch.FetchRequest.{FetchRequest}
 use Rattle.kb_tenant_state.specs.declared.topic_partition.TopicPartition.{TopicPartition}
 use Rattle.kb_tenant.specs.Entries.{metadata_entries, offset_fetch_entries, within}
 use Rattle.kb_tenant.specs.Fetch.{has_starts, look_written, reply_written, fetched_in, IsServed}
+use Rattle.kb_tenant.specs.FindCoordinator.{asked_coordinator}
 use Rattle.kb_tenant.specs.Metadata.{asked_metadata}
 use Rattle.kb_tenant.specs.OffsetFetch.{asked_offsets}
 use Rattle.kb_tenant.specs.Replies.{begun, IsAnswer, Replies, Silent}
@@ -33,7 +32,7 @@ pub served_offset_fetch : (node : Node) (w : World) (clock n : ℕ) (key version
 unfolding plainly_served
 served_offset_fetch node w clock n key version body is = ap (λ k. plainly_served node w clock n k version body) is
 
-pub served_find_coordinator : (node : Node) (w : World) (clock n : ℕ) (key version : ℤ) (body : List ℕ) → key ≡ FIND_COORDINATOR → plainly_served node w clock n key version body ≡ if_read w (whole find_coordinator_request body) (of_find_coordinator node w)
+pub served_find_coordinator : (node : Node) (w : World) (clock n : ℕ) (key version : ℤ) (body : List ℕ) → key ≡ FIND_COORDINATOR → plainly_served node w clock n key version body ≡ if_read w (asked_coordinator version body) (of_find_coordinator node version w)
 unfolding plainly_served
 served_find_coordinator node w clock n key version body is = ap (λ k. plainly_served node w clock n k version body) is
 

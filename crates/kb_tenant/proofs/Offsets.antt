@@ -6,8 +6,11 @@ use Rattle.std.proofs.lemmas.Int.{ints}
 use Rattle.std.specs.Option.{option_and_then}
 use Rattle.std.specs.List.{flat_map}
 use Rattle.std.proofs.lemmas.List.{length-map}
-use Rattle.kb_wire.specs.Codec.{count, string, array}
+use Rattle.kb_wire.specs.Codec.{count, string, array, int8, int32}
+use Rattle.kb_api_data.specs.Both.{both}
+use Rattle.kb_api_data.specs.declared.both.Both.{Both}
 use Rattle.kb_api_data.specs.Layouts.{list_offsets_partition_reply, list_offsets_topic_reply, list_offsets_reply}
+use Rattle.kb_api_data.specs.Layouts.{list_offsets_request, list_offsets_topic}
 use Rattle.kb_api_data.specs.declared.list_offsets.ListOffsetsPartition.{ListOffsetsPartition}
 use Rattle.kb_api_data.specs.declared.list_offsets.ListOffsetsTopic.{ListOffsetsTopic}
 use Rattle.kb_api_data.specs.declared.list_offsets.ListOffsetsRequest.{ListOffsetsRequest}
@@ -18,6 +21,12 @@ use Rattle.kb_tenant.specs.ListOffsets.{offset_refused, edge_answered, offset_fo
 use Rattle.kb_tenant_state.specs.World.{World, place_in, log_in}
 use Rattle.kb_tenant_state.specs.declared.topic_partition.TopicPartition.{TopicPartition}
 use Rattle.kb_tenant.proofs.Fitting.{array_written, written_both}
+
+-- what was read with an isolation level fits without it
+pub topics_fit : (q : Both ℤ (Both ℤ (List ListOffsetsTopic))) → (both int32 (both int8 (array list_offsets_topic))).Fits q
+    → list_offsets_request.Fits (record { replica_id = q.first; topics = q.second.second })
+unfolding list_offsets_request both
+topics_fit q fits = (fits.0, fits.1.1)
 
 -- a partition is at its place
 pub at_place : (w : World) (topic : Option ℕ) (p t : ℤ) (place : TopicPartition) → Some place ≡ place_in topic p → listed_in p t (log_in w place) ≡ listed_at w topic p t

@@ -37,7 +37,7 @@ pub record IsTruthful (failed full : Type 0) (node : Node) (clock n : ℕ) (key 
   pub produced : key ≡ PRODUCE → Acknowledges failed node.limits.bytes id w body v touched answer
   pub spared : key ≡ PRODUCE → IsSpared w body v answer
   pub fetched : key ≡ FETCH → AnswersFetch failed id version node.limits.fetch_bytes w clock body answer
-  pub listed : key ≡ LIST_OFFSETS → AnswersListing failed id w body answer
+  pub listed : key ≡ LIST_OFFSETS → AnswersListing failed id version w body answer
   pub created : key ≡ CREATE_TOPICS → AcknowledgesCreations ((failed ⊎ full) ⊎ AreInstancesGivenOut v) node.limits id version w body v answer
   pub removed : key ≡ DELETE_TOPICS → AcknowledgesRemovals (failed ⊎ full) id version w body v touched answer
   pub trimmed : key ≡ DELETE_RECORDS → AcknowledgesDeletions (failed ⊎ full) id w body v touched answer

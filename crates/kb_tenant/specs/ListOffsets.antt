@@ -1,7 +1,11 @@
 -- Offsets that are asked by time (Kafka protocol guide, "The Messages: ListOffsets").
-use Rattle.std.specs.Prelude.{ℕ, ℤ, pos, negsuc, map, Result, Ok, Err, Option, Some, None, int_lt, if◌then◌else◌}
+use Rattle.std.specs.Prelude.{ℕ, ℤ, pos, negsuc, Bool, List, map, Result, Ok, Err, Option, Some, None, int_le, int_lt, if◌then◌else◌}
 use Rattle.std.specs.Option.{option_and_then}
 use Rattle.std.specs.Ordering.{int_eq}
+use Rattle.kb_wire.specs.Codec.{array, int8, int32, whole, ◌>>=◌}
+use Rattle.kb_wire.specs.declared.fault.WireFault.{WireFault}
+use Rattle.kb_api_data.specs.Both.{both}
+use Rattle.kb_api_data.specs.Layouts.{list_offsets_request, list_offsets_topic}
 use Rattle.kb_api_data.specs.declared.list_offsets.ListOffsetsPartition.{ListOffsetsPartition}
 use Rattle.kb_api_data.specs.declared.list_offsets.ListOffsetsTopic.{ListOffsetsTopic}
 use Rattle.kb_api_data.specs.declared.list_offsets.ListOffsetsRequest.{ListOffsetsRequest}
@@ -67,3 +71,19 @@ listed_topic w t = record { name = t.name; partitions = map (listed w (named t.n
 
 abbrev pub list_offsets : World → ListOffsetsRequest → ListOffsetsReply
 list_offsets w r = record { topics = map (listed_topic w) r.topics }
+
+-- ---- versions from 2 on; any other is version 1
+
+-- From version 2 on a request says behind the replica's id which records of transactions count. None is one, so that it changes nothing.
+abbrev pub has_isolation_level : ℤ → Bool
+has_isolation_level version = int_le (pos 2) version
+
+-- what a body asks, whatever its isolation level
+abbrev pub listing_as : Bool → List ℕ → Result ListOffsetsRequest WireFault
+listing_as has body =
+    if has then whole (both int32 (both int8 (array list_offsets_topic))) body
+    >>= (λ q. Ok (record { replica_id = q.first; topics = q.second.second }))
+    else whole list_offsets_request body
+
+abbrev pub asked_listing : ℤ → List ℕ → Result ListOffsetsRequest WireFault
+asked_listing version body = listing_as (has_isolation_level version) body

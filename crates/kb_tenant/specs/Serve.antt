@@ -1,5 +1,5 @@
 -- What a request of a tenant makes of its world, and comes to for the connection that sent it.
-use Rattle.std.specs.Prelude.{◌≡◌, ℕ, ℤ, List, [], Option, Some, None, Result, Ok, Err, if◌then◌else◌}
+use Rattle.std.specs.Prelude.{◌≡◌, ℕ, ℤ, Bool, List, [], Option, Some, None, Result, Ok, Err, if◌then◌else◌}
 use Rattle.std.specs.Ordering.{int_eq}
 use Rattle.kb_wire.specs.Codec.{whole}
 use Rattle.kb_wire.specs.declared.api_key.TheConstants.{PRODUCE, FETCH, LIST_OFFSETS, METADATA, OFFSET_COMMIT, OFFSET_FETCH}
@@ -7,7 +7,7 @@ use Rattle.kb_wire.specs.declared.api_key.TheConstants.{FIND_COORDINATOR, CREATE
 use Rattle.kb_wire.specs.declared.fault.WireFault.{WireFault}
 use Rattle.kb_wire.specs.declared.fault.ReadFault.{ReadFault}
 use Rattle.kb_wire.specs.declared.fault.ReadFault.TheVariants as faults
-use Rattle.kb_api_data.specs.Layouts.{produce_request, produce_reply, list_offsets_request, list_offsets_reply}
+use Rattle.kb_api_data.specs.Layouts.{produce_request, produce_reply, list_offsets_reply}
 use Rattle.kb_api_data.specs.Layouts.{delete_topics_request, delete_records_request, delete_records_reply, init_producer_id_request}
 use Rattle.kb_api_data.specs.Layouts.{init_producer_id_reply}
 use Rattle.kb_api_data.specs.declared.produce.ProduceRequest.{ProduceRequest}
@@ -19,8 +19,7 @@ use Rattle.kb_api_data.specs.declared.create_topics_v1.CreateTopicsRequestV1.{Cr
 use Rattle.kb_api_data.specs.declared.delete_records.DeleteRecordsRequest.{DeleteRecordsRequest}
 use Rattle.kb_api_data.specs.declared.delete_topics.DeleteTopicsRequest.{DeleteTopicsRequest}
 use Rattle.kb_api_data.specs.declared.init_producer_id.InitProducerIdRequest.{InitProducerIdRequest}
-use Rattle.kb_api_group.specs.Layouts.{find_coordinator_reply, find_coordinator_request, offset_commit_reply, offset_commit_request}
-use Rattle.kb_api_group.specs.declared.find_coordinator.FindCoordinatorRequest.{FindCoordinatorRequest}
+use Rattle.kb_api_group.specs.Layouts.{offset_commit_reply, offset_commit_request}
 use Rattle.kb_api_group.specs.declared.offset_commit.OffsetCommitRequest.{OffsetCommitRequest}
 use Rattle.kb_api_group.specs.declared.offset_fetch_v2.OffsetFetchRequestV2.{OffsetFetchRequestV2}
 use Rattle.kb_tenant_state.specs.World.{World}
@@ -31,9 +30,9 @@ use Rattle.kb_tenant.specs.DeleteTopics.{deleted_all, deletions_in}
 use Rattle.kb_tenant.specs.Entries.{commit_entries, create_topics_entries, delete_records_entries, delete_topics_entries, fetch_entries}
 use Rattle.kb_tenant.specs.Entries.{list_offsets_entries, metadata_entries, offset_fetch_entries, produce_entries, within}
 use Rattle.kb_tenant.specs.Fetch.{asked_fetch, bounded, deadline_of, fetch_answer, places_of, fetched_in}
-use Rattle.kb_tenant.specs.FindCoordinator.{coordinator}
+use Rattle.kb_tenant.specs.FindCoordinator.{asked_coordinator, coordinator_for, coordinator_in}
 use Rattle.kb_tenant.specs.InitProducerId.{init_producer_id}
-use Rattle.kb_tenant.specs.ListOffsets.{list_offsets}
+use Rattle.kb_tenant.specs.ListOffsets.{asked_listing, list_offsets}
 use Rattle.kb_tenant.specs.Metadata.{asked_metadata, metadata_in, metadata_of}
 use Rattle.kb_tenant.specs.OffsetCommit.{committed_all, refusal_of}
 use Rattle.kb_tenant.specs.OffsetFetch.{asked_offsets, fetched_all, offsets_in}
@@ -85,8 +84,8 @@ of_offset_commit limits w r = let c = committed_all limits w (refusal_of r.group
 abbrev pub of_offset_fetch : Option ℕ → ℤ → World → OffsetFetchRequestV2 → Outcome
 of_offset_fetch limit version w r = stays w (replies_within limit (offsets_in version (fetched_all w r)))
 
-abbrev pub of_find_coordinator : Node → World → FindCoordinatorRequest → Outcome
-of_find_coordinator node w r = stays w (Replies (find_coordinator_reply.written (coordinator node)))
+abbrev pub of_find_coordinator : Node → ℤ → World → Bool → Outcome
+of_find_coordinator node version w is_group = stays w (Replies (coordinator_in version (coordinator_for node is_group)))
 
 -- Where the request is only checked the world stays.
 abbrev pub of_create_topics : DataLimits → ℤ → World → CreateTopicsRequestV1 → Outcome
@@ -121,14 +120,14 @@ plainly_served node w clock n key version body =
     if int_eq key PRODUCE then if_read w (within limit produce_entries (whole produce_request body)) (of_produce node.limits.bytes w)
     else if int_eq key FETCH then if_read w (within limit fetch_entries (asked_fetch version body))
     (of_fetch version node.limits.fetch_bytes w clock)
-    else if int_eq key LIST_OFFSETS then if_read w (within limit list_offsets_entries (whole list_offsets_request body))
+    else if int_eq key LIST_OFFSETS then if_read w (within limit list_offsets_entries (asked_listing version body))
     (of_list_offsets w)
     else if int_eq key METADATA then if_read w (within limit metadata_entries (asked_metadata version body)) (of_metadata node version w)
     else if int_eq key OFFSET_COMMIT then if_read w (within limit commit_entries (whole offset_commit_request body))
     (of_offset_commit node.limits w)
     else if int_eq key OFFSET_FETCH then if_read w (within limit offset_fetch_entries (asked_offsets version body))
     (of_offset_fetch node.limits.reply_bytes version w)
-    else if int_eq key FIND_COORDINATOR then if_read w (whole find_coordinator_request body) (of_find_coordinator node w)
+    else if int_eq key FIND_COORDINATOR then if_read w (asked_coordinator version body) (of_find_coordinator node version w)
     else if int_eq key CREATE_TOPICS then if_read w (within limit create_topics_entries (asked_creations version body))
     (of_create_topics node.limits version w)
     else if int_eq key DELETE_TOPICS then if_read w (within limit delete_topics_entries (whole delete_topics_request body))

@@ -5,7 +5,7 @@ use Rattle.std.specs.List.{AllZip}
 use Rattle.kb_wire.specs.Codec.{whole}
 use Rattle.kb_api_data.specs.Layouts.{delete_topics_request, init_producer_id_reply, init_producer_id_request, produce_reply}
 use Rattle.kb_api_data.specs.Layouts.{produce_request}
-use Rattle.kb_api_data.specs.Layouts.{delete_records_reply, delete_records_request, list_offsets_reply, list_offsets_request}
+use Rattle.kb_api_data.specs.Layouts.{delete_records_reply, delete_records_request, list_offsets_reply}
 use Rattle.kb_api_data.specs.declared.create_topics.CreateTopic.{CreateTopic}
 use Rattle.kb_api_data.specs.declared.create_topics.CreateTopicReply.{CreateTopicReply}
 use Rattle.kb_api_data.specs.declared.create_topics_v1.CreateTopicsRequestV1.{CreateTopicsRequestV1}
@@ -63,7 +63,7 @@ use Rattle.kb_tenant.specs.DeleteTopics.{deleted_topic, deletions_in}
 use Rattle.kb_tenant.specs.Fetch.{Limits, asked_fetch, begun, bounded, deadline_of, fetch_answered, fetched_in, is_ready, places_of, refused}
 use Rattle.kb_tenant.specs.Fetch.{reply_written}
 use Rattle.kb_tenant.specs.InitProducerId.{id_refused, init_producer_id}
-use Rattle.kb_tenant.specs.ListOffsets.{listed, offset_refused}
+use Rattle.kb_tenant.specs.ListOffsets.{asked_listing, listed, offset_refused}
 use Rattle.kb_tenant.specs.OffsetCommit.{committed_entry, refusal_of as commit_refusal}
 use Rattle.kb_tenant.specs.Produce.{Progress, answer, progress, refusal_of, entry_served}
 use Rattle.kb_tenant.specs.Replies.{framed}
@@ -306,10 +306,10 @@ abbrev pub TellsListing : Type 0 → World → ListOffsetsRequest → List ℕ �
 TellsListing failed w q body = (reply : ListOffsetsReply)
     × ((body ≡ list_offsets_reply.written reply) × AllZip (IsListingTopicTold failed w) q.topics reply.topics)
 
--- The same of a body, where it is a request of ListOffsets.
-abbrev pub AnswersListing : Type 0 → ℤ → World → List ℕ → Answer → Type 0
-AnswersListing failed id w body a =
-    (q : ListOffsetsRequest) → whole list_offsets_request body ≡ Ok q → IsReplied id (TellsListing failed w q) a
+-- The same of a body, where it is a request of ListOffsets of a version.
+abbrev pub AnswersListing : Type 0 → (id version : ℤ) → World → List ℕ → Answer → Type 0
+AnswersListing failed id version w body a =
+    (q : ListOffsetsRequest) → asked_listing version body ≡ Ok q → IsReplied id (TellsListing failed w q) a
 
 -- ---- Fetch
 

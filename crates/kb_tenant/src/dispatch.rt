@@ -2,7 +2,7 @@
 ghost use Rattle.std.specs.Prelude.{◌≡◌, ◌≤◌, ◌^◌, [], IfOk, OnErr};
 ghost use Rattle.kb_wire.specs.Codec.{string, whole};
 ghost use Rattle.kb_wire.specs.declared.api_key.TheConstants.{PRODUCE};
-ghost use Rattle.kb_api_data.specs.Layouts.{produce_request, list_offsets_request, metadata_request, create_topics_request};
+ghost use Rattle.kb_api_data.specs.Layouts.{produce_request, metadata_request, create_topics_request};
 ghost use Rattle.kb_api_data.specs.Layouts.{delete_records_request, delete_topics_request, init_producer_id_request};
 ghost use Rattle.kb_store.specs.Disk.{Files};
 ghost use Rattle.kb_tenant_state.specs.Scene.{WhereHonest};
@@ -14,6 +14,7 @@ ghost use Rattle.kb_tenant.specs.CreateTopics.{asked_creations};
 ghost use Rattle.kb_tenant.specs.Entries.{create_topics_entries, delete_records_entries, delete_topics_entries, fetch_entries};
 ghost use Rattle.kb_tenant.specs.Entries.{list_offsets_entries, metadata_entries, produce_entries, within};
 ghost use Rattle.kb_tenant.specs.Fetch.{asked_fetch};
+ghost use Rattle.kb_tenant.specs.ListOffsets.{asked_listing};
 ghost use Rattle.kb_tenant.specs.Metadata.{asked_metadata};
 ghost use Rattle.kb_tenant.specs.Replies.{IsAnswer};
 ghost use Rattle.kb_tenant.specs.Told.{CatalogFailed, CreationFailed, HasFailed, Acknowledges, AcknowledgesCreations};
@@ -31,15 +32,14 @@ use crate::fetch::{Fetching, bound, read_request, read_request_within, serve_fet
 use crate::group_offsets::{serve_find_coordinator, serve_offset_commit, serve_offset_fetch};
 use crate::init_producer_id::init_producer_id;
 use crate::limits::DataLimits;
-use crate::list_offsets::list_offsets;
+use crate::list_offsets::{list_offsets, read_list_offsets_within};
 use crate::metadata::{metadata, read_metadata_within};
 use crate::node::Node;
 use crate::produce::produce;
 use crate::request::{Request, Wait};
 use crate::within::read_within;
 use kb_api_data::{
-    DeleteRecordsRequest, DeleteTopicsRequest, InitProducerIdRequest, ListOffsetsRequest,
-    ProduceRequest,
+    DeleteRecordsRequest, DeleteTopicsRequest, InitProducerIdRequest, ProduceRequest,
 };
 use kb_log::{PartitionLog, Shelf};
 use kb_store::Store;
@@ -140,13 +140,13 @@ fn serve_list_offsets<L: PartitionLog + Drop, S: Store>(
         b.disk.honest → a.agrees → b.state.world ≡ a.state.world }
     ensures meets { let a = scene L.log S.disk parts.old shelf.old in let b = scene L.log S.disk parts.new shelf.new in
         Meets a b (IsServed request.now.correlation_id
-        (if_read a.state.world (within limit list_offsets_entries (whole list_offsets_request request.now.body.now))
+        (if_read a.state.world (within limit list_offsets_entries (asked_listing request.now.api_version request.now.body.now))
         (of_list_offsets a.state.world)) b.state.world [] result) }
     ensures listed { let a = scene L.log S.disk parts.old shelf.old in let b = scene L.log S.disk parts.new shelf.new in
         IfOk result (λ answer. WhereHonest a b (AnswersListing (HasFailed a b)
-        request.now.correlation_id a.state.world request.now.body.now answer)) }
+        request.now.correlation_id request.now.api_version a.state.world request.now.body.now answer)) }
 {
-    let asked = read_within::<ListOffsetsRequest<'_>>(alloc, limit, request.body)?;
+    let asked = read_list_offsets_within(alloc, limit, request.api_version, request.body)?;
     let mut sink = begin(alloc, request.correlation_id)?;
     list_offsets(parts, shelf, &asked, &mut sink)?;
     Ok(finish(sink))

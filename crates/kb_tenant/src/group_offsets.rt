@@ -1,9 +1,10 @@
 //! Requests about the offsets of groups, from their bodies to their replies.
 ghost use Rattle.std.specs.Prelude.{◌≡◌, [], IfOk};
-ghost use Rattle.kb_api_group.specs.Layouts.{find_coordinator_request, offset_commit_request};
+ghost use Rattle.kb_api_group.specs.Layouts.{offset_commit_request};
 ghost use Rattle.kb_store.specs.Disk.{Files};
 ghost use Rattle.kb_tenant_state.specs.Scene.{WhereHonest};
 ghost use Rattle.kb_tenant.specs.Entries.{commit_entries, offset_fetch_entries, within};
+ghost use Rattle.kb_tenant.specs.FindCoordinator.{asked_coordinator};
 ghost use Rattle.kb_tenant.specs.OffsetFetch.{asked_offsets};
 ghost use Rattle.kb_tenant.specs.Told.{AcknowledgesCommits, CatalogFailed};
 ghost use Rattle.kb_tenant.specs.Serve.{if_read, of_find_coordinator, of_offset_commit, of_offset_fetch, IsServed};
@@ -13,18 +14,18 @@ ghost use Rattle.kb_tenant_state.specs.Steps.{IsStep, Meets};
 ghost use Rattle.kb_tenant_state.specs.World.{World};
 
 use crate::answer::{Answer, begin, finish, finish_within, most_bytes};
-use crate::find_coordinator::find_coordinator;
+use crate::find_coordinator::{find_coordinator, has_key_type, read_find_coordinator};
 use crate::group_commit::{offset_commit, refusal_of};
 use crate::limits::DataLimits;
 use crate::node::Node;
 use crate::offset_fetch::{has_code, offset_fetch, read_offset_fetch_within};
 use crate::request::Request;
 use crate::within::read_within;
-use kb_api_group::{FindCoordinatorRequest, OffsetCommitRequest};
+use kb_api_group::OffsetCommitRequest;
 use kb_log::{PartitionLog, Shelf};
 use kb_store::Store;
 use kb_tenant_state::Parts;
-use kb_wire::{Layout, ReadFault, Sink};
+use kb_wire::{ReadFault, Sink};
 use std::alloc::Global;
 
 /// OffsetCommit, of a tenant whose groups have no members.
@@ -82,11 +83,12 @@ pub(crate) fn serve_find_coordinator(
 ) -> Result<Answer, ReadFault>
     requires { string.Fits node.now.host }
     ensures { (w : World) →
-        IsServed request.now.correlation_id (if_read w (whole find_coordinator_request request.now.body.now)
-        (of_find_coordinator node.now w)) w [] result }
+        IsServed request.now.correlation_id (if_read w (asked_coordinator request.now.api_version request.now.body.now)
+        (of_find_coordinator node.now request.now.api_version w)) w [] result }
 {
-    let _asked = FindCoordinatorRequest::read(alloc, request.body)?;
+    let has_key_type = has_key_type(request.api_version);
+    let is_group = read_find_coordinator(alloc, has_key_type, request.body)?;
     let mut sink = begin(alloc, request.correlation_id)?;
-    find_coordinator(node, &mut sink)?;
+    find_coordinator(node, has_key_type, is_group, &mut sink)?;
     Ok(finish(sink))
 }

@@ -1,26 +1,74 @@
 //! ListOffsets: offsets that are asked by time.
-ghost use Rattle.std.specs.Prelude.{◌≡◌, ◌++◌, ◌⊎◌, List, OnOk, map};
+ghost use Rattle.std.specs.Prelude.{◌≡◌, ◌++◌, ◌⊎◌, List, Ok, IfOk, OnOk, map};
 ghost use Rattle.std.specs.List.{AllZip, flat_map};
 ghost use Rattle.kb_api_data.specs.Layouts.{list_offsets_topic, list_offsets_request, list_offsets_partition_reply};
 ghost use Rattle.kb_api_data.specs.Layouts.{list_offsets_topic_reply, list_offsets_reply};
 ghost use Rattle.kb_api_data.specs.declared.list_offsets.ListOffsetsPartitionReply.{ListOffsetsPartitionReply};
 ghost use Rattle.kb_api_data.specs.declared.list_offsets.ListOffsetsReply.{ListOffsetsReply};
 ghost use Rattle.kb_api_data.specs.declared.list_offsets.ListOffsetsTopicReply.{ListOffsetsTopicReply};
+ghost use Rattle.kb_wire.specs.Reads.{ReadsWhole};
 ghost use Rattle.kb_tenant_state.specs.Scene.{WhereHonest};
+ghost use Rattle.kb_tenant.specs.Entries.{list_offsets_entries, within};
 ghost use Rattle.kb_tenant.specs.ListOffsets.{offset_refused, offset_answered, edge_answered, offset_found, listed, listed_at};
-ghost use Rattle.kb_tenant.specs.ListOffsets.{listed_topic, list_offsets};
+ghost use Rattle.kb_tenant.specs.ListOffsets.{asked_listing, has_isolation_level, listed_topic, listing_as, list_offsets};
 ghost use Rattle.kb_tenant.specs.Told.{HasFailed, IsListingTold, IsListingTopicTold, IsUnlisted};
 ghost use Rattle.kb_tenant_state.specs.Parts.{scene};
 ghost use Rattle.kb_tenant_state.specs.Steps.{IsStep, Meets};
 
+use crate::within::within;
 use kb_api_data::{
-    ListOffsetsPartition, ListOffsetsPartitionReply, ListOffsetsRequest, ListOffsetsTopic,
+    Both, ListOffsetsPartition, ListOffsetsPartitionReply, ListOffsetsRequest, ListOffsetsTopic,
 };
 use kb_log::{OffsetAndTimestamp, PartitionLog, Shelf};
 use kb_store::Store;
 use kb_tenant_state::{PartitionFault, Parts, TopicPartition};
-use kb_wire::{ErrorCode, Layout, Sink};
-use std::alloc::AllocError;
+use kb_wire::{Array, ErrorCode, Layout, ReadFault, Sink};
+use std::alloc::{AllocError, Global};
+
+/// A request of version 2: an isolation level stands between the replica's id and the topics.
+type Levelled<'a> = Both<i32, Both<i8, Array<ListOffsetsTopic<'a>>>>;
+
+/// Whether a request of a version says which records of transactions count.
+fn has_isolation_level(version: i16) -> bool
+    ensures { result ≡ has_isolation_level version }
+{
+    version >= 2
+}
+
+/// The request that a whole body spells, with an isolation level, which is passed over, or without one.
+#[tactic(auto, using(crate::proofs::Offsets::topics_fit))]
+fn read_list_offsets<'a>(
+    alloc: Global,
+    has_isolation_level: bool,
+    body: &'a [u8],
+) -> Result<ListOffsetsRequest<'a>, ReadFault>
+    ensures exact { ReadsWhole (listing_as has_isolation_level body.now) result }
+    ensures fits { IfOk result (λ q. list_offsets_request.Fits q) }
+{
+    if !has_isolation_level {
+        return ListOffsetsRequest::read(alloc, body);
+    }
+    let Both { first, second } = Levelled::read(alloc, body)?;
+    Ok(ListOffsetsRequest {
+        replica_id: first,
+        topics: second.second,
+    })
+}
+
+/// The request that a body of a version spells, unless it names more topics and partitions than a limit allows.
+pub(crate) fn read_list_offsets_within<'a>(
+    alloc: Global,
+    limit: Option<u64>,
+    version: i16,
+    body: &'a [u8],
+) -> Result<ListOffsetsRequest<'a>, ReadFault>
+    ensures exact { ReadsWhole (within limit list_offsets_entries (asked_listing version body.now)) result }
+    ensures spelled { IfOk result (λ q. asked_listing version body.now ≡ Ok q) }
+    ensures fits { IfOk result (λ q. list_offsets_request.Fits q) }
+{
+    let asked = read_list_offsets(alloc, has_isolation_level(version), body)?;
+    within(limit, asked)
+}
 
 fn refused(partition: i32, error_code: i16) -> ListOffsetsPartitionReply
     ensures { result ≡ offset_refused partition error_code }

@@ -8,7 +8,7 @@ use Rattle.std.proofs.lemmas.List.{append-nil, length-map}
 use Rattle.std.proofs.lemmas.List.Folds.{flat_map-map}
 use Rattle.std.proofs.lemmas.List.FromFn.{length-map-range_with_len, map-range_with_len_more}
 use Rattle.kb_wire.specs.Fits.{null_array_fits}
-use Rattle.kb_wire.specs.Codec.{count, counted, nullable, nullable_counted, sized, items, array, int16, int32, string, nullable_string, boolean}
+use Rattle.kb_wire.specs.Codec.{count, counted, nullable, nullable_counted, sized, items, int, array, int16, int32, string, nullable_string, boolean}
 use Rattle.kb_api_data.specs.Layouts.{metadata_request, metadata_request_v0, metadata_request_v4}
 use Rattle.kb_api_data.specs.Layouts.{metadata_partition, metadata_topic, metadata_topic_v0, metadata_broker, metadata_broker_v0, metadata_reply, metadata_reply_v0, metadata_reply_v2, metadata_reply_v3}
 use Rattle.kb_api_data.specs.declared.metadata.MetadataBroker.{MetadataBroker}
@@ -47,17 +47,11 @@ topics_fit_v4 r fits = fits.0
 abbrev topic_if : Bool → MetadataTopic → List ℕ
 topic_if b t = if b then metadata_topic_v0.written (topic_v0 t) else metadata_topic.written t
 
-pub partition_written : (p : ℕ) (error number : ℤ) (s0 s1 s2 s3 s4 s5 : List ℕ) → error ≡ pos 0 → number ≡ pos p
-    → s1 ≡ s0 ++ int16.written error → s2 ≡ s1 ++ int32.written number → s3 ≡ s2 ++ int32.written (pos 0) → s4 ≡ s3 ++ (array int32).written (pos 0 ∷ []) → s5 ≡ s4 ++ (array int32).written (pos 0 ∷ [])
-    → s5 ≡ s0 ++ metadata_partition.written (partition_described p)
-unfolding metadata_partition
-partition_written p error number s0 s1 s2 s3 s4 s5 error_is number_is a b c d e =
-    let self = (array int32).written (pos 0 ∷ []) in
-    let zero = int32.written (pos 0) in
-    let one : s5 ≡ s3 ++ (self ++ self) = written_both s3 s4 s5 self self d e in
-    let two : s5 ≡ s2 ++ (zero ++ (self ++ self)) = written_both s2 s3 s5 zero (self ++ self) c one in
-    let three : s5 ≡ s1 ++ (int32.written (pos p) ++ (zero ++ (self ++ self))) = written_both s1 s2 s5 (int32.written (pos p)) (zero ++ (self ++ self)) (b ∙ ap (λ n. s1 ++ int32.written n) number_is) two in
-    written_both s0 s1 s5 (int16.written (pos 0)) (int32.written (pos p) ++ (zero ++ (self ++ self))) (a ∙ ap (λ n. s0 ++ int16.written n) error_is) three
+-- a partition's bytes: all but the four of its number are the same in each
+pub partition_bytes : (p a b c d : ℕ) → int32.written (pos p) ≡ a ∷ b ∷ c ∷ d ∷ []
+    → 0 ∷ 0 ∷ a ∷ b ∷ c ∷ d ∷ 0 ∷ 0 ∷ 0 ∷ 0 ∷ 0 ∷ 0 ∷ 0 ∷ 1 ∷ 0 ∷ 0 ∷ 0 ∷ 0 ∷ 0 ∷ 0 ∷ 0 ∷ 1 ∷ 0 ∷ 0 ∷ 0 ∷ 0 ∷ [] ≡ metadata_partition.written (partition_described p)
+unfolding metadata_partition sized counted items int
+partition_bytes p a b c d e = ap (λ number. 0 ∷ 0 ∷ (number ++ 0 ∷ 0 ∷ 0 ∷ 0 ∷ 0 ∷ 0 ∷ 0 ∷ 1 ∷ 0 ∷ 0 ∷ 0 ∷ 0 ∷ 0 ∷ 0 ∷ 0 ∷ 1 ∷ 0 ∷ 0 ∷ 0 ∷ 0 ∷ [])) (sym e)
 
 -- one partition more
 pub partitions_more : (p : ℕ) (old s t : List ℕ) → s ≡ old ++ flat_map metadata_partition.written (map partition_described (range_with_len 0 p)) → t ≡ s ++ metadata_partition.written (partition_described p)

@@ -141,24 +141,15 @@ fn put_node(version: i16, node: &Node<'_>, sink: &mut Sink) -> Result<(), AllocE
     }
 }
 
-/// Writes the brokers of a partition, which are the one broker.
-fn put_replicas(sink: &mut Sink) -> Result<(), AllocError>
-    ensures { OnOk result (sink.new.bytes ≡ sink.old.bytes ++ (array int32).written (pos 0 ∷ [])) }
-{
-    sink.put_count(1)?;
-    sink.put_i32(0)
-}
-
-/// Writes a partition.
+/// Writes a partition, in one piece: no error, its number, and the broker 0 as its leader, its one replica and its one in-sync replica.
 fn put_partition(partition: usize, sink: &mut Sink) -> Result<(), AllocError>
     requires { partition < 2 ^ 31 }
     ensures { OnOk result (sink.new.bytes ≡ sink.old.bytes ++ metadata_partition.written (partition_described partition)) }
 {
-    sink.put_i16(ErrorCode::None.code())?;
-    sink.put_i32(partition as i32)?;
-    sink.put_i32(0)?;
-    put_replicas(sink)?;
-    put_replicas(sink)
+    let [a, b, c, d] = (partition as i32).to_be_bytes();
+    sink.put_bytes(&[
+        0, 0, a, b, c, d, 0, 0, 0, 0, 0, 0, 0, 1, 0, 0, 0, 0, 0, 0, 0, 1, 0, 0, 0, 0,
+    ])
 }
 
 /// Writes partitions, from 0 on.

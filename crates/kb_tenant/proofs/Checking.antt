@@ -31,7 +31,7 @@ use Rattle.kb_tenant_state.specs.Calls.{created_unless}
 use Rattle.kb_tenant_state.specs.Tied.{IsTied}
 use Rattle.kb_tenant_state.specs.World.{World}
 use Rattle.kb_tenant.specs.CreateTopics.{checked_all, checked_topic, checked_unless, checked_unless_full, checked_with, code_in}
-use Rattle.kb_tenant.specs.CreateTopics.{created_all, created_topic, made_unless, made_unless_full, made_with, refusal, stands_twice}
+use Rattle.kb_tenant.specs.CreateTopics.{created_all, created_topic, made, made_unless, made_unless_full, made_with, refusal, stands_twice}
 use Rattle.kb_tenant.specs.CreateTopics.{is_too_much, room_behind, room_in}
 use Rattle.kb_tenant.specs.Limits.{left_of}
 use Rattle.kb_tenant_state.specs.Stored.{partitions_in}
@@ -161,6 +161,19 @@ room_alone v t twice config none limits left =
     let p = passed twice (is_legal t.name) (is_some (named t.name v.known.topics)) (is_partition_count t.num_partitions) (int_eq t.replication_factor (pos 1)) (nat_le 1 (length t.assignments)) none in
     let early : nat_le (2 ^ 63 - 1) v.known.creates ≡ false = grind (arith, left) in
     rw (p.0, p.1, p.2, limits, early) refl
+
+-- 1,000 topics are refused whatever instances are left
+pub made_past_all : (limits : DataLimits) (w : World) (t : CreateTopic) (twice there : Bool) (partitions : ℤ) (config : TopicConfig) (full : Bool) (code : ℤ) → there ≡ is_some (named t.name w.known.topics) → None ≡ refusal twice there t → Some config ≡ settings_in t.configs
+    → partitions ≡ t.num_partitions → full ≡ is_too_much limits (room_in limits w.known) partitions → full ≡ false → 1000 ≤ length w.known.topics → code ≡ code_in (Err faults.TooMany) → (w, code) ≡ made limits twice w t
+made_past_all limits w t twice there partitions config full code at is some many past under all here =
+    let none : refusal twice (is_some (named t.name w.known.topics)) t ≡ None = sym (is ∙ ap (λ b. refusal twice b t) at) in
+    let p = passed twice (is_legal t.name) (is_some (named t.name w.known.topics)) (is_partition_count t.num_partitions) (int_eq t.replication_factor (pos 1)) (nat_le 1 (length t.assignments)) none in
+    let limited = settings_limits t.configs config (sym some) in
+    let reached : nat_le 1000 (length w.known.topics) ≡ true = grind (arith, all) in
+    let refused : create_refusal w.known t.name t.num_partitions config ≡ Some faults.TooMany = rw (p.0, p.1, p.2, limited, reached) refl in
+    ap (λ z. (w, z)) here
+    ∙ sym (ap (λ (o : Option CatalogFault). let m = created_unless w t.name t.num_partitions config o in (m.0, code_in m.1)) refused)
+    ∙ ap (λ b. made_unless_full b w t config) (sym under ∙ past ∙ ap (is_too_much limits (room_in limits w.known)) many) ∙ ap (made_with limits w t) some ∙ ap (made_unless limits w t) (sym none)
 
 -- the partitions of one topic more are counted
 more_partitions : (v : World) (name : List ℕ) (count : ℕ) (config : TopicConfig) → HasNext v

@@ -112,8 +112,12 @@ fn create_topic<L: PartitionLog + Drop, S: Store>(
         return ErrorCode::InvalidConfig.code();
     };
     let partitions = topic.num_partitions;
-    if Room::of(parts, limits).is_too_small(limits, partitions) {
+    let room = Room::of(parts, limits);
+    if room.is_too_small(limits, partitions) {
         return ErrorCode::PolicyViolation.code();
+    }
+    if room.topics >= 1000 {
+        return code_in(Err(CatalogFault::TooMany));
     }
     code_in(parts.create(shelf, name, partitions, config))
 }

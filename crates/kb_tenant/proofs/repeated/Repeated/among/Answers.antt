@@ -22,9 +22,10 @@ loop-topic-preserved c =
       seen = seen_more before seen c.args.topics.now i c.topic-item.result name tt c.loop-topic-test.true c.topic-item.is c.as_str-name.ensures v.seen
           (btree_map_updates_str name c.loop-topic.seen c.insert.new.self _ c.in_ok-insert.ensures.updates);
       again = elim c.if-is_some.branch [
-        then-is_some+in_ok-insert-2 w ↦ again_more before old names c.args.topics.now i c.topic-item.result name tt c.loop-topic-test.true c.topic-item.is c.as_str-name.ensures
+        | then-is_some+in_ok-insert-2 w ↦ again_more before old names c.args.topics.now i c.topic-item.result name tt c.loop-topic-test.true c.topic-item.is c.as_str-name.ensures
             (sym was ∙ w.if-is_some.true) v.seen v.again
             (λ q. ap (λ m. get_by (λ k. slice_cmp nat_cmp q k.now) m) w.names-is ∙ btree_map_updates_str name c.loop-topic.names w.insert-then-is_some.new.self _ w.in_ok-insert-2.ensures.updates q)
-      | else-is_some w ↦ λ q. ap (λ m. is_some (get_by (λ k. slice_cmp nat_cmp q k.now) m)) w.names-is
-            ∙ first_more before old c.args.topics.now i c.topic-item.result name c.loop-topic-test.true c.topic-item.is c.as_str-name.ensures (sym was ∙ w.if-is_some.false) v.seen v.again q ];
+        | else-is_some w ↦ λ q. ap (λ m. is_some (get_by (λ k. slice_cmp nat_cmp q k.now) m)) w.names-is
+            ∙ first_more before old c.args.topics.now i c.topic-item.result name c.loop-topic-test.true c.topic-item.is c.as_str-name.ensures (sym was ∙ w.if-is_some.false) v.seen v.again q
+      ];
     }

@@ -4,14 +4,15 @@ use Rattle.std.specs.declared.alloc.AllocError.{AllocError}
 use Rattle.kb_wire.specs.declared.error_code.ErrorCode.TheVariants as errors
 use Rattle.kb_isolation_spec.specs.declared.head.Head.{Head}
 use Rattle.kb_isolation_spec.specs.Session.{Greets, Session, shut_down, replied}
-use Rattle.kb_isolation_spec.specs.Greeting.{Setup, versions_reply, handshake_reply, illegal_state, bare_login, logged_in}
+use Rattle.kb_isolation_spec.specs.Greeting.{Setup, versions_in, versions_reply, handshake_reply, illegal_state, bare_login, logged_in}
 use Rattle.kb_connection.specs.declared.reaction.Reaction.{Reaction}
 use Rattle.kb_connection.specs.declared.reaction.Reaction.TheVariants as reactions
 use Rattle.kb_connection.specs.View.{greeting_of}
 
 -- s is the connection without the request
 abbrev pub reacted : Setup → Reaction → Head → Session → Session
-reacted setup (reactions.Versions code) head s = replied head (versions_reply setup.versions code) s
+reacted setup reactions.Versions head s = replied head (versions_in head.api_version setup.versions) s
+reacted setup reactions.OtherVersions head s = replied head (versions_reply setup.versions errors.UnsupportedVersion) s
 reacted setup (reactions.Accepts greeting) head s =
     replied head (handshake_reply errors.None) (record s { stage = Greets (greeting_of greeting) })
 reacted setup (reactions.Handshake code) head s = replied head (handshake_reply code) s

@@ -25,7 +25,8 @@ ghost use Rattle.kb_connection.specs.Reactions.{reacted, IfReacts};
 use crate::greeting::Greeting;
 use crate::reaction::{Reaction, bound_reaction, greeting_reaction};
 use crate::reply::{
-    append_reply, authenticate_body, body_of, handshake_body, throttle_time, versions_body,
+    append_reply, authenticate_body, body_of, handshake_body, listed_body, throttle_time,
+    versions_body,
 };
 use crate::request::{Asked, Request, unanswerable};
 use crate::setup::Setup;
@@ -556,7 +557,12 @@ impl Connection {
         ensures err { OnErr result (self.new ≡ self.old) }
     {
         match reaction {
-            Reaction::Versions(code) => {
+            Reaction::Versions => {
+                let body = listed_body(alloc, setup.versions(), head.api_version)?;
+                self.reply(head, &body)
+            }
+            Reaction::OtherVersions => {
+                let code = ErrorCode::UnsupportedVersion;
                 let body = versions_body(alloc, setup.versions(), code)?;
                 self.reply(head, &body)
             }

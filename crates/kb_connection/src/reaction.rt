@@ -22,8 +22,10 @@ use std::alloc::{AllocError, Global};
 /// What a request comes to for its connection.
 #[derive(Clone, Copy)]
 pub enum Reaction {
-    /// The versions are listed, under a code.
-    Versions(ErrorCode),
+    /// The versions are listed.
+    Versions,
+    /// They are listed under a code, since they were asked in a version that is not.
+    OtherVersions,
     /// The mechanism is accepted, which leaves the greeting so far.
     Accepts(Greeting),
     /// A handshake is answered with a code, and nothing changes.
@@ -49,8 +51,8 @@ impl Reaction {
         ensures { (s : Session) → reacted setup.now result head s ≡ greeted_by setup.now handshaken head (asked_of asked.now) s }
     {
         match asked {
-            Asked::Versions => Reaction::Versions(ErrorCode::None),
-            Asked::OtherVersions => Reaction::Versions(ErrorCode::UnsupportedVersion),
+            Asked::Versions => Reaction::Versions,
+            Asked::OtherVersions => Reaction::OtherVersions,
             Asked::Handshake { version, mechanism } if mechanism.as_str() == "PLAIN" => {
                 Reaction::Accepts(Greeting::after_handshake(*version))
             }
@@ -85,8 +87,8 @@ impl Reaction {
             → reacted setup.now result head s ≡ served_by (for_tenant setup.now tenant) kept clock n head (asked_of asked.now) s }
     {
         match asked {
-            Asked::Versions => Reaction::Versions(ErrorCode::None),
-            Asked::OtherVersions => Reaction::Versions(ErrorCode::UnsupportedVersion),
+            Asked::Versions => Reaction::Versions,
+            Asked::OtherVersions => Reaction::OtherVersions,
             Asked::Handshake { .. } => Reaction::Handshake(ErrorCode::IllegalSaslState),
             Asked::Authenticate(_) => Reaction::IllegalState,
             Asked::Another { .. } | Asked::Malformed => {

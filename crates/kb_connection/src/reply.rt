@@ -6,7 +6,7 @@ ghost use Rattle.kb_api_group.specs.Layouts.{api_version};
 ghost use Rattle.kb_tenant.specs.Replies.{framed, reply_size};
 ghost use Rattle.kb_isolation_spec.specs.Session.{throttled};
 ghost use Rattle.kb_connection.specs.TenantAnswers.{body_of};
-ghost use Rattle.kb_isolation_spec.specs.Greeting.{versions_reply, handshake_reply, authenticate_reply};
+ghost use Rattle.kb_isolation_spec.specs.Greeting.{throttle_behind, versions_in, versions_reply, handshake_reply, authenticate_reply};
 
 use kb_api_group::{ApiVersion, SaslAuthenticateReply, SaslHandshakeReply};
 use kb_isolation_spec::Head;
@@ -27,6 +27,28 @@ pub fn versions_body(
     code.code().write(&mut sink)?;
     versions.write(&mut sink)?;
     Ok(sink.into_vec())
+}
+
+/// The bytes of a throttle time of 0 milliseconds, an INT32, which stands behind the table from version 1 of ApiVersions on.
+#[tactic(auto, unfolding(kb_wire::specs::Codec::int))]
+fn throttle_behind(version: i16) -> &'static [u8]
+    ensures { result.now ≡ throttle_behind version }
+{
+    if version >= 1 { &[0, 0, 0, 0] } else { &[] }
+}
+
+/// ApiVersions of a version that is listed: the whole table, and a throttle time behind it where the version has one.
+pub fn listed_body(
+    alloc: Global,
+    versions: &Array<ApiVersion>,
+    version: i16,
+) -> Result<Vec<u8>, AllocError>
+    requires { (array api_version).Fits versions.now }
+    ensures { IfOk result (λ body. body.items ≡ versions_in version versions.now) }
+{
+    let mut body = versions_body(alloc, versions, ErrorCode::None)?;
+    body.extend_from_slice(throttle_behind(version))?;
+    Ok(body)
 }
 
 /// SaslHandshake: a code and the mechanisms, PLAIN alone.

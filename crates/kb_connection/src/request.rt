@@ -19,7 +19,7 @@ use std::alloc::{AllocError, Global};
 /// that is served.
 #[derive(Drop)]
 pub enum Asked<'a> {
-    /// ApiVersions at version 0.
+    /// ApiVersions at a version that is listed.
     Versions,
     /// ApiVersions at another version.
     OtherVersions,
@@ -48,8 +48,7 @@ pub struct Request<'a> {
 }
 
 impl<'a> Request<'a> {
-    /// The request of a frame, where those versions are listed. ApiVersions of another version than 0 is known by its key and
-    /// version alone.
+    /// The request of a frame, where those versions are listed. ApiVersions of another version is known by its key and version alone.
     #[tactic(auto, unfolding(kb_isolation_spec::specs::Requests::request))]
     pub fn read(
         alloc: Global,
@@ -64,7 +63,9 @@ impl<'a> Request<'a> {
                 asked: Asked::Malformed,
             });
         };
-        let asked = if start.api_key == api_key::API_VERSIONS && start.api_version != 0 {
+        let asked = if start.api_key == api_key::API_VERSIONS
+            && !is_served(versions, start.api_key, start.api_version)
+        {
             Asked::OtherVersions
         } else {
             read_asked(alloc, versions, frame)?

@@ -1,4 +1,4 @@
-//! Versions that are laid out as an earlier one.
+//! Versions that a tenant is asked in as in another one.
 
 ghost use Rattle.std.specs.Prelude.{◌≡◌, List};
 ghost use Rattle.kb_api_group.specs.declared.api_versions.ApiVersion.{ApiVersion as Listed};
@@ -17,17 +17,20 @@ pub const NO_HEAD: Head = Head {
     api_version: 0,
 };
 
-/// Versions of an API: its key, the least and the greatest of them, the version that they are laid out as, and whether their reply has a
-/// throttle time in front which that version's has not.
+/// Versions of an API: its key, the least and the greatest of them, the version that a tenant is asked in, and whether their reply has a
+/// throttle time in front which its answer has not.
 type Newer = (i16, i16, i16, i16, bool);
 
-/// The versions that are laid out as an earlier one that is served (Kafka protocol guide, "The Messages").
-const NEWER: [Newer; 14] = [
+/// The versions that a tenant is asked in as in another one, or where a throttle time stands in front of its answer (Kafka protocol
+/// guide, "The Messages").
+const NEWER: [Newer; 16] = [
     (api_key::PRODUCE, 4, 4, 3, false),
     (api_key::FETCH, 6, 6, 5, false),
+    (api_key::LIST_OFFSETS, 2, 3, 2, true),
     (api_key::OFFSET_COMMIT, 3, 4, 2, true),
     (api_key::JOIN_GROUP, 2, 3, 1, true),
     (api_key::OFFSET_FETCH, 3, 4, 2, true),
+    (api_key::FIND_COORDINATOR, 1, 2, 1, true),
     (api_key::HEARTBEAT, 1, 2, 0, true),
     (api_key::LEAVE_GROUP, 1, 2, 0, true),
     (api_key::SYNC_GROUP, 1, 2, 0, true),
@@ -39,8 +42,8 @@ const NEWER: [Newer; 14] = [
     (api_key::INIT_PRODUCER_ID, 1, 1, 0, false),
 ];
 
-/// The version that a version of an API is laid out as: itself, unless an earlier one is served that has the same fields, but for a
-/// throttle time in front of the reply's.
+/// The version that a tenant is asked in for a version of an API: itself, unless another one has the same fields, but for a throttle
+/// time in front of the reply's.
 #[tactic(auto, unfolding(kb_isolation_spec::specs::Versions::base_of))]
 pub fn base_of(key: i16, version: i16) -> Base
     ensures { result ≡ base_of key version }
@@ -71,7 +74,7 @@ fn is_among(newer: Newer, key: i16, version: i16) -> bool
     api_key == key && least <= version && version <= greatest
 }
 
-/// What they are laid out as.
+/// What they are asked in.
 fn base_by(newer: Newer) -> Base
     ensures { result ≡ record { version = newer.3; is_throttled = newer.4 } }
 {

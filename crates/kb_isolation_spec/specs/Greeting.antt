@@ -1,11 +1,12 @@
 -- The requests that need no tenant: ApiVersions, and the SASL greeting (Kafka protocol guide, "SASL Authentication Sequence"; RFC 4616).
-use Rattle.std.specs.Prelude.{ℕ, suc, ℤ, pos, List, [], ◌∷◌, ◌++◌, get_or, Bool, true, false, ◌&&◌, if◌then◌else◌, Option, Some, None, codes}
+use Rattle.std.specs.Prelude.{ℕ, suc, ℤ, pos, List, [], ◌∷◌, ◌++◌, get_or, Bool, true, false, ◌&&◌, int_le, if◌then◌else◌, Option, Some, None, codes}
 use Rattle.std.specs.Prelude.{Result, Ok, Err}
 use Rattle.std.specs.Ordering.{int_eq}
 use Rattle.std.specs.Str.{bytes_eq}
 use Rattle.kb_api_group.specs.Plain.{plain}
 use Rattle.kb_api_group.specs.Frames.{Front, Whole, Partial, TooSmall, TooLarge, front}
 use Rattle.kb_api_group.specs.Layouts.{sasl_handshake_reply, sasl_authenticate_reply, api_versions_reply}
+use Rattle.kb_wire.specs.Codec.{int32}
 use Rattle.kb_wire.specs.ErrorCode.{code_of}
 use Rattle.kb_wire.specs.declared.error_code.ErrorCode.{ErrorCode}
 use Rattle.kb_wire.specs.declared.error_code.ErrorCode.TheVariants as errors
@@ -67,6 +68,14 @@ login users message = login_by users (plain message)
 abbrev pub versions_reply : List ApiVersion → ErrorCode → List ℕ
 versions_reply versions code = api_versions_reply.written (record { error_code = code_of code; versions = versions })
 
+-- From version 1 on a throttle time of 0 milliseconds stands behind them.
+abbrev pub throttle_behind : ℤ → List ℕ
+throttle_behind version = if int_le (pos 1) version then int32.written (pos 0) else []
+
+-- the same without a fault, in a version that is listed
+abbrev pub versions_in : ℤ → List ApiVersion → List ℕ
+versions_in version versions = versions_reply versions errors.None ++ throttle_behind version
+
 -- SaslHandshake: a code and the mechanisms, PLAIN alone
 abbrev pub handshake_reply : ErrorCode → List ℕ
 handshake_reply code = sasl_handshake_reply.written (record { error_code = code_of code; mechanisms = codes "PLAIN" ∷ [] })
@@ -122,7 +131,7 @@ bare_login (Err name) s = shut_down causes.Denied (failed name s)
 
 -- what a request of a greeting connection does to it, where a mechanism was accepted or not; s is the connection without the request
 unfoldable pub greeted_by : Setup → Bool → Head → Asked → Session → Session
-greeted_by setup handshaken head Versions s = replied head (versions_reply setup.versions errors.None) s
+greeted_by setup handshaken head Versions s = replied head (versions_in head.api_version setup.versions) s
 greeted_by setup handshaken head OtherVersions s = replied head (versions_reply setup.versions errors.UnsupportedVersion) s
 greeted_by setup handshaken head (Handshake version mechanism) s = shaken (bytes_eq mechanism (codes "PLAIN")) head version s
 greeted_by setup handshaken head (Authenticate message) s = authenticated setup handshaken head message s

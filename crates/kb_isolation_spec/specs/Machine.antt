@@ -14,7 +14,7 @@ use Rattle.kb_isolation_spec.specs.Requests.{Asked, Versions, OtherVersions, Han
 use Rattle.kb_isolation_spec.specs.Tenant.{Records, Group, kept_after, answer, ready}
 use Rattle.kb_isolation_spec.specs.Session.{Stage, Greets, BoundTo, Session, fresh, without_wait, waiting, shut_down, overruns, fed, replied}
 use Rattle.kb_isolation_spec.specs.Session.{has_member, can, unanswerable}
-use Rattle.kb_isolation_spec.specs.Greeting.{Setup, for_tenant, greeted, versions_reply, handshake_reply, illegal_state}
+use Rattle.kb_isolation_spec.specs.Greeting.{Setup, for_tenant, greeted, versions_in, versions_reply, handshake_reply, illegal_state}
 
 -- a connection: its number and what it has
 pub record Line : Type 0 where
@@ -52,7 +52,7 @@ after_reaction Rebalances head version body s = record s { stage = waiting (reco
 
 -- what a request of a bound connection, of number n, does to it; s is the connection without the request
 unfoldable pub served_by : Setup → Kept → ℕ → ℕ → Head → Asked → Session → Session
-served_by setup kept clock n head Versions s = replied head (versions_reply setup.versions errors.None) s
+served_by setup kept clock n head Versions s = replied head (versions_in head.api_version setup.versions) s
 served_by setup kept clock n head OtherVersions s = replied head (versions_reply setup.versions errors.UnsupportedVersion) s
 served_by setup kept clock n head (Handshake version mechanism) s = replied head (handshake_reply errors.IllegalSaslState) s
 served_by setup kept clock n head (Authenticate message) s = replied head illegal_state s

@@ -1,5 +1,5 @@
 -- What a connection's bytes ask (Kafka protocol guide, "Protocol Primitives", "Request Header").
-use Rattle.std.specs.Prelude.{ℕ, ℤ, pos, List, Bool, not, ◌&&◌, int_le, if◌then◌else◌, Result, Ok, Err}
+use Rattle.std.specs.Prelude.{ℕ, ℤ, List, Bool, not, ◌&&◌, int_le, if◌then◌else◌, Result, Ok, Err}
 use Rattle.std.specs.Ordering.{int_eq}
 use Rattle.std.specs.List.{list_any}
 use Rattle.kb_wire.specs.Codec.{whole}
@@ -55,12 +55,12 @@ pub record Request : Type 0 where
   pub head : Head
   pub asked : Asked
 
--- ApiVersions of another version than 0 is known by its key and version alone
+-- ApiVersions of a version that is not listed is known by its key and version alone
 abbrev pub request_at : List ApiVersion → List ℕ → Result (RequestStart × List ℕ) WireFault → Request
 request_at versions frame (Err fault) = record { head = no_head; asked = Malformed }
 request_at versions frame (Ok s) = record {
   head = head_of s.0;
-  asked = if int_eq s.0.api_key API_VERSIONS && not (int_eq s.0.api_version (pos 0)) then OtherVersions
+  asked = if int_eq s.0.api_key API_VERSIONS && not (is_served versions s.0.api_key s.0.api_version) then OtherVersions
       else asked_behind versions (request_header.read frame);
 }
 

@@ -1,11 +1,11 @@
--- Versions that are laid out as an earlier one, but for a throttle time in front of the reply's body.
+-- Versions that a tenant is asked in as in another one, and where a throttle time stands in front of its answer.
 --
 -- Each is read off the schemas of its API in the Kafka protocol guide, "The Messages", under the API's name ("JoinGroup API" and so on):
--- the request has the fields of the earlier version's in the same order, and so has the reply, behind a `throttle_time_ms` where the
--- earlier version has none.
+-- the request has the fields of that version's in the same order, and so has the reply, behind a `throttle_time_ms` where the tenant's
+-- answer in that version has none. Its answers in ListOffsets 2 and FindCoordinator 1 have none, though their replies do.
 use Rattle.std.specs.Prelude.{ℕ, ℤ, pos, List, [], ◌∷◌, Bool, true, false, ◌&&◌, int_le, if◌then◌else◌}
 use Rattle.std.specs.Ordering.{int_eq}
-use Rattle.kb_wire.specs.declared.api_key.TheConstants.{PRODUCE, FETCH, OFFSET_COMMIT, OFFSET_FETCH}
+use Rattle.kb_wire.specs.declared.api_key.TheConstants.{PRODUCE, FETCH, LIST_OFFSETS, OFFSET_COMMIT, OFFSET_FETCH, FIND_COORDINATOR}
 use Rattle.kb_wire.specs.declared.api_key.TheConstants.{JOIN_GROUP, HEARTBEAT, LEAVE_GROUP, SYNC_GROUP}
 use Rattle.kb_wire.specs.declared.api_key.TheConstants.{CREATE_TOPICS, DELETE_TOPICS, DELETE_RECORDS, INIT_PRODUCER_ID}
 use Rattle.kb_api_group.specs.declared.group_key.TheConstants.{DESCRIBE_GROUPS, LIST_GROUPS}
@@ -13,12 +13,12 @@ use Rattle.kb_api_group.specs.declared.header.RequestStart.{RequestStart}
 use Rattle.kb_isolation_spec.specs.declared.base.Base.{Base}
 use Rattle.kb_isolation_spec.specs.declared.head.Head.{Head}
 
--- an API's key, a least and a greatest version, the version that those between are laid out as, and whether their reply has a throttle
--- time in front which that version's has not
+-- an API's key, a least and a greatest version, the version that those between are asked in, and whether their reply has a throttle time
+-- in front which the tenant's answer in that version has not
 abbrev pub Newer : Type 0
 Newer = ℤ × ℤ × ℤ × ℤ × Bool
 
--- versions from one to another that are laid out as that one, request and reply
+-- versions from one to another that are that one, request and reply
 abbrev pub same_as : ℤ → ℕ → ℕ → ℕ → Newer
 same_as key least greatest version = (key, pos least, pos greatest, pos version, false)
 
@@ -29,9 +29,9 @@ throttled_as key least greatest version = (key, pos least, pos greatest, pos ver
 -- all that there are
 abbrev pub newer_versions : List Newer
 newer_versions =
-    same_as PRODUCE 4 4 3 ∷ same_as FETCH 6 6 5 ∷ throttled_as OFFSET_COMMIT 3 4 2 ∷ throttled_as JOIN_GROUP 2 3 1 ∷
-    throttled_as OFFSET_FETCH 3 4 2 ∷ throttled_as HEARTBEAT 1 2 0 ∷ throttled_as LEAVE_GROUP 1 2 0 ∷
-    throttled_as SYNC_GROUP 1 2 0 ∷ throttled_as DESCRIBE_GROUPS 1 2 0 ∷ throttled_as LIST_GROUPS 1 2 0 ∷
+    same_as PRODUCE 4 4 3 ∷ same_as FETCH 6 6 5 ∷ throttled_as LIST_OFFSETS 2 3 2 ∷ throttled_as OFFSET_COMMIT 3 4 2 ∷
+    throttled_as JOIN_GROUP 2 3 1 ∷ throttled_as OFFSET_FETCH 3 4 2 ∷ throttled_as FIND_COORDINATOR 1 2 1 ∷
+    throttled_as HEARTBEAT 1 2 0 ∷ throttled_as LEAVE_GROUP 1 2 0 ∷ throttled_as SYNC_GROUP 1 2 0 ∷ throttled_as DESCRIBE_GROUPS 1 2 0 ∷ throttled_as LIST_GROUPS 1 2 0 ∷
     throttled_as CREATE_TOPICS 2 3 1 ∷ same_as DELETE_TOPICS 2 3 1 ∷ same_as DELETE_RECORDS 1 1 0 ∷
     same_as INIT_PRODUCER_ID 1 1 0 ∷ []
 
@@ -39,13 +39,13 @@ newer_versions =
 abbrev pub is_among : ℤ → ℤ → Newer → Bool
 is_among key version newer = int_eq newer.0 key && (int_le newer.1 version && int_le version newer.2)
 
--- what a version is laid out as: as the first says that has it, or as itself
+-- what a version is asked in: as the first says that has it, or itself
 abbrev pub base_among : List Newer → ℤ → ℤ → Base
 base_among [] key version = record { version = version; is_throttled = false }
 base_among (newer ∷ others) key version =
     if is_among key version newer then record { version = newer.3; is_throttled = newer.4 } else base_among others key version
 
--- the version that a version of an API is laid out as
+-- the version that a tenant is asked in for a version of an API
 unfoldable pub base_of : ℤ → ℤ → Base
 base_of key version = base_among newer_versions key version
 

@@ -5,7 +5,7 @@
 pub struct Head {
     /// The request's number, which the reply begins with (Kafka protocol guide, "Response Header").
     pub correlation_id: i32,
-    /// Whether a throttle time stands in front of the reply's body, which the version has not that the tenant is asked in.
+    /// Whether a throttle time stands in front of the reply's body, which the tenant's answer has not.
     pub is_throttled: bool,
     /// The API's key, as it came.
     pub api_key: i16,

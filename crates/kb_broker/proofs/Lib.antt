@@ -1,3 +1,4 @@
+pub mod Coherent
 pub mod Honest
 pub mod Once
 pub mod InFiles

@@ -1,5 +1,5 @@
 -- The broker that opens with settings.
-use Rattle.std.specs.Prelude.{◌≡◌, ℕ, ℤ, pos, List, [], ◌∷◌, Option, Some, None, int_le, if◌then◌else◌, map, string_bytes}
+use Rattle.std.specs.Prelude.{◌≡◌, ℕ, ℤ, pos, Bool, List, [], ◌∷◌, Option, Some, None, int_le, if◌then◌else◌, map, string_bytes}
 use Rattle.kb_wire.specs.declared.api_key.TheConstants.{PRODUCE, FETCH, LIST_OFFSETS, METADATA, OFFSET_COMMIT, OFFSET_FETCH}
 use Rattle.kb_wire.specs.declared.api_key.TheConstants.{FIND_COORDINATOR, JOIN_GROUP, HEARTBEAT, LEAVE_GROUP, SYNC_GROUP, SASL_HANDSHAKE}
 use Rattle.kb_wire.specs.declared.api_key.TheConstants.{API_VERSIONS, CREATE_TOPICS, DELETE_TOPICS, DELETE_RECORDS, INIT_PRODUCER_ID}
@@ -7,6 +7,7 @@ use Rattle.kb_wire.specs.declared.api_key.TheConstants.{SASL_AUTHENTICATE}
 use Rattle.kb_api_group.specs.declared.group_key.TheConstants.{DESCRIBE_GROUPS, LIST_GROUPS}
 use Rattle.kb_api_group.specs.declared.api_versions.ApiVersion.{ApiVersion}
 use Rattle.kb_isolation_spec.specs.Greeting.{Setup, User as Login}
+use Rattle.kb_isolation_spec.specs.Requests.{is_served}
 use Rattle.kb_coordinator.specs.Groups.{none}
 use Rattle.kb_tenant_api.specs.Hosted.{TenantState, kept_of, new_tenant}
 use Rattle.kb_isolation_spec.specs.Broker.{BrokerState}
@@ -51,15 +52,14 @@ served_versions =
     at_version CREATE_TOPICS 0 ∷ at_version DELETE_TOPICS 0 ∷ at_version DELETE_RECORDS 0 ∷
     at_version INIT_PRODUCER_ID 0 ∷ at_version SASL_AUTHENTICATE 0 ∷ []
 
--- the same, but Metadata from 0 to 4, SaslHandshake from 0 to 1, CreateTopics and DeleteTopics from 0, DescribeGroups and ListGroups, and
--- each API up to the last version that is laid out as one of these, but for a throttle time
+-- the same, and what stock clients ask for beside
 abbrev pub stock_versions : List ApiVersion
 stock_versions =
-    between PRODUCE 3 4 ∷ between FETCH 4 6 ∷ at_version LIST_OFFSETS 1 ∷ between METADATA 0 4 ∷
-    between OFFSET_COMMIT 2 4 ∷ between OFFSET_FETCH 1 4 ∷ at_version FIND_COORDINATOR 0 ∷
+    between PRODUCE 3 4 ∷ between FETCH 4 6 ∷ between LIST_OFFSETS 1 3 ∷ between METADATA 0 4 ∷
+    between OFFSET_COMMIT 2 4 ∷ between OFFSET_FETCH 1 4 ∷ between FIND_COORDINATOR 0 2 ∷
     between JOIN_GROUP 1 3 ∷ between HEARTBEAT 0 2 ∷ between LEAVE_GROUP 0 2 ∷ between SYNC_GROUP 0 2 ∷
     between DESCRIBE_GROUPS 0 2 ∷ between LIST_GROUPS 0 2 ∷
-    between SASL_HANDSHAKE 0 1 ∷ at_version API_VERSIONS 0 ∷
+    between SASL_HANDSHAKE 0 1 ∷ between API_VERSIONS 0 2 ∷
     between CREATE_TOPICS 0 3 ∷ between DELETE_TOPICS 0 3 ∷ between DELETE_RECORDS 0 1 ∷
     between INIT_PRODUCER_ID 0 1 ∷ at_version SASL_AUTHENTICATE 0 ∷ []
 
@@ -67,6 +67,10 @@ stock_versions =
 abbrev pub listed : Listing → List ApiVersion
 listed listings.Served = served_versions
 listed listings.StockClients = stock_versions
+
+-- whether it has a version of an API
+abbrev pub lists : Listing → ℤ → ℕ → Bool
+lists listing key version = is_served (listed listing) key (pos version)
 
 -- an API from one version to another, if there is one
 abbrev pub entry_between : ℤ → ℤ → ℤ → Option ApiVersion

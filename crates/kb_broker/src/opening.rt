@@ -37,11 +37,11 @@ type Api = (i16, i16, i16, i16, i16);
 const APIS: [Api; 20] = [
     (api_key::PRODUCE, 3, 3, 3, 4),
     (api_key::FETCH, 4, 5, 4, 6),
-    (api_key::LIST_OFFSETS, 1, 1, 1, 1),
+    (api_key::LIST_OFFSETS, 1, 1, 1, 3),
     (api_key::METADATA, 1, 1, 0, 4),
     (api_key::OFFSET_COMMIT, 2, 2, 2, 4),
     (api_key::OFFSET_FETCH, 1, 1, 1, 4),
-    (api_key::FIND_COORDINATOR, 0, 0, 0, 0),
+    (api_key::FIND_COORDINATOR, 0, 0, 0, 2),
     (api_key::JOIN_GROUP, 1, 1, 1, 3),
     (api_key::HEARTBEAT, 0, 0, 0, 2),
     (api_key::LEAVE_GROUP, 0, 0, 0, 2),
@@ -49,7 +49,7 @@ const APIS: [Api; 20] = [
     (group_key::DESCRIBE_GROUPS, 0, -1, 0, 2),
     (group_key::LIST_GROUPS, 0, -1, 0, 2),
     (api_key::SASL_HANDSHAKE, 1, 1, 0, 1),
-    (api_key::API_VERSIONS, 0, 0, 0, 0),
+    (api_key::API_VERSIONS, 0, 0, 0, 2),
     (api_key::CREATE_TOPICS, 0, 0, 0, 3),
     (api_key::DELETE_TOPICS, 0, 0, 0, 3),
     (api_key::DELETE_RECORDS, 0, 0, 0, 1),
@@ -62,9 +62,8 @@ const APIS: [Api; 20] = [
 pub enum Listing {
     /// Each API at one version, but Fetch at 4 and 5.
     Served,
-    /// The same, and what stock clients ask for beside: Metadata from 0 to 4, SaslHandshake from 0 on, CreateTopics and DeleteTopics
-    /// up to 3, DescribeGroups and ListGroups from 0 to 2, and of nine other APIs the versions that are laid out as these, but for a
-    /// throttle time. Older clients log in by SaslHandshake 0, and librdkafka looks for it in the list before it logs in by version 1.
+    /// The same, and what stock clients ask for beside: of each API but SaslAuthenticate more versions, and DescribeGroups and
+    /// ListGroups. Older clients log in by SaslHandshake 0, and librdkafka looks for it in the list before it logs in by version 1.
     StockClients,
 }
 

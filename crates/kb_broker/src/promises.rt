@@ -1,6 +1,7 @@
 //! Laws about whole runs, each as the contract of a function with an empty body, or with one that only looks at a broker.
 
 ghost use Rattle.std.specs.Prelude.{◌≡◌, ◌≢◌, ℕ, Bool, List, Some, true, false, map};
+ghost use Rattle.kb_wire.specs.declared.api_key.TheConstants.{FETCH, METADATA, PRODUCE};
 ghost use Rattle.kb_settings.specs.declared.settings.Settings.{Settings};
 ghost use Rattle.kb_tenant.specs.LimitsKept.{AreLimitsKept};
 ghost use Rattle.kb_isolation_spec.specs.Broker.{BrokerState, IsCalmFor, IsRun, Mine, bound_to, kept_of, view_of};
@@ -19,7 +20,7 @@ ghost use Rattle.kb_broker.specs.declared.run.Event.{Event};
 ghost use Rattle.kb_broker.specs.declared.run.Written.{Written};
 ghost use Rattle.kb_broker.specs.Hosts.{is_honest};
 ghost use Rattle.kb_broker.specs.Members.{numbered_from};
-ghost use Rattle.kb_broker.specs.Opening.{opening_listing};
+ghost use Rattle.kb_broker.specs.Opening.{lists, opening_listing};
 ghost use Rattle.kb_broker.specs.Runs.{happenings, sent_of, connections_of};
 
 use crate::broker::Broker;
@@ -69,6 +70,15 @@ pub fn nobody_is_stranded()
     ensures shut { (t n : ℕ) (b : BrokerState) → NoneStranded b → IsLimitedIn (find_line n b.lines) → is_shut n b ≡ true
         → members_of b.tenants t n ≡ 0 }
     ensures elsewhere { (t n : ℕ) (b : BrokerState) → NoneStranded b → bound_to n b ≢ Some t → members_of b.tenants t n ≡ 0 }
+{}
+
+/// Neither listing has a part of a release alone which some clients take for the whole: they infer a release from the list, and then
+/// send its versions unasked. With Produce 7 or Fetch 10 they would compress by zstd, which no batch may be.
+pub fn listings_are_coherent()
+    ensures metadata { (listing : Listing) → lists listing METADATA 5 ≡ true → lists listing PRODUCE 4 ≡ true }
+    ensures sessions { (listing : Listing) → lists listing FETCH 7 ≡ true → lists listing PRODUCE 5 ≡ true }
+    ensures epochs { (listing : Listing) → lists listing FETCH 8 ≡ true → lists listing PRODUCE 6 ≡ true }
+    ensures zstd { (listing : Listing) → (lists listing PRODUCE 7 ≡ false) × (lists listing FETCH 10 ≡ false) }
 {}
 
 /// No run of a broker brings what a tenant has past its limits, whatever others do: the bytes of its batches, its topics, their

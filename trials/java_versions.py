@@ -33,6 +33,8 @@ class Java(Client):
         if code != 35:
             raise SystemExit(f"an ApiVersions of version 4 is answered {code}")
         _, listed = self.listed(0, b"")
+        if [self.listed(version, b"")[1] for version in (1, 2)] != [listed, listed]:
+            raise SystemExit("ApiVersions 1 and 2 list something else than 0")
         self.versions = {}
         for name, (key, least, greatest) in CLIENT.items():
             self.versions[name] = min(greatest, listed[key][1])
@@ -43,7 +45,10 @@ class Java(Client):
         """The error code of an ApiVersions, and the least and greatest version of each key."""
         got = Cursor(self.ask(18, version, body))
         code = got.take(">h")
-        return code, {got.take(">h"): (got.take(">h"), got.take(">h")) for _ in range(got.take(">i"))}
+        versions = {got.take(">h"): (got.take(">h"), got.take(">h")) for _ in range(got.take(">i"))}
+        if code == 0 and version >= 1 and got.take(">i") != 0:
+            raise SystemExit("ApiVersions: it does not end with a throttle time of 0")
+        return code, versions
 
     def call(self, name, body, throttled):
         """The reply to a request of the version that was chosen. A throttle time in front of it is 0."""
@@ -115,8 +120,15 @@ class Java(Client):
 
     def find(self):
         """FindCoordinator: the error code and the port."""
-        got = self.call("FindCoordinator", text(GROUP), 1)
+        return self.coordinator(GROUP, 0)
+
+    def coordinator(self, key, kind):
+        """FindCoordinator for a key of a type, which version 0 does not say: the error code and the port."""
+        typed = self.versions["FindCoordinator"] >= 1
+        got = self.call("FindCoordinator", text(key) + (struct.pack(">b", kind) if typed else b""), 1)
         code = got.take(">h")
+        if typed and got.text() is not None:
+            raise SystemExit("FindCoordinator: a message that is not null")
         got.take(">i"), got.text()
         return code, got.take(">i")
 
@@ -169,7 +181,8 @@ class Java(Client):
 
     def end(self):
         """ListOffsets: the end of the log."""
-        got = self.call("ListOffsets", struct.pack(">i", -1) + place(TOPIC) + struct.pack(">q", -1), 2)
+        level = struct.pack(">b", 1) if self.versions["ListOffsets"] >= 2 else b""
+        got = self.call("ListOffsets", struct.pack(">i", -1) + level + place(TOPIC) + struct.pack(">q", -1), 2)
         got.take(">i"), got.text(), got.take(">i"), got.take(">i")
         return got.take(">h"), got.take(">q"), got.take(">q")
 
@@ -193,6 +206,7 @@ def must(what, got, wanted):
 def group(port, one, two, value):
     """Two members of a group share a topic; the first one leads, and commits."""
     must("FindCoordinator", one.find(), (0, port))
+    must("FindCoordinator of a transaction", one.coordinator(b"payments", 1), (53, -1))
     one.join(b"")
     code, first, lead, members = one.joined()
     must("JoinGroup", (code, members), (0, [lead]))

@@ -31,6 +31,7 @@ use Rattle.kb_tenants.specs.Members.{HaveNoGroup}
 use Rattle.kb_tenants.specs.Tenants.{AreKept, AreLeftAlone, AreSettled, HaveNothingRefused, IsIdleUntil, IsLeftAlone, commands_of, hosted}
 use Rattle.kb_tenants.specs.Tenants.{parts_of, regrouped, state_of, strays_of}
 use Rattle.kb_tenants.specs.Turns.{IsShelfTurn, seen_at}
+use Rattle.kb_tenants.specs.declared.counts.Counts.{Counts}
 use Rattle.kb_tenants.specs.declared.tenants.Tenant.{Tenant}
 use Rattle.kb_tenants.specs.declared.tenants.Tenants.{Tenants}
 use Rattle.kb_tenants.proofs.Accounted.{accounted_rises, accounted_turn}
@@ -129,9 +130,9 @@ commands_here log (y ∷ ts) (suc t) x at = commands_here log ts t x at
 
 -- ---- a step of one tenant
 
--- the tenants after a call that left the tenant at a place these parts and groups, and this shelf
-abbrev pub after : {L S : Type 0} → Tenants L S → ℕ → Tenant L → Parts L → Groups → Shelved S → Tenants L S
-after ts t x p gs shelf = record ts { tenants = with_item ts.tenants t (record x { parts = p; groups = gs }); shelf = shelf }
+-- the tenants after a call that left the tenant at a place these parts, groups and counts, and this shelf
+abbrev pub after : {L S : Type 0} → Tenants L S → ℕ → Tenant L → Parts L → Groups → Counts → Shelved S → Tenants L S
+after ts t x p gs cs shelf = record ts { tenants = with_item ts.tenants t (record x { parts = p; groups = gs; counts = cs }); shelf = shelf }
 
 -- what is due for a tenant is what it is seen to be
 pub idle_here : {L : Type 0} (log : L → Log) (files : Files) (ts : List (Tenant L)) (t : ℕ) (x : Tenant L) (until : ℤ) → slice_get ts t ≡ Some x → Agrees log x.parts files → IsQuiet log x until
@@ -150,7 +151,7 @@ module _ {L S : Type 0} (log : L → Log) (disk : S → Disk) (old : Tenants L S
   pub sound_here : AreKept log disk old → IsSound log x.parts (disk old.shelf.store).table old.shelf.next
   sound_here kept = kept.sound.each t x.parts parts_stand
 
-module _ {L S : Type 0} (log : L → Log) (disk : S → Disk) (law : (l : L) → IsLawfulLog (log l)) (old : Tenants L S) (t : ℕ) (x : Tenant L) (p : Parts L) (gs : Groups) (shelf : Shelved S)
+module _ {L S : Type 0} (log : L → Log) (disk : S → Disk) (law : (l : L) → IsLawfulLog (log l)) (old : Tenants L S) (t : ℕ) (x : Tenant L) (p : Parts L) (gs : Groups) (cs : Counts) (shelf : Shelved S)
     (lt : t < length (hosted log disk old)) (read : x ≡ get_or old.tenants.items t x)
     (kept : AreKept log disk old) (step : IsChange (scene log disk x.parts old.shelf) (scene log disk p shelf)) where
   there : slice_get old.tenants.items t ≡ Some x
@@ -159,24 +160,24 @@ module _ {L S : Type 0} (log : L → Log) (disk : S → Disk) (law : (l : L) →
   parts_there : slice_get (parts_of old.tenants.items) t ≡ Some x.parts
   parts_there = parts_stand log disk old t x lt read
 
-  there_after : slice_get (after old t x p gs shelf).tenants.items t ≡ Some (record x { parts = p; groups = gs })
-  there_after = put_here old.tenants.items t x (record x { parts = p; groups = gs }) there
+  pub there_after : slice_get (after old t x p gs cs shelf).tenants.items t ≡ Some (record x { parts = p; groups = gs; counts = cs })
+  there_after = put_here old.tenants.items t x (record x { parts = p; groups = gs; counts = cs }) there
 
-  parts_after : parts_of (after old t x p gs shelf).tenants.items ≡ slice_set (parts_of old.tenants.items) t p
-  parts_after = map-set (λ (z : Tenant L). z.parts) old.tenants.items t (record x { parts = p; groups = gs })
+  parts_after : parts_of (after old t x p gs cs shelf).tenants.items ≡ slice_set (parts_of old.tenants.items) t p
+  parts_after = map-set (λ (z : Tenant L). z.parts) old.tenants.items t (record x { parts = p; groups = gs; counts = cs })
 
-  shelf_turn : IsShelfTurn log t (parts_of old.tenants.items) (parts_of (after old t x p gs shelf).tenants.items) (disk old.shelf.store) (disk shelf.store) old.shelf.next shelf.next
+  shelf_turn : IsShelfTurn log t (parts_of old.tenants.items) (parts_of (after old t x p gs cs shelf).tenants.items) (disk old.shelf.store) (disk shelf.store) old.shelf.next shelf.next
   shelf_turn =
       subst (λ qs. IsShelfTurn log t (parts_of old.tenants.items) qs (disk old.shelf.store) (disk shelf.store) old.shelf.next shelf.next) (sym parts_after)
       (turn log law (parts_of old.tenants.items) t x.parts p (disk old.shelf.store) (disk shelf.store) old.shelf.next shelf.next parts_there kept.sound step)
 
-  kept_idle : (until : ℤ) → ((disk shelf.store).honest → IsIdleUntil until (hosted log disk (after old t x p gs shelf))) → AreKept log disk (record (after old t x p gs shelf) { next_retention_time = until })
+  kept_idle : (until : ℤ) → ((disk shelf.store).honest → IsIdleUntil until (hosted log disk (after old t x p gs cs shelf))) → AreKept log disk (record (after old t x p gs cs shelf) { next_retention_time = until })
   kept_idle until idle = record {
     sound = shelf_turn.sound;
     named = λ u y here. ⊎_elim
         (λ s. subst (λ (z : Tenant L). string_bytes z.parts.tenant ≡ string_bytes z.name) (sym s.1) (step.named ∙ kept.named t x there))
         (λ o. kept.named u y o.1)
-        (get_put old.tenants.items t u x (record x { parts = p; groups = gs }) y there here);
+        (get_put old.tenants.items t u x (record x { parts = p; groups = gs; counts = cs }) y there here);
     apart = λ file stray. subst (λ qs. IsLeftAlone log qs shelf.next file) (sym parts_after)
         (alone_stays log law (parts_of old.tenants.items) t x.parts p (disk old.shelf.store) (disk shelf.store) old.shelf.next shelf.next parts_there kept.sound step file (kept.apart file stray));
     settled = λ known none. subst (λ qs. AreSettled log qs (strays_of old.strays) (disk shelf.store)) (sym parts_after)
@@ -191,99 +192,99 @@ module _ {L S : Type 0} (log : L → Log) (disk : S → Disk) (law : (l : L) →
   alone_after honest file stray =
       bytes_stay log law (parts_of old.tenants.items) t x.parts p (disk old.shelf.store) (disk shelf.store) old.shelf.next shelf.next parts_there kept.sound step honest file (kept.apart file stray)
 
-  counts_after : counts_in (after old t x p gs shelf).tenants.items ≡ slice_set (counts_in old.tenants.items) t p.refusals
+  counts_after : counts_in (after old t x p gs cs shelf).tenants.items ≡ slice_set (counts_in old.tenants.items) t p.refusals
   unfolding counts_in
-  counts_after = map-set (λ (z : Tenant L). z.parts.refusals) old.tenants.items t (record x { parts = p; groups = gs })
+  counts_after = map-set (λ (z : Tenant L). z.parts.refusals) old.tenants.items t (record x { parts = p; groups = gs; counts = cs })
 
-  count_after : (u : ℕ) → refusals_of (hosted log disk (after old t x p gs shelf)) u ≡ get_or (slice_set (counts_in old.tenants.items) t p.refusals) u 0
-  count_after u = refusals_seen log (disk shelf.store).files (after old t x p gs shelf).tenants.items u ∙ ap (λ ns. get_or ns u 0) counts_after
+  count_after : (u : ℕ) → refusals_of (hosted log disk (after old t x p gs cs shelf)) u ≡ get_or (slice_set (counts_in old.tenants.items) t p.refusals) u 0
+  count_after u = refusals_seen log (disk shelf.store).files (after old t x p gs cs shelf).tenants.items u ∙ ap (λ ns. get_or ns u 0) counts_after
 
   -- the count of another tenant is as it was
-  counts_stay : (u : ℕ) → (u ≡ t → ⊥) → refusals_of (hosted log disk (after old t x p gs shelf)) u ≡ refusals_of (hosted log disk old) u
+  counts_stay : (u : ℕ) → (u ≡ t → ⊥) → refusals_of (hosted log disk (after old t x p gs cs shelf)) u ≡ refusals_of (hosted log disk old) u
   counts_stay u ne =
       count_after u ∙ get_or-set_other (counts_in old.tenants.items) t u p.refusals 0 ne ∙ sym (refusals_seen log (disk old.shelf.store).files old.tenants.items u)
 
   -- no count is less
-  counts_rise : (u : ℕ) → refusals_of (hosted log disk old) u ≤ refusals_of (hosted log disk (after old t x p gs shelf)) u
+  counts_rise : (u : ℕ) → refusals_of (hosted log disk old) u ≤ refusals_of (hosted log disk (after old t x p gs cs shelf)) u
   counts_rise u =
       let was = refusals_seen log (disk old.shelf.store).files old.tenants.items in
       let here : get_or (counts_in old.tenants.items) t 0 ≡ x.parts.refusals = sym (was t) ∙ refusals_here log (disk old.shelf.store).files old.tenants.items t x there in
       let more = rises (counts_in old.tenants.items) t u p.refusals (omega (arith, here, step.grows)) in
       omega (arith, more, was u, count_after u)
 
-  names_stay : names_in (after old t x p gs shelf).tenants.items ≡ names_in old.tenants.items
+  names_stay : names_in (after old t x p gs cs shelf).tenants.items ≡ names_in old.tenants.items
   unfolding names_in
-  names_stay = map-set_same (λ (z : Tenant L). string_bytes z.name) old.tenants.items t (record x { parts = p; groups = gs }) x
+  names_stay = map-set_same (λ (z : Tenant L). string_bytes z.name) old.tenants.items t (record x { parts = p; groups = gs; counts = cs }) x
       (ap (λ (z : Tenant L). string_bytes z.name) (sym (get_or_from_slice_get old.tenants.items t x x there)))
 
   -- the groups of another tenant are as they were
-  groups_stay : (u : ℕ) → (u ≡ t → ⊥) → get_or (groups_in (after old t x p gs shelf).tenants.items) u none ≡ get_or (groups_in old.tenants.items) u none
+  groups_stay : (u : ℕ) → (u ≡ t → ⊥) → get_or (groups_in (after old t x p gs cs shelf).tenants.items) u none ≡ get_or (groups_in old.tenants.items) u none
   unfolding groups_in
   groups_stay u ne =
-      ap (λ gss. get_or gss u none) (map-set (λ (z : Tenant L). z.groups) old.tenants.items t (record x { parts = p; groups = gs }))
+      ap (λ gss. get_or gss u none) (map-set (λ (z : Tenant L). z.groups) old.tenants.items t (record x { parts = p; groups = gs; counts = cs }))
       ∙ get_or-set_other (map (λ (z : Tenant L). z.groups) old.tenants.items) t u gs none ne
 
   -- the step is a turn of what is seen
-  pub turn_after : IsTurn t (disk shelf.store).honest (hosted log disk old) (hosted log disk (after old t x p gs shelf))
+  pub turn_after : IsTurn t (disk shelf.store).honest (hosted log disk old) (hosted log disk (after old t x p gs cs shelf))
   turn_after = record {
-    names = names_seen log (disk shelf.store).files (after old t x p gs shelf).tenants.items ∙ names_stay ∙ sym (names_seen log (disk old.shelf.store).files old.tenants.items);
+    names = names_seen log (disk shelf.store).files (after old t x p gs cs shelf).tenants.items ∙ names_stay ∙ sym (names_seen log (disk old.shelf.store).files old.tenants.items);
     grows = counts_rise;
     counts = counts_stay;
     others = λ honest u ne.
-        kept_seen log (disk shelf.store).files (after old t x p gs shelf).tenants.items u
-        ∙ ap (λ o. joined o (get_or (groups_in (after old t x p gs shelf).tenants.items) u none)) (shelf_turn.worlds honest u ne)
+        kept_seen log (disk shelf.store).files (after old t x p gs cs shelf).tenants.items u
+        ∙ ap (λ o. joined o (get_or (groups_in (after old t x p gs cs shelf).tenants.items) u none)) (shelf_turn.worlds honest u ne)
         ∙ ap (joined (seen_at log (parts_of old.tenants.items) (disk old.shelf.store).files u)) (groups_stay u ne)
         ∙ sym (kept_seen log (disk old.shelf.store).files old.tenants.items u);
   }
 
   -- what the tenant keeps now
-  pub kept_now : kept_of (hosted log disk (after old t x p gs shelf)) t ≡ kept_in (world_of log p (disk shelf.store).files) gs
-  kept_now = kept_here log (disk shelf.store).files (after old t x p gs shelf).tenants.items t (record x { parts = p; groups = gs }) there_after
+  pub kept_now : kept_of (hosted log disk (after old t x p gs cs shelf)) t ≡ kept_in (world_of log p (disk shelf.store).files) gs
+  kept_now = kept_here log (disk shelf.store).files (after old t x p gs cs shelf).tenants.items t (record x { parts = p; groups = gs; counts = cs }) there_after
 
   -- where the tenant is looked at
-  pub kept_after : (until : ℤ) → until ≤ℤ old.next_retention_time → IsQuiet log (record x { parts = p; groups = gs }) until → AreKept log disk (record (after old t x p gs shelf) { next_retention_time = until })
+  pub kept_after : (until : ℤ) → until ≤ℤ old.next_retention_time → IsQuiet log (record x { parts = p; groups = gs; counts = cs }) until → AreKept log disk (record (after old t x p gs cs shelf) { next_retention_time = until })
   kept_after until sooner quiet = kept_idle until (λ honest.
       let before = shelf_turn.honest honest in
-      idle_turn until old.next_retention_time t (disk shelf.store).honest (hosted log disk old) (hosted log disk (after old t x p gs shelf)) turn_after honest sooner (kept.until before)
-      (idle_here log (disk shelf.store).files (after old t x p gs shelf).tenants.items t (record x { parts = p; groups = gs }) until there_after (step.frame.agrees honest (kept.agree before t x.parts parts_there)) quiet))
+      idle_turn until old.next_retention_time t (disk shelf.store).honest (hosted log disk old) (hosted log disk (after old t x p gs cs shelf)) turn_after honest sooner (kept.until before)
+      (idle_here log (disk shelf.store).files (after old t x p gs cs shelf).tenants.items t (record x { parts = p; groups = gs; counts = cs }) until there_after (step.frame.agrees honest (kept.agree before t x.parts parts_there)) quiet))
 
   -- where all keep what they kept
-  pub kept_same : ((disk shelf.store).honest → (u : ℕ) → kept_of (hosted log disk (after old t x p gs shelf)) u ≡ kept_of (hosted log disk old) u) → AreKept log disk (after old t x p gs shelf)
+  pub kept_same : ((disk shelf.store).honest → (u : ℕ) → kept_of (hosted log disk (after old t x p gs cs shelf)) u ≡ kept_of (hosted log disk old) u) → AreKept log disk (after old t x p gs cs shelf)
   kept_same same = kept_idle old.next_retention_time (λ honest.
-      idle_stays old.next_retention_time (hosted log disk old) (hosted log disk (after old t x p gs shelf)) (same honest) (kept.until (shelf_turn.honest honest)))
+      idle_stays old.next_retention_time (hosted log disk old) (hosted log disk (after old t x p gs cs shelf)) (same honest) (kept.until (shelf_turn.honest honest)))
 
   -- a calm that is seen is one of the tenant's parts
-  pub calm_here : IsCalm (refusals_of (hosted log disk old) t) (refusals_of (hosted log disk (after old t x p gs shelf)) t) → IsCalm x.parts.refusals p.refusals
+  pub calm_here : IsCalm (refusals_of (hosted log disk old) t) (refusals_of (hosted log disk (after old t x p gs cs shelf)) t) → IsCalm x.parts.refusals p.refusals
   calm_here calm =
-      subst (λ n. IsCalm x.parts.refusals n) (refusals_here log (disk shelf.store).files (after old t x p gs shelf).tenants.items t (record x { parts = p; groups = gs }) there_after)
-      (subst (λ n. IsCalm n (refusals_of (hosted log disk (after old t x p gs shelf)) t)) (refusals_here log (disk old.shelf.store).files old.tenants.items t x there) calm)
+      subst (λ n. IsCalm x.parts.refusals n) (refusals_here log (disk shelf.store).files (after old t x p gs cs shelf).tenants.items t (record x { parts = p; groups = gs; counts = cs }) there_after)
+      (subst (λ n. IsCalm n (refusals_of (hosted log disk (after old t x p gs cs shelf)) t)) (refusals_here log (disk old.shelf.store).files old.tenants.items t x there) calm)
 
   -- and a calm of its parts is one that is seen
-  pub calm_seen : IsCalm x.parts.refusals p.refusals → IsCalm (refusals_of (hosted log disk old) t) (refusals_of (hosted log disk (after old t x p gs shelf)) t)
+  pub calm_seen : IsCalm x.parts.refusals p.refusals → IsCalm (refusals_of (hosted log disk old) t) (refusals_of (hosted log disk (after old t x p gs cs shelf)) t)
   calm_seen calm =
-      subst (λ n. IsCalm (refusals_of (hosted log disk old) t) n) (sym (refusals_here log (disk shelf.store).files (after old t x p gs shelf).tenants.items t (record x { parts = p; groups = gs }) there_after))
+      subst (λ n. IsCalm (refusals_of (hosted log disk old) t) n) (sym (refusals_here log (disk shelf.store).files (after old t x p gs cs shelf).tenants.items t (record x { parts = p; groups = gs; counts = cs }) there_after))
       (subst (λ n. IsCalm n p.refusals) (sym (refusals_here log (disk old.shelf.store).files old.tenants.items t x there)) calm)
 
   -- where the tenant keeps what it kept, all do
   pub stays_after : ((disk shelf.store).honest → Agrees log x.parts (disk old.shelf.store).files → kept_in (world_of log p (disk shelf.store).files) gs ≡ kept_in (world_of log x.parts (disk old.shelf.store).files) x.groups)
-      → (disk shelf.store).honest → (u : ℕ) → kept_of (hosted log disk (after old t x p gs shelf)) u ≡ kept_of (hosted log disk old) u
+      → (disk shelf.store).honest → (u : ℕ) → kept_of (hosted log disk (after old t x p gs cs shelf)) u ≡ kept_of (hosted log disk old) u
   stays_after same honest u =
-      let here : kept_of (hosted log disk (after old t x p gs shelf)) t ≡ kept_of (hosted log disk old) t =
-      kept_here log (disk shelf.store).files (after old t x p gs shelf).tenants.items t (record x { parts = p; groups = gs }) there_after
+      let here : kept_of (hosted log disk (after old t x p gs cs shelf)) t ≡ kept_of (hosted log disk old) t =
+      kept_here log (disk shelf.store).files (after old t x p gs cs shelf).tenants.items t (record x { parts = p; groups = gs; counts = cs }) there_after
       ∙ same honest (kept.agree (shelf_turn.honest honest) t x.parts parts_there)
       ∙ sym (kept_here log (disk old.shelf.store).files old.tenants.items t x there) in
       ⊎_elim
-      (λ is. subst (λ v. kept_of (hosted log disk (after old t x p gs shelf)) v ≡ kept_of (hosted log disk old) v) (sym is) here)
+      (λ is. subst (λ v. kept_of (hosted log disk (after old t x p gs cs shelf)) v ≡ kept_of (hosted log disk old) v) (sym is) here)
       (λ ne. turn_after.others honest u ne)
       (same_or_not u t)
 
   -- what the step meets is what is seen
   pub met_after : (P : Kept → Kept → Type 0)
       → Meets (scene log disk x.parts old.shelf) (scene log disk p shelf) (P (kept_in (world_of log x.parts (disk old.shelf.store).files) x.groups) (kept_in (world_of log p (disk shelf.store).files) gs))
-      → IsMet t (disk shelf.store).honest (hosted log disk old) (hosted log disk (after old t x p gs shelf)) P
+      → IsMet t (disk shelf.store).honest (hosted log disk old) (hosted log disk (after old t x p gs cs shelf)) P
   met_after P meets honest calm =
-      subst (λ k. P k (kept_of (hosted log disk (after old t x p gs shelf)) t)) (sym (kept_here log (disk old.shelf.store).files old.tenants.items t x there))
-      (subst (λ k. P (kept_in (world_of log x.parts (disk old.shelf.store).files) x.groups) k) (sym (kept_here log (disk shelf.store).files (after old t x p gs shelf).tenants.items t (record x { parts = p; groups = gs }) there_after))
+      subst (λ k. P k (kept_of (hosted log disk (after old t x p gs cs shelf)) t)) (sym (kept_here log (disk old.shelf.store).files old.tenants.items t x there))
+      (subst (λ k. P (kept_in (world_of log x.parts (disk old.shelf.store).files) x.groups) k) (sym (kept_here log (disk shelf.store).files (after old t x p gs cs shelf).tenants.items t (record x { parts = p; groups = gs; counts = cs }) there_after))
       (meets honest (kept.agree (shelf_turn.honest honest) t x.parts parts_there) (calm_here calm)))
 
 -- ---- a refusal is counted
@@ -296,51 +297,51 @@ module _ {L S : Type 0} (log : L → Log) (disk : S → Disk) (law : (l : L) →
       subst (λ (v : Parts L). IsChange a (scene log disk v old.shelf)) (sym counted)
       (called (refused_step log a x.parts (disk old.shelf.store) old.shelf.next (step_same a (sound_here log disk old t x lt read kept))))
 
-  kepts_stay : kepts_in log (disk old.shelf.store).files (after old t x p x.groups old.shelf).tenants.items ≡ kepts_in log (disk old.shelf.store).files old.tenants.items
+  kepts_stay : kepts_in log (disk old.shelf.store).files (after old t x p x.groups x.counts old.shelf).tenants.items ≡ kepts_in log (disk old.shelf.store).files old.tenants.items
   unfolding kepts_in
   kepts_stay =
       let files = (disk old.shelf.store).files in
       map-set_same (λ (z : Tenant L). kept_in (world_of log z.parts files) z.groups) old.tenants.items t (record x { parts = p }) x
       (ap (λ (v : Parts L). kept_in (world_of log v files) x.groups) counted ∙ ap (λ (z : Tenant L). kept_in (world_of log z.parts files) z.groups) (sym (get_or_from_slice_get old.tenants.items t x x (stands log disk old t x lt read))))
 
-  pub kept_stays : (u : ℕ) → kept_of (hosted log disk (after old t x p x.groups old.shelf)) u ≡ kept_of (hosted log disk old) u
+  pub kept_stays : (u : ℕ) → kept_of (hosted log disk (after old t x p x.groups x.counts old.shelf)) u ≡ kept_of (hosted log disk old) u
   kept_stays u =
       let files = (disk old.shelf.store).files in
-      ap (λ ks. get_or ks u nothing) (kepts_seen log files (after old t x p x.groups old.shelf).tenants.items ∙ kepts_stay ∙ sym (kepts_seen log files old.tenants.items))
+      ap (λ ks. get_or ks u nothing) (kepts_seen log files (after old t x p x.groups x.counts old.shelf).tenants.items ∙ kepts_stay ∙ sym (kepts_seen log files old.tenants.items))
 
-  pub kept_refused : AreKept log disk (after old t x p x.groups old.shelf)
-  kept_refused = kept_same log disk law old t x p x.groups old.shelf lt read kept refused_at (λ honest. kept_stays)
+  pub kept_refused : AreKept log disk (after old t x p x.groups x.counts old.shelf)
+  kept_refused = kept_same log disk law old t x p x.groups x.counts old.shelf lt read kept refused_at (λ honest. kept_stays)
 
   -- what is kept needs no honest store here
-  pub turn_refused : IsTurn t (Unit {0}) (hosted log disk old) (hosted log disk (after old t x p x.groups old.shelf))
+  pub turn_refused : IsTurn t (Unit {0}) (hosted log disk old) (hosted log disk (after old t x p x.groups x.counts old.shelf))
   turn_refused =
-      let told = turn_after log disk law old t x p x.groups old.shelf lt read kept refused_at in
+      let told = turn_after log disk law old t x p x.groups x.counts old.shelf lt read kept refused_at in
       record { names = told.names; grows = told.grows; counts = told.counts; others = λ honest u ne. kept_stays u }
 
-  pub loud_refused : IsCalm (refusals_of (hosted log disk old) t) (refusals_of (hosted log disk (after old t x p x.groups old.shelf)) t) → ⊥
+  pub loud_refused : IsCalm (refusals_of (hosted log disk old) t) (refusals_of (hosted log disk (after old t x p x.groups x.counts old.shelf)) t) → ⊥
   loud_refused calm =
       loud x.parts.refusals x.parts (omega arith)
-      (subst (λ (v : Parts L). IsCalm x.parts.refusals v.refusals) counted (calm_here log disk law old t x p x.groups old.shelf lt read kept refused_at calm))
+      (subst (λ (v : Parts L). IsCalm x.parts.refusals v.refusals) counted (calm_here log disk law old t x p x.groups x.counts old.shelf lt read kept refused_at calm))
 
   -- it is one refusal more, short of the end
-  pub once_refused : refusals_of (hosted log disk (after old t x p x.groups old.shelf)) t ≡ counted_once (refusals_of (hosted log disk old) t)
+  pub once_refused : refusals_of (hosted log disk (after old t x p x.groups x.counts old.shelf)) t ≡ counted_once (refusals_of (hosted log disk old) t)
   once_refused =
       let files = (disk old.shelf.store).files in
       let was = refusals_here log files old.tenants.items t x (stands log disk old t x lt read) in
-      let is = refusals_here log files (after old t x p x.groups old.shelf).tenants.items t (record x { parts = p }) (there_after log disk law old t x p x.groups old.shelf lt read kept refused_at) in
+      let is = refusals_here log files (after old t x p x.groups x.counts old.shelf).tenants.items t (record x { parts = p }) (there_after log disk law old t x p x.groups x.counts old.shelf lt read kept refused_at) in
       is ∙ ap (λ (v : Parts L). v.refusals) counted ∙ sym (ap counted_once was)
 
   -- no log of a catalog has recorded more
-  pub commands_stay : (u : ℕ) → commands_of log (after old t x p x.groups old.shelf) u ≡ commands_of log old u
+  pub commands_stay : (u : ℕ) → commands_of log (after old t x p x.groups x.counts old.shelf) u ≡ commands_of log old u
   commands_stay u =
       ap (λ ns. get_or ns u 0) (map-set_same (recorded log) old.tenants.items t (record x { parts = p }) x
       (ap (λ (v : Parts L). (meta log v).end) counted
       ∙ ap (recorded log) (sym (get_or_from_slice_get old.tenants.items t x x (stands log disk old t x lt read)))))
 
-  pub accounted_refused : IsAccounted (hosted log disk old) (hosted log disk (after old t x p x.groups old.shelf)) (disk old.shelf.store).failures (disk old.shelf.store).failures
+  pub accounted_refused : IsAccounted (hosted log disk old) (hosted log disk (after old t x p x.groups x.counts old.shelf)) (disk old.shelf.store).failures (disk old.shelf.store).failures
   accounted_refused =
-      accounted_rises (hosted log disk old) (hosted log disk (after old t x p x.groups old.shelf)) (disk old.shelf.store).failures
-      (length_named (hosted log disk old) (hosted log disk (after old t x p x.groups old.shelf)) turn_refused.names) turn_refused.grows
+      accounted_rises (hosted log disk old) (hosted log disk (after old t x p x.groups x.counts old.shelf)) (disk old.shelf.store).failures
+      (length_named (hosted log disk old) (hosted log disk (after old t x p x.groups x.counts old.shelf)) turn_refused.names) turn_refused.grows
 
 -- ---- groups are limited
 
@@ -368,11 +369,11 @@ module _ {L S : Type 0} (log : L → Log) (disk : S → Disk) (law : (l : L) →
   step_own : IsChange (scene log disk x.parts old.shelf) (scene log disk x.parts old.shelf)
   step_own = called (step_same (scene log disk x.parts old.shelf) (sound_here log disk old t x lt read kept))
 
-  pub kept_left : (until : ℤ) → until ≤ℤ old.next_retention_time → IsQuiet log (record x { groups = gs }) until → AreKept log disk (record (after old t x x.parts gs old.shelf) { next_retention_time = until })
-  kept_left = kept_after log disk law old t x x.parts gs old.shelf lt read kept step_own
+  pub kept_left : (until : ℤ) → until ≤ℤ old.next_retention_time → IsQuiet log (record x { groups = gs }) until → AreKept log disk (record (after old t x x.parts gs x.counts old.shelf) { next_retention_time = until })
+  kept_left = kept_after log disk law old t x x.parts gs x.counts old.shelf lt read kept step_own
 
   pub state_left : (clock n : ℕ) → gs ≡ groups.left clock n x.groups
-      → hosted log disk (after old t x x.parts gs old.shelf) ≡ with_kept t (left clock n (kept_of (hosted log disk old) t)) (hosted log disk old)
+      → hosted log disk (after old t x x.parts gs x.counts old.shelf) ≡ with_kept t (left clock n (kept_of (hosted log disk old) t)) (hosted log disk old)
   unfolding left
   state_left clock n is =
       let files = (disk old.shelf.store).files in
@@ -382,7 +383,7 @@ module _ {L S : Type 0} (log : L → Log) (disk : S → Disk) (law : (l : L) →
       ∙ ap (λ k. with_kept t k (hosted log disk old)) (ap (kept_in (world_of log x.parts files)) is ∙ ap (left clock n) (sym seen))
 
   pub state_limited : (limits : Limits) → gs ≡ limited limits x.groups
-      → hosted log disk (after old t x x.parts gs old.shelf) ≡ limited_at t limits (hosted log disk old)
+      → hosted log disk (after old t x x.parts gs x.counts old.shelf) ≡ limited_at t limits (hosted log disk old)
   state_limited limits is =
       let files = (disk old.shelf.store).files in
       let here = stands log disk old t x lt read in
@@ -400,37 +401,37 @@ module _ {L S : Type 0} (log : L → Log) (disk : S → Disk) (law : (l : L) →
     counted_own = subst (λ (v : Parts L). IsChange (scene log disk x.parts old.shelf) (scene log disk v old.shelf)) (sym counted)
         (raised_change log (scene log disk x.parts old.shelf) x.parts n (disk old.shelf.store) old.shelf.next step_own)
 
-    pub kept_counted : (until : ℤ) → until ≤ℤ old.next_retention_time → IsQuiet log (record x { parts = p; groups = gs }) until → AreKept log disk (record (after old t x p gs old.shelf) { next_retention_time = until })
-    kept_counted = kept_after log disk law old t x p gs old.shelf lt read kept counted_own
+    pub kept_counted : (until : ℤ) → until ≤ℤ old.next_retention_time → IsQuiet log (record x { parts = p; groups = gs }) until → AreKept log disk (record (after old t x p gs x.counts old.shelf) { next_retention_time = until })
+    kept_counted = kept_after log disk law old t x p gs x.counts old.shelf lt read kept counted_own
 
-    pub turn_counted : IsTurn t (disk old.shelf.store).honest (hosted log disk old) (hosted log disk (after old t x p gs old.shelf))
-    turn_counted = turn_after log disk law old t x p gs old.shelf lt read kept counted_own
+    pub turn_counted : IsTurn t (disk old.shelf.store).honest (hosted log disk old) (hosted log disk (after old t x p gs x.counts old.shelf))
+    turn_counted = turn_after log disk law old t x p gs x.counts old.shelf lt read kept counted_own
 
-    pub accounted_counted : IsAccounted (hosted log disk old) (hosted log disk (after old t x p gs old.shelf)) (disk old.shelf.store).failures (disk old.shelf.store).failures
+    pub accounted_counted : IsAccounted (hosted log disk old) (hosted log disk (after old t x p gs x.counts old.shelf)) (disk old.shelf.store).failures (disk old.shelf.store).failures
     accounted_counted =
-        accounted_rises (hosted log disk old) (hosted log disk (after old t x p gs old.shelf)) (disk old.shelf.store).failures
-        (length_named (hosted log disk old) (hosted log disk (after old t x p gs old.shelf)) turn_counted.names) turn_counted.grows
+        accounted_rises (hosted log disk old) (hosted log disk (after old t x p gs x.counts old.shelf)) (disk old.shelf.store).failures
+        (length_named (hosted log disk old) (hosted log disk (after old t x p gs x.counts old.shelf)) turn_counted.names) turn_counted.grows
 
     -- the topics and the logs stay
-    pub topics_counted : (kept_of (hosted log disk (after old t x p gs old.shelf)) t).world ≡ (kept_of (hosted log disk old) t).world
+    pub topics_counted : (kept_of (hosted log disk (after old t x p gs x.counts old.shelf)) t).world ≡ (kept_of (hosted log disk old) t).world
     topics_counted =
         let files = (disk old.shelf.store).files in
         let was = kept_here log files old.tenants.items t x (stands log disk old t x lt read) in
-        let is = kept_now log disk law old t x p gs old.shelf lt read kept counted_own ∙ ap (λ (v : Parts L). kept_in (world_of log v files) gs) counted in
+        let is = kept_now log disk law old t x p gs x.counts old.shelf lt read kept counted_own ∙ ap (λ (v : Parts L). kept_in (world_of log v files) gs) counted in
         ap (λ (k : Kept). k.world) is ∙ ap (λ (k : Kept). k.world) (sym was)
 
     -- what holds of the groups before and now is seen
-    pub groups_counted : (P : Groups → Groups → Type 0) → P x.groups gs → P (kept_of (hosted log disk old) t).groups (kept_of (hosted log disk (after old t x p gs old.shelf)) t).groups
+    pub groups_counted : (P : Groups → Groups → Type 0) → P x.groups gs → P (kept_of (hosted log disk old) t).groups (kept_of (hosted log disk (after old t x p gs x.counts old.shelf)) t).groups
     groups_counted P h =
         let files = (disk old.shelf.store).files in
         let was = kept_here log files old.tenants.items t x (stands log disk old t x lt read) in
-        subst (λ (k : Kept). P k.groups (kept_of (hosted log disk (after old t x p gs old.shelf)) t).groups) (sym was)
-        (subst (λ (k : Kept). P x.groups k.groups) (sym (kept_now log disk law old t x p gs old.shelf lt read kept counted_own)) h)
+        subst (λ (k : Kept). P k.groups (kept_of (hosted log disk (after old t x p gs x.counts old.shelf)) t).groups) (sym was)
+        (subst (λ (k : Kept). P x.groups k.groups) (sym (kept_now log disk law old t x p gs x.counts old.shelf lt read kept counted_own)) h)
 
     -- a moment of the groups, where none was refused memory
     pub met_counted : (clock m : ℕ) → n ≡ min (x.parts.refusals + m) END → (m ≡ 0 → gs ≡ groups.passed clock x.groups)
-        → IsMet t (disk old.shelf.store).honest (hosted log disk old) (hosted log disk (after old t x p gs old.shelf)) (λ k l. l ≡ regrouped clock k)
-    met_counted clock m count all = met_after log disk law old t x p gs old.shelf lt read kept counted_own (λ k l. l ≡ regrouped clock k) (λ honest agree calm.
+        → IsMet t (disk old.shelf.store).honest (hosted log disk old) (hosted log disk (after old t x p gs x.counts old.shelf)) (λ k l. l ≡ regrouped clock k)
+    met_counted clock m count all = met_after log disk law old t x p gs x.counts old.shelf lt read kept counted_own (λ k l. l ≡ regrouped clock k) (λ honest agree calm.
         let files = (disk old.shelf.store).files in
         let same = ap (λ (v : Parts L). v.refusals) counted in
         let none : m ≡ 0 = omega (arith, count, same, calm.same, calm.below) in
@@ -438,27 +439,27 @@ module _ {L S : Type 0} (log : L → Log) (disk : S → Disk) (law : (l : L) →
 
   -- nothing was due
   module _ (same : gs ≡ x.groups) where
-    pub stays_own : (u : ℕ) → kept_of (hosted log disk (after old t x x.parts gs old.shelf)) u ≡ kept_of (hosted log disk old) u
+    pub stays_own : (u : ℕ) → kept_of (hosted log disk (after old t x x.parts gs x.counts old.shelf)) u ≡ kept_of (hosted log disk old) u
     stays_own u =
         let files = (disk old.shelf.store).files in
         let here = stands log disk old t x lt read in
         ap (λ ss. kept_of ss u) (map-set_same (state_of log files) old.tenants.items t (record x { groups = gs }) x
         (ap (λ v. state_of log files (record x { groups = v })) same ∙ ap (state_of log files) (sym (get_or_from_slice_get old.tenants.items t x x here))))
 
-    pub kept_own : AreKept log disk (after old t x x.parts gs old.shelf)
-    kept_own = kept_same log disk law old t x x.parts gs old.shelf lt read kept step_own (λ honest. stays_own)
+    pub kept_own : AreKept log disk (after old t x x.parts gs x.counts old.shelf)
+    kept_own = kept_same log disk law old t x x.parts gs x.counts old.shelf lt read kept step_own (λ honest. stays_own)
 
-    pub turn_own : IsTurn t (disk old.shelf.store).honest (hosted log disk old) (hosted log disk (after old t x x.parts gs old.shelf))
-    turn_own = turn_after log disk law old t x x.parts gs old.shelf lt read kept step_own
+    pub turn_own : IsTurn t (disk old.shelf.store).honest (hosted log disk old) (hosted log disk (after old t x x.parts gs x.counts old.shelf))
+    turn_own = turn_after log disk law old t x x.parts gs x.counts old.shelf lt read kept step_own
 
-    pub accounted_own : IsAccounted (hosted log disk old) (hosted log disk (after old t x x.parts gs old.shelf)) (disk old.shelf.store).failures (disk old.shelf.store).failures
+    pub accounted_own : IsAccounted (hosted log disk old) (hosted log disk (after old t x x.parts gs x.counts old.shelf)) (disk old.shelf.store).failures (disk old.shelf.store).failures
     accounted_own =
-        accounted_rises (hosted log disk old) (hosted log disk (after old t x x.parts gs old.shelf)) (disk old.shelf.store).failures
-        (length_named (hosted log disk old) (hosted log disk (after old t x x.parts gs old.shelf)) turn_own.names) turn_own.grows
+        accounted_rises (hosted log disk old) (hosted log disk (after old t x x.parts gs x.counts old.shelf)) (disk old.shelf.store).failures
+        (length_named (hosted log disk old) (hosted log disk (after old t x x.parts gs x.counts old.shelf)) turn_own.names) turn_own.grows
 
     pub met_own : (clock : ℕ) → groups.is_due clock x.groups ≡ false
-        → IsMet t (disk old.shelf.store).honest (hosted log disk old) (hosted log disk (after old t x x.parts gs old.shelf)) (λ k l. l ≡ regrouped clock k)
-    met_own clock early = met_after log disk law old t x x.parts gs old.shelf lt read kept step_own (λ k l. l ≡ regrouped clock k) (λ honest agree calm.
+        → IsMet t (disk old.shelf.store).honest (hosted log disk old) (hosted log disk (after old t x x.parts gs x.counts old.shelf)) (λ k l. l ≡ regrouped clock k)
+    met_own clock early = met_after log disk law old t x x.parts gs x.counts old.shelf lt read kept step_own (λ k l. l ≡ regrouped clock k) (λ honest agree calm.
         ap (kept_in (world_of log x.parts (disk old.shelf.store).files)) (same ∙ ap (λ b. cond b (groups.at_moment clock x.groups) x.groups) (sym early)))
 
 -- ---- counts
@@ -482,19 +483,19 @@ module _ {L : Type 0} (log : L → Log) (files : Files) where
 
 module _ {L S : Type 0} (log : L → Log) (disk : S → Disk) (law : (l : L) → IsLawfulLog (log l)) (old : Tenants L S) (t : ℕ) (x : Tenant L)
     (lt : t < length (hosted log disk old)) (read : x ≡ get_or old.tenants.items t x) (kept : AreKept log disk old)
-    (mid p : Parts L) (n : ℕ) (gs : Groups) (shelf : Shelved S) (counted : p ≡ raised mid n) (step : IsChange (scene log disk x.parts old.shelf) (scene log disk mid shelf)) where
-  step_called : IsChange (scene log disk x.parts old.shelf) (scene log disk p shelf)
+    (mid p : Parts L) (n : ℕ) (gs : Groups) (cs : Counts) (shelf : Shelved S) (counted : p ≡ raised mid n) (step : IsChange (scene log disk x.parts old.shelf) (scene log disk mid shelf)) where
+  pub step_called : IsChange (scene log disk x.parts old.shelf) (scene log disk p shelf)
   step_called = subst (λ (v : Parts L). IsChange (scene log disk x.parts old.shelf) (scene log disk v shelf)) (sym counted) (raised_change log (scene log disk x.parts old.shelf) mid n (disk shelf.store) shelf.next step)
 
   -- where the tenant is looked at
-  pub kept_called : (until : ℤ) → until ≤ℤ old.next_retention_time → IsQuiet log (record x { parts = p; groups = gs }) until → AreKept log disk (record (after old t x p gs shelf) { next_retention_time = until })
-  kept_called = kept_after log disk law old t x p gs shelf lt read kept step_called
+  pub kept_called : (until : ℤ) → until ≤ℤ old.next_retention_time → IsQuiet log (record x { parts = p; groups = gs; counts = cs }) until → AreKept log disk (record (after old t x p gs cs shelf) { next_retention_time = until })
+  kept_called = kept_after log disk law old t x p gs cs shelf lt read kept step_called
 
   pub alone_called : AreLeftAlone (strays_of old.strays) (disk old.shelf.store) (disk shelf.store)
-  alone_called = alone_after log disk law old t x p gs shelf lt read kept step_called
+  alone_called = alone_after log disk law old t x p gs cs shelf lt read kept step_called
 
-  pub turn_called : IsTurn t (disk shelf.store).honest (hosted log disk old) (hosted log disk (after old t x p gs shelf))
-  turn_called = turn_after log disk law old t x p gs shelf lt read kept step_called
+  pub turn_called : IsTurn t (disk shelf.store).honest (hosted log disk old) (hosted log disk (after old t x p gs cs shelf))
+  turn_called = turn_after log disk law old t x p gs cs shelf lt read kept step_called
 
   -- what is told, where the store is honest, is told of what the tenant is seen to keep
   pub told_called : (P : World → Type 0)
@@ -505,27 +506,27 @@ module _ {L S : Type 0} (log : L → Log) (disk : S → Disk) (law : (l : L) →
       (told honest (kept.agree (step.frame.others.honest honest) t x.parts (parts_stand log disk old t x lt read)))
 
   -- what the tenant keeps now
-  pub now_called : kept_of (hosted log disk (after old t x p gs shelf)) t ≡ kept_in (world_of log p (disk shelf.store).files) gs
-  now_called = kept_now log disk law old t x p gs shelf lt read kept step_called
+  pub now_called : kept_of (hosted log disk (after old t x p gs cs shelf)) t ≡ kept_in (world_of log p (disk shelf.store).files) gs
+  now_called = kept_now log disk law old t x p gs cs shelf lt read kept step_called
 
   -- what the tenant kept
   pub was_called : kept_of (hosted log disk old) t ≡ kept_in (world_of log x.parts (disk old.shelf.store).files) x.groups
   was_called = kept_here log (disk old.shelf.store).files old.tenants.items t x (stands log disk old t x lt read)
 
   -- how many commands the log of its catalog has recorded
-  pub commands_called : commands_of log (after old t x p gs shelf) t ≡ (meta log mid).end
+  pub commands_called : commands_of log (after old t x p gs cs shelf) t ≡ (meta log mid).end
   commands_called =
-      let there = there_after log disk law old t x p gs shelf lt read kept step_called in
-      commands_here log (after old t x p gs shelf).tenants.items t (record x { parts = p; groups = gs }) there ∙ ap (λ (v : Parts L). (meta log v).end) counted
+      let there = there_after log disk law old t x p gs cs shelf lt read kept step_called in
+      commands_here log (after old t x p gs cs shelf).tenants.items t (record x { parts = p; groups = gs; counts = cs }) there ∙ ap (λ (v : Parts L). (meta log v).end) counted
 
   -- what is told, where the store is honest, of what the tenant has recorded, kept before and keeps now, is told of what is seen
   pub truthful_called : (P : ℕ → Kept → Kept → Type 0)
       → WhereHonest (scene log disk x.parts old.shelf) (scene log disk mid shelf) (P (meta log mid).end
       (kept_in (world_of log x.parts (disk old.shelf.store).files) x.groups) (kept_in (world_of log mid (disk shelf.store).files) gs))
-      → (disk shelf.store).honest → P (commands_of log (after old t x p gs shelf) t) (kept_of (hosted log disk old) t)
-      (kept_of (hosted log disk (after old t x p gs shelf)) t)
+      → (disk shelf.store).honest → P (commands_of log (after old t x p gs cs shelf) t) (kept_of (hosted log disk old) t)
+      (kept_of (hosted log disk (after old t x p gs cs shelf)) t)
   truthful_called P told honest =
-      let new = after old t x p gs shelf in
+      let new = after old t x p gs cs shelf in
       let n = commands_of log new t in
       let was = kept_in (world_of log x.parts (disk old.shelf.store).files) x.groups in
       let is : Parts L → Kept = λ v. kept_in (world_of log v (disk shelf.store).files) gs in
@@ -536,49 +537,49 @@ module _ {L S : Type 0} (log : L → Log) (disk : S → Disk) (law : (l : L) →
       (told honest (kept.agree (step.frame.others.honest honest) t x.parts (parts_stand log disk old t x lt read)))))
 
   -- what holds of the groups before and now is seen
-  pub groups_called : (P : Groups → Groups → Type 0) → P x.groups gs → P (kept_of (hosted log disk old) t).groups (kept_of (hosted log disk (after old t x p gs shelf)) t).groups
+  pub groups_called : (P : Groups → Groups → Type 0) → P x.groups gs → P (kept_of (hosted log disk old) t).groups (kept_of (hosted log disk (after old t x p gs cs shelf)) t).groups
   groups_called P h =
       let was = kept_here log (disk old.shelf.store).files old.tenants.items t x (stands log disk old t x lt read) in
-      subst (λ (k : Kept). P k.groups (kept_of (hosted log disk (after old t x p gs shelf)) t).groups) (sym was) (subst (λ (k : Kept). P x.groups k.groups) (sym now_called) h)
+      subst (λ (k : Kept). P k.groups (kept_of (hosted log disk (after old t x p gs cs shelf)) t).groups) (sym was) (subst (λ (k : Kept). P x.groups k.groups) (sym now_called) h)
 
   -- what is met is what is seen
   pub met_called : (P : Kept → Kept → Type 0)
       → Meets (scene log disk x.parts old.shelf) (scene log disk mid shelf) (P (kept_in (world_of log x.parts (disk old.shelf.store).files) x.groups) (kept_in (world_of log mid (disk shelf.store).files) gs))
-      → IsMet t (disk shelf.store).honest (hosted log disk old) (hosted log disk (after old t x p gs shelf)) P
+      → IsMet t (disk shelf.store).honest (hosted log disk old) (hosted log disk (after old t x p gs cs shelf)) P
   met_called P meets =
       let a = scene log disk x.parts old.shelf in
       let was = kept_in (world_of log x.parts (disk old.shelf.store).files) x.groups in
       let now : Parts L → Kept = λ v. kept_in (world_of log v (disk shelf.store).files) gs in
-      met_after log disk law old t x p gs shelf lt read kept step_called P
+      met_after log disk law old t x p gs cs shelf lt read kept step_called P
       (subst (λ (v : Parts L). Meets a (scene log disk v shelf) (P was (now v))) (sym counted)
       (raised_met log a mid n (disk shelf.store) shelf.next step (P was (now mid)) meets))
 
   -- where the world and the groups stay, all keep what they kept
   pub stays_called : gs ≡ x.groups → ((disk shelf.store).honest → Agrees log x.parts (disk old.shelf.store).files → world_of log mid (disk shelf.store).files ≡ world_of log x.parts (disk old.shelf.store).files)
-      → (disk shelf.store).honest → (u : ℕ) → kept_of (hosted log disk (after old t x p gs shelf)) u ≡ kept_of (hosted log disk old) u
-  stays_called is same = stays_after log disk law old t x p gs shelf lt read kept step_called (λ honest agree.
+      → (disk shelf.store).honest → (u : ℕ) → kept_of (hosted log disk (after old t x p gs cs shelf)) u ≡ kept_of (hosted log disk old) u
+  stays_called is same = stays_after log disk law old t x p gs cs shelf lt read kept step_called (λ honest agree.
       ap (λ (v : Parts L). kept_in (world_of log v (disk shelf.store).files) gs) counted
       ∙ ap (λ w. kept_in w gs) (same honest agree)
       ∙ ap (kept_in (world_of log x.parts (disk old.shelf.store).files)) is)
 
-  pub kept_stay_called : gs ≡ x.groups → ((disk shelf.store).honest → Agrees log x.parts (disk old.shelf.store).files → world_of log mid (disk shelf.store).files ≡ world_of log x.parts (disk old.shelf.store).files) → AreKept log disk (after old t x p gs shelf)
-  kept_stay_called is same = kept_same log disk law old t x p gs shelf lt read kept step_called (stays_called is same)
+  pub kept_stay_called : gs ≡ x.groups → ((disk shelf.store).honest → Agrees log x.parts (disk old.shelf.store).files → world_of log mid (disk shelf.store).files ≡ world_of log x.parts (disk old.shelf.store).files) → AreKept log disk (after old t x p gs cs shelf)
+  kept_stay_called is same = kept_same log disk law old t x p gs cs shelf lt read kept step_called (stays_called is same)
 
   -- what is calm for its parts is seen to be calm
-  pub calm_called : IsCalm x.parts.refusals p.refusals → IsCalm (refusals_of (hosted log disk old) t) (refusals_of (hosted log disk (after old t x p gs shelf)) t)
-  calm_called = calm_seen log disk law old t x p gs shelf lt read kept step_called
+  pub calm_called : IsCalm x.parts.refusals p.refusals → IsCalm (refusals_of (hosted log disk old) t) (refusals_of (hosted log disk (after old t x p gs cs shelf)) t)
+  calm_called = calm_seen log disk law old t x p gs cs shelf lt read kept step_called
 
   -- and the other way round
-  pub calm_from : IsCalm (refusals_of (hosted log disk old) t) (refusals_of (hosted log disk (after old t x p gs shelf)) t) → IsCalm x.parts.refusals p.refusals
-  calm_from = calm_here log disk law old t x p gs shelf lt read kept step_called
+  pub calm_from : IsCalm (refusals_of (hosted log disk old) t) (refusals_of (hosted log disk (after old t x p gs cs shelf)) t) → IsCalm x.parts.refusals p.refusals
+  calm_from = calm_here log disk law old t x p gs cs shelf lt read kept step_called
 
   -- what the store refused meanwhile was counted
   pub accounted_called : (m : ℕ) → n ≡ min (x.parts.refusals + m) END → (disk shelf.store).failures ≡ (disk old.shelf.store).failures + m
-      → IsAccounted (hosted log disk old) (hosted log disk (after old t x p gs shelf)) (disk old.shelf.store).failures (disk shelf.store).failures
+      → IsAccounted (hosted log disk old) (hosted log disk (after old t x p gs cs shelf)) (disk old.shelf.store).failures (disk shelf.store).failures
   accounted_called m count sum =
       let was = refusals_here log (disk old.shelf.store).files old.tenants.items t x (stands log disk old t x lt read) in
-      let is = refusals_here log (disk shelf.store).files (after old t x p gs shelf).tenants.items t (record x { parts = p; groups = gs }) (there_after log disk law old t x p gs shelf lt read kept step_called) in
+      let is = refusals_here log (disk shelf.store).files (after old t x p gs cs shelf).tenants.items t (record x { parts = p; groups = gs; counts = cs }) (there_after log disk law old t x p gs cs shelf lt read kept step_called) in
       let more = ap (λ (v : Parts L). v.refusals) counted in
-      subst (λ f. IsAccounted (hosted log disk old) (hosted log disk (after old t x p gs shelf)) (disk old.shelf.store).failures f) (sym sum)
-      (accounted_turn (hosted log disk old) (hosted log disk (after old t x p gs shelf)) t (disk old.shelf.store).failures m lt
-      (length_named (hosted log disk old) (hosted log disk (after old t x p gs shelf)) turn_called.names) turn_called.grows (omega (arith, count, more, was, is)))
+      subst (λ f. IsAccounted (hosted log disk old) (hosted log disk (after old t x p gs cs shelf)) (disk old.shelf.store).failures f) (sym sum)
+      (accounted_turn (hosted log disk old) (hosted log disk (after old t x p gs cs shelf)) t (disk old.shelf.store).failures m lt
+      (length_named (hosted log disk old) (hosted log disk (after old t x p gs cs shelf)) turn_called.names) turn_called.grows (omega (arith, count, more, was, is)))

@@ -2,6 +2,7 @@ pub mod Accounted
 pub mod Added
 pub mod Alone
 pub mod Answered
+pub mod Causes
 pub mod Change
 pub mod Ended
 pub mod Hosted

@@ -21,6 +21,7 @@ use Rattle.kb_tenant_api.specs.Hosted.{kept_of, refusals_of}
 use Rattle.kb_tenant_api.specs.Turns.{IsAccounted, IsTurn}
 use Rattle.kb_tenants.specs.Renewal.{IsLookedAt, IsRenewedIfDue, MAX_SNAPSHOT, MIN_COMMANDS, is_due, limit, next_look, renew_at_of, snapshot_of}
 use Rattle.kb_tenants.specs.Tenants.{AreKept, AreSettled, AreSound, Agree, HaveNothingRefused, IsIdleUntil, IsLeftAlone, commands_of, hosted, parts_of, shelf_is_honest, state_of, strays_of}
+use Rattle.kb_tenants.specs.declared.counts.Counts.{Counts}
 use Rattle.kb_tenants.specs.declared.tenants.Tenant.{Tenant}
 use Rattle.kb_tenants.specs.declared.tenants.Tenants.{Tenants}
 use Rattle.kb_tenants.proofs.Change.{IsChange}
@@ -70,19 +71,19 @@ renewed_commands a b (Err f) told calm = absurd (loud (nat_lt a.state.refusals E
 
 module _ {L S : Type 0} (log : L → Log) (disk : S → Disk) (law : (l : L) → IsLawfulLog (log l)) (old : Tenants L S) (t : ℕ) (x : Tenant L)
     (lt : t < length (hosted log disk old)) (read : x ≡ get_or old.tenants.items t x) (kept : AreKept log disk old)
-    (mid p : Parts L) (n : ℕ) (shelf : Shelved S) (counted : p ≡ raised mid n) (renewal : IsRenewal (scene log disk x.parts old.shelf) (scene log disk mid shelf)) where
+    (mid p : Parts L) (n : ℕ) (cs : Counts) (shelf : Shelved S) (counted : p ≡ raised mid n) (renewal : IsRenewal (scene log disk x.parts old.shelf) (scene log disk mid shelf)) where
   pub commands_renewed : (r : Result (Unit {0}) CatalogFault) → Renews (scene log disk x.parts old.shelf) (scene log disk mid shelf) r
-      → IsCalm (refusals_of (hosted log disk old) t) (refusals_of (hosted log disk (after old t x p x.groups shelf)) t)
-      → commands_of log (after old t x p x.groups shelf) t ≡ snapshot_of (kept_of (hosted log disk old) t)
+      → IsCalm (refusals_of (hosted log disk old) t) (refusals_of (hosted log disk (after old t x p x.groups cs shelf)) t)
+      → commands_of log (after old t x p x.groups cs shelf) t ≡ snapshot_of (kept_of (hosted log disk old) t)
   commands_renewed r told calm =
       let change = renewed renewal in
-      let here : IsCalm x.parts.refusals p.refusals = calm_from log disk law old t x lt read kept mid p n x.groups shelf counted change calm in
+      let here : IsCalm x.parts.refusals p.refusals = calm_from log disk law old t x lt read kept mid p n x.groups cs shelf counted change calm in
       let more : mid.refusals ≤ p.refusals = subst (λ (v : Parts L). mid.refusals ≤ v.refusals) (sym counted) (omega arith) in
       let first = (calm_then x.parts.refusals mid.refusals p.refusals renewal.grows more here).0 in
-      commands_called log disk law old t x lt read kept mid p n x.groups shelf counted change
+      commands_called log disk law old t x lt read kept mid p n x.groups cs shelf counted change
       ∙ renewed_commands (scene log disk x.parts old.shelf) (scene log disk mid shelf) r told first
       ∙ ap (λ k. length (snapshots.snapshot_of k)) renewal.known
-      ∙ sym (ap snapshot_of (was_called log disk law old t x lt read kept mid p n x.groups shelf counted change))
+      ∙ sym (ap snapshot_of (was_called log disk law old t x lt read kept mid p n x.groups cs shelf counted change))
 
 -- ---- when a tenant is looked at next
 

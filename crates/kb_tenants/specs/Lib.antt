@@ -1,3 +1,4 @@
+pub mod Counts
 pub mod Limited
 pub mod Members
 pub mod Renewal

@@ -10,4 +10,6 @@ pub struct TenantView<'a, L: PartitionLog> {
     pub name: &'a str,
     pub parts: &'a Parts<L>,
     pub groups: &'a Coordinator,
+    /// How many of the refusals that its parts count were the store's. The others were of memory.
+    pub store_refusals: u64,
 }

@@ -10,7 +10,7 @@ pub returns-clause-invariant : goal.returns-clause-invariant
 returns-clause-invariant g c =
     let log = g.L.PartitionLog.log in
     let disk = g.S.Store.disk in
-    let x : Tenant g.row.L.Denot = record { name = c.in_ok-from_str.field-0; parts = c.args.parts; groups = c.new.result; renew_at = 4096 } in
+    let x : Tenant g.row.L.Denot = record { name = c.in_ok-from_str.field-0; parts = c.args.parts; groups = c.new.result; renew_at = 4096; counts = c.none.result } in
     let after : Tenants g.row.L.Denot g.row.S.Denot = record c.args.self.now { tenants = c.push.new.self; next_retention_time = negsuc 0 } in
     kept_pushed log disk c.args.self.now after x c.in_ok-push.ensures.items refl refl c.args.name.now c.in_ok-from_str.ensures.ok c.new.ensures
     c.requires.sound c.requires.apart c.requires.named

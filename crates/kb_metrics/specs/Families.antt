@@ -2,6 +2,7 @@
 use Rattle.std.specs.Prelude.{ℕ, ℤ, List, [], ◌∷◌, ◌++◌, ◌==◌, map, length, codes, decimal, Option, None, Some, if◌then◌else◌, slice_index_or}
 use Rattle.std.specs.Fmt.{signed_decimal}
 use Rattle.std.specs.List.{flat_map, range_with_len}
+use Rattle.kb_metrics.specs.Causes.{cause_text, each_cause}
 use Rattle.kb_metrics.specs.Limits.{each_limit, limit_text}
 use Rattle.kb_metrics.specs.Rows.{Commit, Group, Lag, Partition, Tenant}
 use Rattle.kb_metrics.specs.Text.{HeadText, behind_text, counter_head, front_text, gauge_head, rows_text, sample_text}
@@ -24,7 +25,7 @@ head_of families.Lag = gauge_head (codes "kbroker_group_lag") (codes "Records be
 head_of families.Requests = counter_head (codes "kbroker_requests_total") (codes "Requests, by API.")
 head_of families.RequestBytes = counter_head (codes "kbroker_request_bytes_total") (codes "Bytes of requests.")
 head_of families.ResponseBytes = counter_head (codes "kbroker_response_bytes_total") (codes "Bytes of responses.")
-head_of families.Refusals = counter_head (codes "kbroker_refusals_total") (codes "Calls of memory and of the store that were refused.")
+head_of families.Refusals = counter_head (codes "kbroker_refusals_total") (codes "Calls of memory and of the store that were refused, by cause.")
 head_of families.Start = gauge_head (codes "kbroker_partition_start_offset") (codes "Offset of the first record.")
 head_of families.End = gauge_head (codes "kbroker_partition_end_offset") (codes "Offset behind the last record.")
 head_of families.Committed = gauge_head (codes "kbroker_group_committed_offset") (codes "Offset that a group committed.")
@@ -99,7 +100,7 @@ said_of families.Lag t = flat_map (lag_text (front_of families.Lag t.name)) t.la
 said_of families.Requests t = requests_text (front_of families.Requests t.name) t.requests
 said_of families.RequestBytes t = number_text families.RequestBytes t.name t.request_bytes
 said_of families.ResponseBytes t = number_text families.ResponseBytes t.name t.response_bytes
-said_of families.Refusals t = number_text families.Refusals t.name t.refusals
+said_of families.Refusals t = flat_map (cause_text (front_of families.Refusals t.name)) (each_cause t.refusals t.store_refusals)
 said_of _ t = []
 
 abbrev pub family_text : List Tenant → Family → List ℕ

@@ -85,7 +85,7 @@ commits w = flat_map (λ t. topic_commits t.1) (by_name w.known.topics)
 -- 3. What is said of a tenant
 
 -- a tenant: its name, what it keeps of topics and of groups, the bytes of its batches where they are known, its limits, what is counted
--- of its connections, and its refusals
+-- of its connections, its refusals, and how many of these are the store's
 pub record Observed : Type 0 where
   pub name : List ℕ
   pub world : World
@@ -98,6 +98,7 @@ pub record Observed : Type 0 where
   pub request_bytes : ℕ
   pub response_bytes : ℕ
   pub refusals : ℕ
+  pub store_refusals : ℕ
 
 -- as far as 64 bits go
 abbrev pub counted : ℕ → ℕ
@@ -127,6 +128,7 @@ tenant_of o = record {
   request_bytes = o.request_bytes;
   response_bytes = o.response_bytes;
   refusals = o.refusals;
+  store_refusals = o.store_refusals;
 }
 
 -- all that is said of tenants

@@ -2,6 +2,7 @@ pub mod Text
 pub mod Server
 pub mod Rows
 pub mod Limits
+pub mod Causes
 pub mod Families
 pub mod Rates
 pub mod Markup

@@ -34,7 +34,7 @@ pub record Commit : Type 0 where
   pub offset : ℤ
 
 -- a tenant: numbers of its connections, of what it keeps, and of its traffic, and its limits; the bytes of its batches where they are
--- known; requests stand at the places of their API keys
+-- known; requests stand at the places of their API keys; the store's refusals are among all of them
 pub record Tenant : Type 0 where
   pub name : List ℕ
   pub connections : ℕ
@@ -50,6 +50,7 @@ pub record Tenant : Type 0 where
   pub request_bytes : ℕ
   pub response_bytes : ℕ
   pub refusals : ℕ
+  pub store_refusals : ℕ
 
 -- ---- as the code has them
 
@@ -81,4 +82,5 @@ tenant_row t = record {
   request_bytes = t.request_bytes;
   response_bytes = t.response_bytes;
   refusals = t.refusals;
+  store_refusals = t.store_refusals;
 }

@@ -19,4 +19,5 @@ observed log files g = record {
   request_bytes = g.traffic.request_bytes;
   response_bytes = g.traffic.response_bytes;
   refusals = g.parts.now.refusals;
+  store_refusals = g.store_refusals;
 }

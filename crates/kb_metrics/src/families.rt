@@ -2,6 +2,7 @@
 
 ghost use Rattle.std.specs.Prelude.{◌≡◌, ◌++◌, IfOk, OnOk, Some, map, option_copied};
 ghost use Rattle.std.specs.List.{flat_map};
+ghost use Rattle.kb_metrics.specs.Causes.{cause_text, each_cause};
 ghost use Rattle.kb_metrics.specs.Families.{all_families, api_name, api_text, commit_text, committed_text, counted_text};
 ghost use Rattle.kb_metrics.specs.Families.{end_text, ends_text, families_text, family_text, front_of, head_of};
 ghost use Rattle.kb_metrics.specs.Families.{known_text, lag_text, members_text, number_text, offset_text, offsets_text, requests_text};
@@ -10,6 +11,7 @@ ghost use Rattle.kb_metrics.specs.Limits.{each_limit, limit_text};
 ghost use Rattle.kb_metrics.specs.Rows.{commit_row, group_row, lag_row, partition_row, tenant_row};
 ghost use Rattle.kb_metrics.specs.Text.{head_seen, label_of};
 
+use crate::causes::cause_rows;
 use crate::limits::{Limits, limit_rows};
 use crate::row::{Row, push_rows};
 use crate::rows::{CommitRow, GroupRow, LagRow, PartitionRow, TenantRow};
@@ -90,7 +92,7 @@ impl Family {
             Family::Requests => "Requests, by API.",
             Family::RequestBytes => "Bytes of requests.",
             Family::ResponseBytes => "Bytes of responses.",
-            Family::Refusals => "Calls of memory and of the store that were refused.",
+            Family::Refusals => "Calls of memory and of the store that were refused, by cause.",
             Family::Start => "Offset of the first record.",
             Family::End => "Offset behind the last record.",
             Family::Committed => "Offset that a group committed.",
@@ -227,7 +229,13 @@ impl<'a> Row<Family> for TenantRow<'a> {
             Family::Requests => push_requests(out, family, tenant, self.requests),
             Family::RequestBytes => push_number(out, family, tenant, self.request_bytes),
             Family::ResponseBytes => push_number(out, family, tenant, self.response_bytes),
-            Family::Refusals => push_number(out, family, tenant, self.refusals),
+            Family::Refusals => push_causes(
+                out,
+                family,
+                tenant,
+                self.refusals,
+                self.store_refusals,
+            ),
             Family::Start | Family::End | Family::Committed => Ok(()),
         }
     }
@@ -272,6 +280,21 @@ fn push_limits(
 {
     let front = front(out, family, tenant)?;
     push_rows(out, front.as_slice(), &limit_rows(limits))
+}
+
+/// Writes how many refusals have each cause.
+fn push_causes(
+    out: &mut Vec<u8>,
+    family: Family,
+    tenant: &str,
+    all: u64,
+    store: u64,
+) -> Result<(), AllocError>
+    ensures { OnOk result (out.new.items
+        ≡ out.old.items ++ flat_map (cause_text (front_of family tenant.now)) (each_cause all store)) }
+{
+    let front = front(out, family, tenant)?;
+    push_rows(out, front.as_slice(), &cause_rows(all, store))
 }
 
 /// Writes how many members each group has.

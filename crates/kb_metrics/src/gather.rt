@@ -59,6 +59,7 @@ pub(crate) fn tenant_row<'a, L: PartitionLog>(
         request_bytes: tenant.traffic.request_bytes,
         response_bytes: tenant.traffic.response_bytes,
         refusals: parts.refusals(),
+        store_refusals: tenant.store_refusals,
     })
 }
 

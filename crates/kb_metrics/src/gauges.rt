@@ -34,10 +34,13 @@ pub struct TenantGauges<'a, L: PartitionLog> {
     /// Those of them that wait for the answer to a request.
     pub waiting: u64,
     pub traffic: Traffic<'a>,
+    /// How many of the refusals that its parts count are the store's.
+    pub store_refusals: u64,
 }
 
 /// Writes what is said of tenants, a family after another: connections, what waits, topics, partitions, stored bytes where they are known,
-/// committed offsets, limits, the members of each group, its lag in each topic, requests by API, bytes, and refusals.
+/// committed offsets, limits, the members of each group, its lag in each topic, requests by API, bytes, and refusals
+/// by cause.
 ///
 /// What is said of a tenant is a function of what stands in its own gauges. After an `Err`, which is want of memory, some of it may be
 /// there.

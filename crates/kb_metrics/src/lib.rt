@@ -9,6 +9,7 @@
 //! Rows are gathered from the state first (`gather`), and then written. What is written of a row stands in its `impl` of `Row`.
 #![tactic(auto)]
 
+mod causes;
 mod families;
 mod gather;
 mod gauges;

@@ -55,4 +55,6 @@ pub(crate) struct TenantRow<'a> {
     pub(crate) request_bytes: u64,
     pub(crate) response_bytes: u64,
     pub(crate) refusals: u64,
+    /// How many of its refusals are the store's.
+    pub(crate) store_refusals: u64,
 }

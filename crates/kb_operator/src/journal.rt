@@ -24,6 +24,8 @@ struct Tenant {
     /// How many sockets it may have at most.
     connections: u32,
     refusals: Tally,
+    /// Those of them that the disk refused.
+    by_disk: Tally,
     sockets: Tally,
 }
 
@@ -71,7 +73,7 @@ pub struct Closed {
 }
 
 /// How many tenants stand in a line at most: it stays below 4,096 bytes, with names of 64.
-const TENANTS: usize = 40;
+const TENANTS: usize = 30;
 
 /// What was told so far. No line is waited for ([`Lines`]).
 #[derive(Drop)]
@@ -330,6 +332,7 @@ fn tenants_of(alloc: Global, settings: &Settings) -> Result<Vec<Tenant>, AllocEr
             place: tenants.len(),
             connections: settings.limits_of(name).most,
             refusals: Tally::default(),
+            by_disk: Tally::default(),
             sockets: Tally::default(),
         })?;
     }

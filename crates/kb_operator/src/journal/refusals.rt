@@ -29,7 +29,7 @@ impl Others {
 }
 
 impl Journal {
-    /// How many requests were refused since the last line, by tenant, and how many calls of the store among that.
+    /// How many requests were refused since the last line, by tenant and by cause, and how many calls of the store among that.
     pub fn tell_refusals<B: RefusalCounts>(&mut self, alloc: Global, now: u64, broker: &B) {
         if self.is_quiet || broker.is_calm() {
             return;
@@ -54,7 +54,7 @@ impl Journal {
 }
 
 /// How many requests of some tenants were refused since the last line, and how many before a login: none where no request was. Behind
-/// them stands how many calls the disk refused; what is more than those was refused for want of memory.
+/// them stands how many calls the disk refused.
 fn refusals_text<B: RefusalCounts>(
     alloc: Global,
     tenants: &mut [Tenant],
@@ -64,11 +64,7 @@ fn refusals_text<B: RefusalCounts>(
 ) -> Result<Option<String>, AllocError> {
     let mut counts = String::new(alloc);
     for tenant in tenants {
-        let grown = tenant.refusals.grown(broker.of_tenant(&tenant.name));
-        if grown > 0 {
-            let name = tenant.name.as_str();
-            counts.push_str(&format!(in alloc; ", tenant {name} {grown}")?)?;
-        }
+        push_grown(alloc, &mut counts, tenant, broker)?;
     }
     let Others { unbound, disk } = others;
     if unbound == 0 && counts.is_empty() {
@@ -78,4 +74,25 @@ fn refusals_text<B: RefusalCounts>(
         counts.push_str(&format!(in alloc; "; by the disk {disk}{of_all}")?)?;
     }
     Ok(Some(format!(in alloc; "refusals: before a login {unbound}{counts}")?))
+}
+
+/// Puts how many requests of a tenant were refused since the last line, where there were some, and how many of them by the disk. The
+/// others were refused for want of memory.
+fn push_grown<B: RefusalCounts>(
+    alloc: Global,
+    counts: &mut String,
+    tenant: &mut Tenant,
+    broker: &B,
+) -> Result<(), AllocError> {
+    let grown = tenant.refusals.grown(broker.of_tenant(&tenant.name));
+    if grown == 0 {
+        return Ok(());
+    }
+    let by_disk = tenant.by_disk.grown(broker.of_tenant_by_disk(&tenant.name));
+    let name = tenant.name.as_str();
+    counts.push_str(&format!(in alloc; ", tenant {name} {grown}")?)?;
+    if by_disk > 0 {
+        counts.push_str(&format!(in alloc; " ({by_disk} by the disk)")?)?;
+    }
+    Ok(())
 }

@@ -45,7 +45,8 @@ abbrev pub limits_of : List ℕ → Values → Limits
 limits_of name values = limits_in (data_of name values) (groups_of name values)
 
 -- What is told of the tenant at a place: what it keeps, its limits, how many connections are bound to it and how many of them wait, and what
--- was counted at its place. The bytes of its batches stand apart, since they may not be known.
+-- was counted at its place. Two numbers stand apart: the bytes of its batches, which may not be known, and how many of its refusals are
+-- the store's.
 abbrev pub observed_at : Values → ℕ → List Line → List TenantTraffic → TenantState → Observed
 observed_at values place lines traffic t = record {
   name = t.name;
@@ -59,6 +60,7 @@ observed_at values place lines traffic t = record {
   request_bytes = request_bytes_of (slice_get traffic place);
   response_bytes = response_bytes_of (slice_get traffic place);
   refusals = t.refusals;
+  store_refusals = 0;
 }
 
 -- what there is, as a list
@@ -74,9 +76,9 @@ observed_slot values b traffic place = listed (option_map (observed_at values pl
 abbrev pub observed_from : Values → BrokerState → List TenantTraffic → List Observed
 observed_from values b traffic = flat_map (observed_slot values b traffic) (range_with_len 0 (length b.tenants))
 
--- what is observed of a tenant, but for the bytes of its batches
+-- what is observed of a tenant, but for the bytes of its batches, and how many of its refusals are the store's
 abbrev pub unstored : Observed → Observed
-unstored o = record o { stored = None }
+unstored o = record o { stored = None; store_refusals = 0 }
 
 abbrev pub looked_at : {L : Type 0} → (L → Log) → Files → TenantGauges L → Observed
 looked_at log files g = unstored (observed log files g)
@@ -85,6 +87,7 @@ looked_at log files g = unstored (observed log files g)
 abbrev pub BeginsWith : List ℕ → List ℕ → Type 0
 BeginsWith front text = (rest : List ℕ) × (text ≡ front ++ rest)
 
--- the page of metrics begins with what is said of tenants of which this is observed, whatever is known of the bytes of their batches
+-- the page of metrics begins with what is said of tenants of which this is observed, whatever is known of the bytes of their batches, and
+-- however many of their refusals are the store's
 abbrev pub IsMetrics : List Observed → List ℕ → Type 0
 IsMetrics seen text = (os : List Observed) × (map unstored os ≡ seen) × BeginsWith (tenants_text os) text

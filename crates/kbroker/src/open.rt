@@ -165,11 +165,7 @@ fn deleted_in<S: PutsOff + Drop>(
     let mut catalogs = Vec::new(rt.alloc());
     for place in 0..opened.broker.tenants_len() {
         if let Some(view) = opened.broker.tenant(place) {
-            let TenantView {
-                name,
-                parts,
-                groups: _,
-            } = view;
+            let TenantView { name, parts, .. } = view;
             catalogs.push(CatalogOf {
                 tenant: name,
                 catalog: parts.catalog(),

@@ -216,6 +216,7 @@ fn gauges_at<'a, R: Net, S: Store, L: PartitionLog + Drop>(
         name,
         parts,
         groups,
+        store_refusals,
     } = broker.tenant(place)?;
     Some(TenantGauges {
         name,
@@ -225,6 +226,7 @@ fn gauges_at<'a, R: Net, S: Store, L: PartitionLog + Drop>(
         connections: broker.connections_of(place) as u64,
         waiting: broker.waiting_of(place) as u64,
         traffic: traffic_at(edge, place),
+        store_refusals,
     })
 }
 

@@ -24,6 +24,17 @@ impl<'a, S: Store, L: PartitionLog + Drop> RefusalCounts for CountsOf<'a, S, L> 
         self.0.refusals(name)
     }
 
+    fn of_tenant_by_disk(&self, name: &str) -> u64 {
+        for place in 0..self.0.tenants_len() {
+            if let Some(view) = self.0.tenant(place)
+                && view.name == name
+            {
+                return view.store_refusals;
+            }
+        }
+        0
+    }
+
     fn sockets_of_tenant(&self, place: usize) -> u64 {
         self.1.get(place).copied().unwrap_or(0)
     }

@@ -87,7 +87,7 @@ def told(tried, broker, port):
         tried.is_so("connections", value("kbroker_connections", tenant=tenant), connections)
         tried.is_so("topics", value("kbroker_topics", tenant=tenant), topics)
         tried.is_so("partitions", value("kbroker_partitions", tenant=tenant), partitions)
-        tried.is_so("refusals", value("kbroker_refusals_total", tenant=tenant), 0)
+        tried.is_so("refusals", [value("kbroker_refusals_total", tenant=tenant, cause=it) for it in ("memory", "store")], [0, 0])
         tried.is_so("groups at most", value("kbroker_limit", tenant=tenant, what="groups"), 1000)
         tried.is_so("topics at most", value("kbroker_limit", tenant=tenant, what="topics"), None)
     tried.is_so("offsets", [value("kbroker_committed_offsets", tenant=it) for it in "ab"], [4, 1])

@@ -1,11 +1,11 @@
 #!/usr/bin/env python3
-"""Of more than 40 tenants, too, each line of refusals says that the disk refused.
+"""Of more than 30 tenants, too, each line of refusals says that the disk refused, and each tenant how many of its own.
 
     trials/refused_tenants.py KBROKER
 
 Fifty tenants have a topic each, and the system lets no file grow beyond 8,192 bytes (RLIMIT_FSIZE). Then all produce at once what is refused.
 Nothing is refused for want of memory. So each line that tells of a tenant's refusals has to say how many calls the disk refused, and no
-fewer than the line tells of. It prints how many lines do not.
+fewer than the line tells of. In brackets behind each tenant's has to stand the same number, by the disk. It prints how many lines do not.
 """
 
 import re
@@ -49,10 +49,11 @@ def main(program):
         log = broker.log()
     wrong, told = [], 0
     for line in re.findall("refusals: .*", log):
-        count = sum(int(n) for n in re.findall(", tenant [^ ]+ ([0-9]+)", line))
+        counts = [int(n) for n in re.findall(", tenant [^ ]+ ([0-9]+)", line)]
+        by_disk = [int(n) for n in re.findall(r", tenant [^ ]+ [0-9]+ \(([0-9]+) by the disk\)", line)]
         disk = re.search("; by the disk ([0-9]+)", line)
-        told += count
-        if not disk or int(disk[1]) < count:
+        told += sum(counts)
+        if not disk or int(disk[1]) < sum(counts) or by_disk != counts:
             wrong.append(line)
     if set(codes) != {56} or told != len(TENANTS):
         wrong.append(f"the trial says nothing: the codes {sorted(set(codes))}, {told} refusals told of")

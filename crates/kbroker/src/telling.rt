@@ -9,6 +9,7 @@ use kb_log::PartitionLog;
 use kb_node::{Edge, Store, Turn};
 use kb_operator::{Closed, Journal, RefusalCounts};
 use kb_server_log::{Tick, now};
+use kb_tenants::TenantView;
 use std::net::Net;
 
 /// What a broker counts of what it refuses, and an edge of the sockets that it closed, by tenant.
@@ -26,10 +27,15 @@ impl<'a, S: Store, L: PartitionLog + Drop> RefusalCounts for CountsOf<'a, S, L> 
 
     fn of_tenant_by_disk(&self, name: &str) -> u64 {
         for place in 0..self.0.tenants_len() {
-            if let Some(view) = self.0.tenant(place)
-                && view.name == name
-            {
-                return view.store_refusals;
+            if let Some(view) = self.0.tenant(place) {
+                let TenantView {
+                    name: found,
+                    store_refusals,
+                    ..
+                } = view;
+                if found == name {
+                    return store_refusals;
+                }
             }
         }
         0

@@ -1,9 +1,11 @@
 //! How far groups are behind.
 
+ghost use Rattle.std.specs.Bool.{Decides};
 ghost use Rattle.std.specs.Prelude.{◌≡◌, ◌++◌, ◌∷◌, [], ◌-ℤ◌, IfOk, OnOk, Some, map, option_copied, slice_get};
 ghost use Rattle.std.specs.Option.{option_and_then};
 ghost use Rattle.std.specs.List.{All, range_with_len};
 ghost use Rattle.std.specs.List.Sorted.{IsStrictlySortedBy};
+ghost use Rattle.std.specs.Str.{bytes_eq};
 ghost use Rattle.kb_batch.specs.Batch.{natural};
 ghost use Rattle.kb_settings.specs.Names.{byte_order, in_order};
 ghost use Rattle.kb_store.specs.Disk.{Files};
@@ -151,15 +153,36 @@ fn behind(end: i64, offset: i64) -> u64
 pub fn groups_in<'a>(alloc: Global, topic: &'a Topic) -> Result<Vec<&'a str>, AllocError>
     ensures { IfOk result (λ groups. map (λ group. group.now) groups.items ≡ groups_in topic.now) }
 {
-    let mut groups = Vec::new(alloc);
+    let count = match topic.partitions().first() {
+        Some(partition) => partition.commits().len(),
+        None => 0,
+    };
+    let mut groups = Vec::with_capacity(alloc, count)?;
     for partition in topic.partitions() {
         push_groups(&mut groups, partition)?;
     }
     Ok(in_order(groups))
 }
 
-/// Names in byte order, each once.
-fn in_order<'a>(mut names: Vec<&'a str>) -> Vec<&'a str>
+/// Names in byte order, each once. Mostly they are that already.
+fn in_order<'a>(names: Vec<&'a str>) -> Vec<&'a str>
+    ensures { map (λ name. name.now) result.items ≡ in_order (map (λ name. name.now) names.entry.items) }
+{
+    if is_rising(&names) {
+        return names;
+    }
+    sorted(names)
+}
+
+/// Whether each name is below those behind it.
+fn is_rising(names: &[&str]) -> bool
+    ensures { Decides result (IsStrictlySortedBy byte_order (map (λ name. name.now) names.now)) }
+{
+    names.is_sorted_by(|name, next| *name < *next)
+}
+
+/// Names in byte order, each once, whatever their order was.
+fn sorted<'a>(mut names: Vec<&'a str>) -> Vec<&'a str>
     ensures { map (λ name. name.now) result.items ≡ in_order (map (λ name. name.now) names.entry.items) }
 {
     names.sort_unstable();
@@ -199,7 +222,15 @@ fn is_at(names: &[&str], place: usize, name: &str) -> bool
     ensures { result ≡ is_at (map (λ n. n.now) names.now) place name.now }
 {
     match names.get(place) {
-        Some(there) => *there == name,
+        Some(there) => is_same(*there, name),
         None => false,
     }
+}
+
+/// Whether two names are the same, byte by byte: most have few bytes.
+fn is_same(name: &str, other: &str) -> bool
+    ensures { result ≡ bytes_eq name.now other.now }
+{
+    let (name, other) = (name.as_bytes(), other.as_bytes());
+    name.len() == other.len() && name.iter().zip(other).all(|(x, y)| x == y)
 }

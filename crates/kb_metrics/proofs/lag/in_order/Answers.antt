@@ -1,7 +1,12 @@
-use Rattle.std.proofs.lemmas.List.Filters.{dedup_is}
-use Rattle.kb_settings.proofs.NamesInOrder.{sorted-in_order}
+use Rattle.std.proofs.Common.{List, map, refl, subst, ℕ}
+use Rattle.std.specs.List.Sorted.{IsStrictlySortedBy}
+use Rattle.kb_settings.proofs.NamesInOrder.{only-in_order}
+use Rattle.kb_settings.specs.Names.{byte_order}
 use Rattle.kb_metrics.proofs.lag.in_order.Goals as goal
 
-pub returns : goal.returns
-returns c =
-    sorted-in_order (λ name. name.now) c.args.names.items c.sort_unstable.new.self.items _ c.sort_unstable.ensures.permutation c.sort_unstable.ensures.sorted (dedup_is _ _ _ c.dedup.ensures.filtered)
+pub returns-then-is_rising : goal.returns-then-is_rising
+returns-then-is_rising c =
+    let names : List (List ℕ) = map (λ n. n.now) c.args.names.items in
+    let rises : IsStrictlySortedBy byte_order names =
+    subst (λ ns. IsStrictlySortedBy byte_order (map (λ n. n.now) ns)) c.deref.ensures.value (c.is_rising.ensures.0 c.if-is_rising.true) in
+    only-in_order names names rises (λ q. refl)

@@ -1,7 +1,6 @@
 use Rattle.std.proofs.Common.{rules, FitsSigned, w64, ◌≡◌, ◌∙◌, ◌++◌, ◌∷◌, [], ℕ, List, length, map, string_bytes, true, sym, ap, arith}
 use Rattle.std.proofs.lemmas.Int.{to_z-of_z}
 use Rattle.std.proofs.lemmas.Map.Lookups.{map_keys}
-use Rattle.kb_topics.specs.Known.{CommittedOffset}
 use Rattle.kb_metrics.specs.Slots.{is_at}
 use Rattle.kb_metrics.proofs.Commits.{are_offsets, one_more}
 use Rattle.kb_metrics.proofs.lag.offsets_of.Goals as goal

@@ -153,11 +153,10 @@ fn behind(end: i64, offset: i64) -> u64
 pub fn groups_in<'a>(alloc: Global, topic: &'a Topic) -> Result<Vec<&'a str>, AllocError>
     ensures { IfOk result (λ groups. map (λ group. group.now) groups.items ≡ groups_in topic.now) }
 {
-    let count = match topic.partitions().first() {
-        Some(partition) => partition.commits().len(),
-        None => 0,
-    };
-    let mut groups = Vec::with_capacity(alloc, count)?;
+    let mut groups = Vec::new(alloc);
+    if let Some(first) = topic.partitions().first() {
+        groups.reserve(first.commits().len())?;
+    }
     for partition in topic.partitions() {
         push_groups(&mut groups, partition)?;
     }

@@ -4,6 +4,7 @@ use Rattle.std.specs.Prelude.{ℤ, pos, Bool, true, false, Option, Some, None, i
 use Rattle.std.specs.Ordering.{int_eq}
 use Rattle.std.specs.Option.{option_and_then}
 use Rattle.std.specs.List.{flat_map, range_with_len}
+use Rattle.std.proofs.lemmas.Bool.Decides.{Decides-int_eq}
 use Rattle.std.proofs.lemmas.List.{append-nil, length-map}
 use Rattle.std.proofs.lemmas.List.Folds.{flat_map-map}
 use Rattle.std.proofs.lemmas.List.FromFn.{length-map-range_with_len, map-range_with_len_more}
@@ -12,6 +13,7 @@ use Rattle.kb_wire.specs.Codec.{count, counted, nullable, nullable_counted, size
 use Rattle.kb_api_data.specs.Layouts.{metadata_request, metadata_request_v0, metadata_request_v4}
 use Rattle.kb_api_data.specs.Layouts.{metadata_partition, metadata_topic, metadata_topic_v0, metadata_broker, metadata_broker_v0, metadata_reply, metadata_reply_v0, metadata_reply_v2, metadata_reply_v3}
 use Rattle.kb_api_data.specs.declared.metadata.MetadataBroker.{MetadataBroker}
+use Rattle.kb_api_data.specs.declared.metadata.MetadataPartition.{MetadataPartition}
 use Rattle.kb_api_data.specs.declared.metadata.MetadataRequest.{MetadataRequest}
 use Rattle.kb_api_data.specs.declared.metadata.MetadataTopic.{MetadataTopic}
 use Rattle.kb_api_data.specs.declared.metadata.MetadataReply.{MetadataReply}
@@ -20,7 +22,7 @@ use Rattle.kb_api_data.specs.declared.metadata_versions.MetadataRequestV0.{Metad
 use Rattle.kb_api_data.specs.declared.metadata_versions.MetadataRequestV4.{MetadataRequestV4}
 use Rattle.kb_topics.specs.Known.{TopicState, named, topic_at}
 use Rattle.kb_topics.specs.Name.{is_legal}
-use Rattle.kb_tenant.specs.Metadata.{broker, broker_v0, internal_in, metadata_in, metadata_of, partition_described, reply_v3, topic_asked, topic_described, topic_found, topic_in, topic_v0, topics_asked, topics_in, topics_until, IsMetadataUntil}
+use Rattle.kb_tenant.specs.Metadata.{broker, broker_v0, has_offline, internal_in, metadata_in, metadata_of, metadata_partition_v5, metadata_topic_v5, partition_as, partition_described, partition_v5, topic_as, topic_asked, topic_described, topic_found, topic_in, topic_v0, topic_v5, topics_asked, topics_in, topics_until, IsMetadataUntil}
 use Rattle.kb_tenant.specs.Replies.{AreUntil}
 use Rattle.kb_tenant_state.specs.World.{World}
 use Rattle.kb_tenant.specs.declared.node.Node.{Node}
@@ -43,21 +45,24 @@ topics_fit_v4 r fits = fits.0
 
 -- ---- what is written
 
--- a topic by the layout of version 0, or by the later one
-abbrev topic_if : Bool → MetadataTopic → List ℕ
-topic_if b t = if b then metadata_topic_v0.written (topic_v0 t) else metadata_topic.written t
-
 -- a partition's bytes: all but the four of its number are the same in each
 pub partition_bytes : (p a b c d : ℕ) → int32.written (pos p) ≡ a ∷ b ∷ c ∷ d ∷ []
     → 0 ∷ 0 ∷ a ∷ b ∷ c ∷ d ∷ 0 ∷ 0 ∷ 0 ∷ 0 ∷ 0 ∷ 0 ∷ 0 ∷ 1 ∷ 0 ∷ 0 ∷ 0 ∷ 0 ∷ 0 ∷ 0 ∷ 0 ∷ 1 ∷ 0 ∷ 0 ∷ 0 ∷ 0 ∷ [] ≡ metadata_partition.written (partition_described p)
 unfolding metadata_partition sized counted items int
 partition_bytes p a b c d e = ap (λ number. 0 ∷ 0 ∷ (number ++ 0 ∷ 0 ∷ 0 ∷ 0 ∷ 0 ∷ 0 ∷ 0 ∷ 1 ∷ 0 ∷ 0 ∷ 0 ∷ 0 ∷ 0 ∷ 0 ∷ 0 ∷ 1 ∷ 0 ∷ 0 ∷ 0 ∷ 0 ∷ [])) (sym e)
 
+-- a partition without offline replicas, where that is told
+pub partition_without : (p : MetadataPartition) (offline : Bool) (old s t : List ℕ) → offline ≡ true → s ≡ old ++ metadata_partition.written p → t ≡ s ++ (count w32).written 0
+    → t ≡ old ++ partition_as offline p
+unfolding sized items
+partition_without p false old s t is a b = absurd cc
+partition_without p true old s t is a b = written_both old s t (metadata_partition.written p) ((count w32).written 0) a b ∙ ap (λ x. old ++ (metadata_partition.written p ++ x)) (sym (append-nil ((count w32).written 0)))
+
 -- one partition more
-pub partitions_more : (p : ℕ) (old s t : List ℕ) → s ≡ old ++ flat_map metadata_partition.written (map partition_described (range_with_len 0 p)) → t ≡ s ++ metadata_partition.written (partition_described p)
-    → t ≡ old ++ flat_map metadata_partition.written (map partition_described (range_with_len 0 (p + 1)))
-partitions_more p old s t a b =
-    let write = metadata_partition.written in
+pub partitions_more : (offline : Bool) (p : ℕ) (old s t : List ℕ) → s ≡ old ++ flat_map (partition_as offline) (map partition_described (range_with_len 0 p)) → t ≡ s ++ partition_as offline (partition_described p)
+    → t ≡ old ++ flat_map (partition_as offline) (map partition_described (range_with_len 0 (p + 1)))
+partitions_more offline p old s t a b =
+    let write = partition_as offline in
     let before = map partition_described (range_with_len 0 p) in
     let both : t ≡ old ++ (flat_map write before ++ write (partition_described p)) = written_both old s t (flat_map write before) (write (partition_described p)) a b in
     let more : flat_map write before ++ write (partition_described p) ≡ flat_map write (before ++ partition_described p ∷ []) = sym (flat_map_snoc write before (partition_described p)) in
@@ -67,28 +72,45 @@ partitions_more p old s t a b =
     flat_map_snoc f [] x = append-nil (f x)
     flat_map_snoc f (y ∷ ys) x = ap (λ r. f y ++ r) (flat_map_snoc f ys x) ∙ sym (append_assoc (f y) (flat_map f ys) (f x))
 
--- its parts by either layout
-by_layout : (b : Bool) (error : ℤ) (name : List ℕ) (n : ℕ)
-    → int16.written error ++ (string.written name ++ ((if b then [] else boolean.written false) ++ (array metadata_partition).written (map partition_described (range_with_len 0 n)))) ≡ topic_if b (topic_described error name n)
-unfolding metadata_topic metadata_topic_v0
-by_layout true error name n = refl
-by_layout false error name n = refl
+-- version 0 does not tell of offline replicas
+not_offline : (version : ℤ) → int_eq version (pos 0) ≡ true → has_offline version ≡ false
+not_offline version is = ap has_offline ((Decides-int_eq version (pos 0)).0 is)
 
-pub topic_written : (version sent error wrote : ℤ) (name : List ℕ) (n : ℕ) (s0 s1 s2 s3 s4 s5 : List ℕ) → sent ≡ version → wrote ≡ error
+-- partitions behind their count
+abbrev partitions_behind : Bool → ℕ → List MetadataPartition → List ℕ
+partitions_behind offline n ps = (count w32).written n ++ flat_map (partition_as offline) ps
+
+-- its parts by each layout
+by_layout : (old offline : Bool) (error : ℤ) (name : List ℕ) (n : ℕ) → (old ≡ true → offline ≡ false)
+    → int16.written error ++ (string.written name ++ ((if old then [] else boolean.written false) ++ partitions_behind offline n (map partition_described (range_with_len 0 n)))) ≡ topic_as old offline (topic_described error name n)
+unfolding metadata_topic metadata_topic_v0
+by_layout true true error name n not = let clash : true ≡ false = not refl in absurd cc
+by_layout true false error name n not =
+    ap (λ x. int16.written error ++ (string.written name ++ x)) (array_written metadata_partition (map partition_described (range_with_len 0 n)) n (sym (length-map-range_with_len partition_described 0 n)))
+by_layout false false error name n not =
+    ap (λ x. int16.written error ++ (string.written name ++ (boolean.written false ++ x))) (array_written metadata_partition (map partition_described (range_with_len 0 n)) n (sym (length-map-range_with_len partition_described 0 n)))
+by_layout false true error name n not =
+    let ps = map partition_described (range_with_len 0 n) in
+    let n_is = sym (length-map-range_with_len partition_described 0 n) ∙ sym (length-map ps partition_v5) in
+    ap (λ x. int16.written error ++ (string.written name ++ (boolean.written false ++ x)))
+    (ap (λ l. (count w32).written n ++ l) (sym (flat_map-map metadata_partition_v5.written partition_v5 ps)) ∙ array_written metadata_partition_v5 (map partition_v5 ps) n n_is)
+
+pub topic_written : (version sent error wrote : ℤ) (name : List ℕ) (n : ℕ) (offline : Bool) (s0 s1 s2 s3 s4 s5 : List ℕ) → sent ≡ version → wrote ≡ error → offline ≡ has_offline sent
     → s1 ≡ s0 ++ int16.written wrote → s2 ≡ s1 ++ string.written name → s3 ≡ s2 ++ internal_in sent → s4 ≡ s3 ++ (count w32).written n
-    → s5 ≡ s4 ++ flat_map metadata_partition.written (map partition_described (range_with_len 0 n))
+    → s5 ≡ s4 ++ flat_map (partition_as offline) (map partition_described (range_with_len 0 n))
     → s5 ≡ s0 ++ topic_in version (topic_described error name n)
-topic_written version sent error wrote name n s0 s1 s2 s3 s4 s5 sent_is wrote_is a b c d e =
+topic_written version sent error wrote name n offline s0 s1 s2 s3 s4 s5 sent_is wrote_is offline_is a b c d e =
     let partitions = map partition_described (range_with_len 0 n) in
-    let all = (array metadata_partition).written partitions in
+    let own = has_offline version in
+    let told : offline ≡ own = offline_is ∙ ap has_offline sent_is in
+    let all = partitions_behind own n partitions in
     let internal = internal_in version in
     let one : s5 ≡ s3 ++ all =
-    written_both s3 s4 s5 ((count w32).written n) (flat_map metadata_partition.written partitions) d e
-    ∙ ap (λ x. s3 ++ x) (array_written metadata_partition partitions n (sym (length-map-range_with_len partition_described 0 n))) in
+    written_both s3 s4 s5 ((count w32).written n) (flat_map (partition_as own) partitions) d (e ∙ ap (λ o. s4 ++ flat_map (partition_as o) partitions) told) in
     let two : s5 ≡ s2 ++ (internal ++ all) = written_both s2 s3 s5 internal all (c ∙ ap (λ v. s2 ++ internal_in v) sent_is) one in
     let three : s5 ≡ s1 ++ (string.written name ++ (internal ++ all)) = written_both s1 s2 s5 (string.written name) (internal ++ all) b two in
     written_both s0 s1 s5 (int16.written error) (string.written name ++ (internal ++ all)) (a ∙ ap (λ z. s0 ++ int16.written z) wrote_is) three
-    ∙ ap (λ x. s0 ++ x) (by_layout (int_eq version (pos 0)) error name n)
+    ∙ ap (λ x. s0 ++ x) (by_layout (int_eq version (pos 0)) own error name n (not_offline version))
 
 pub broker_written : (node : Node) (host : List ℕ) (port : ℤ) → host ≡ node.host → port ≡ pos node.port
     → metadata_broker.written (record { node_id = pos 0; host = host; port = port; rack = None }) ≡ metadata_broker.written (broker node)
@@ -121,12 +143,19 @@ reply_with node ts = record { brokers = broker node ∷ []; controller_id = pos 
 topics_old : (ts : List MetadataTopic) → topics_in (pos 0) ts ≡ (array metadata_topic_v0).written (map topic_v0 ts)
 unfolding sized items
 topics_old ts =
-    ap (λ n. (count w32).written n ++ flat_map (topic_if true) ts) (sym (length-map ts topic_v0))
+    ap (λ n. (count w32).written n ++ flat_map (topic_as true false) ts) (sym (length-map ts topic_v0))
     ∙ ap (λ l. (count w32).written (length (map topic_v0 ts)) ++ l) (sym (flat_map-map metadata_topic_v0.written topic_v0 ts))
 
-topics_new : (version : ℤ) (ts : List MetadataTopic) → int_eq version (pos 0) ≡ false → topics_in version ts ≡ (array metadata_topic).written ts
+topics_offline : (ts : List MetadataTopic) → topics_in (pos 5) ts ≡ (array metadata_topic_v5).written (map topic_v5 ts)
 unfolding sized items
-topics_new version ts later = ap (λ b. (count w32).written (length ts) ++ flat_map (topic_if b) ts) later
+topics_offline ts =
+    ap (λ n. (count w32).written n ++ flat_map (topic_as false true) ts) (sym (length-map ts topic_v5))
+    ∙ ap (λ l. (count w32).written (length (map topic_v5 ts)) ++ l) (sym (flat_map-map metadata_topic_v5.written topic_v5 ts))
+
+topics_new : (version : ℤ) (ts : List MetadataTopic) → int_eq version (pos 0) ≡ false → int_eq version (pos 5) ≡ false → topics_in version ts ≡ (array metadata_topic).written ts
+unfolding sized items
+topics_new version ts not0 not5 =
+    ap (λ b. (count w32).written (length ts) ++ flat_map (topic_as b (has_offline version)) ts) not0 ∙ ap (λ b. (count w32).written (length ts) ++ flat_map (topic_as false b) ts) not5
 
 -- what was written, and the topics behind it
 behind : (old new front topics : List ℕ) → new ≡ old ++ front → new ++ topics ≡ old ++ (front ++ topics)
@@ -139,17 +168,17 @@ front_v0 node ts old new wrote =
     let brokers = (array metadata_broker_v0).written (broker_v0 (broker node) ∷ []) in
     behind old new brokers (topics_in (pos 0) ts) wrote ∙ ap (λ x. old ++ (brokers ++ x)) (topics_old ts)
 
-pub front_v1 : (node : Node) (ts : List MetadataTopic) (version : ℤ) (old s1 new : List ℕ) → int_eq version (pos 0) ≡ false → int_eq version (pos 2) ≡ false → int_eq version (pos 3) ≡ false → int_eq version (pos 4) ≡ false
+pub front_v1 : (node : Node) (ts : List MetadataTopic) (version : ℤ) (old s1 new : List ℕ) → int_eq version (pos 0) ≡ false → int_eq version (pos 2) ≡ false → int_eq version (pos 3) ≡ false → int_eq version (pos 4) ≡ false → int_eq version (pos 5) ≡ false
     → s1 ≡ old ++ (array metadata_broker).written (broker node ∷ []) → new ≡ s1 ++ int32.written (pos 0)
     → new ++ topics_in version ts ≡ old ++ metadata_in version (reply_with node ts)
 unfolding metadata_reply
-front_v1 node ts version old s1 new not0 not2 not3 not4 first last =
+front_v1 node ts version old s1 new not0 not2 not3 not4 not5 first last =
     let brokers = (array metadata_broker).written (broker node ∷ []) in
     let self = int32.written (pos 0) in
     let topics = topics_in version ts in
     behind old new (brokers ++ self) topics (written_both old s1 new brokers self first last) ∙ ap (λ x. old ++ x) (append_assoc brokers self topics)
-    ∙ ap (λ x. old ++ (brokers ++ (self ++ x))) (topics_new version ts not0)
-    ∙ sym (ap (λ x. old ++ x) (rw (not0, not2, not3, not4) refl))
+    ∙ ap (λ x. old ++ (brokers ++ (self ++ x))) (topics_new version ts not0 not5)
+    ∙ sym (ap (λ x. old ++ x) (rw (not0, not2, not3, not4, not5) refl))
 
 clustered : (brokers cluster self topics : List ℕ) → (brokers ++ (cluster ++ self)) ++ topics ≡ brokers ++ (cluster ++ (self ++ topics))
 clustered brokers cluster self topics = append_assoc brokers (cluster ++ self) topics ∙ ap (λ x. brokers ++ x) (append_assoc cluster self topics)
@@ -163,30 +192,33 @@ front_v2 node ts old new wrote =
     let self = int32.written (pos 0) in
     let topics = topics_in (pos 2) ts in
     behind old new (brokers ++ (cluster ++ self)) topics wrote ∙ ap (λ x. old ++ x) (clustered brokers cluster self topics)
-    ∙ ap (λ x. old ++ (brokers ++ (cluster ++ (self ++ x)))) (topics_new (pos 2) ts refl)
+    ∙ ap (λ x. old ++ (brokers ++ (cluster ++ (self ++ x)))) (topics_new (pos 2) ts refl refl)
 
-front_v3 : (node : Node) (ts : List MetadataTopic) (old s1 new : List ℕ) → s1 ≡ old ++ int32.written (pos 0)
+-- a throttle time and the cluster, and the topics behind it
+front_v3 : (node : Node) (topics old s1 new : List ℕ) → s1 ≡ old ++ int32.written (pos 0)
     → new ≡ s1 ++ ((array metadata_broker).written (broker node ∷ []) ++ (nullable_string.written None ++ int32.written (pos 0)))
-    → new ++ (array metadata_topic).written ts ≡ old ++ metadata_reply_v3.written (reply_v3 (reply_with node ts))
-unfolding metadata_reply_v3
-front_v3 node ts old s1 new first wrote =
+    → new ++ topics ≡ old ++ (int32.written (pos 0) ++ ((array metadata_broker).written (broker node ∷ []) ++ (nullable_string.written None ++ (int32.written (pos 0) ++ topics))))
+front_v3 node topics old s1 new first wrote =
     let brokers = (array metadata_broker).written (broker node ∷ []) in
     let cluster = nullable_string.written None in
     let self = int32.written (pos 0) in
-    let topics = (array metadata_topic).written ts in
     behind old new (self ++ (brokers ++ (cluster ++ self))) topics (written_both old s1 new self (brokers ++ (cluster ++ self)) first wrote)
     ∙ ap (λ x. old ++ x) (append_assoc self (brokers ++ (cluster ++ self)) topics ∙ ap (λ x. self ++ x) (clustered brokers cluster self topics))
 
--- versions 3 and 4
-pub front_later : (node : Node) (ts : List MetadataTopic) (version : ℤ) (old s1 new : List ℕ) → (version ≡ pos 3) ⊎ (version ≡ pos 4) → s1 ≡ old ++ int32.written (pos 0)
+-- versions 3 to 5
+pub front_later : (node : Node) (ts : List MetadataTopic) (version : ℤ) (old s1 new : List ℕ) → (version ≡ pos 3) ⊎ ((version ≡ pos 4) ⊎ (version ≡ pos 5)) → s1 ≡ old ++ int32.written (pos 0)
     → new ≡ s1 ++ ((array metadata_broker).written (broker node ∷ []) ++ (nullable_string.written None ++ int32.written (pos 0)))
     → new ++ topics_in version ts ≡ old ++ metadata_in version (reply_with node ts)
-front_later node ts version old s1 new either first wrote =
-    let all = front_v3 node ts old s1 new first wrote in
+unfolding metadata_reply_v3
+front_later node ts version old s1 new which first wrote =
+    let all = front_v3 node ((array metadata_topic).written ts) old s1 new first wrote in
+    let offline = front_v3 node ((array metadata_topic_v5).written (map topic_v5 ts)) old s1 new first wrote in
     ⊎_elim
-    (λ is. subst (λ v. new ++ topics_in v ts ≡ old ++ metadata_in v (reply_with node ts)) (sym is) (ap (λ x. new ++ x) (topics_new (pos 3) ts refl) ∙ all))
-    (λ is. subst (λ v. new ++ topics_in v ts ≡ old ++ metadata_in v (reply_with node ts)) (sym is) (ap (λ x. new ++ x) (topics_new (pos 4) ts refl) ∙ all))
-    either
+    (λ is. subst (λ v. new ++ topics_in v ts ≡ old ++ metadata_in v (reply_with node ts)) (sym is) (ap (λ x. new ++ x) (topics_new (pos 3) ts refl refl) ∙ all))
+    (⊎_elim
+    (λ is. subst (λ v. new ++ topics_in v ts ≡ old ++ metadata_in v (reply_with node ts)) (sym is) (ap (λ x. new ++ x) (topics_new (pos 4) ts refl refl) ∙ all))
+    (λ is. subst (λ v. new ++ topics_in v ts ≡ old ++ metadata_in v (reply_with node ts)) (sym is) (ap (λ x. new ++ x) (topics_offline ts) ∙ offline)))
+    which
 
 -- the topics behind what stands before them, until there are more than so many bytes
 pub topics_until_all : (most : ℕ) (version : ℤ) (out : List ℕ) (ts : List MetadataTopic) → AreUntil most (out ++ topics_in version ts) (topics_until most version out ts)

@@ -1,13 +1,13 @@
 -- The broker, and topics with their partitions (Kafka protocol guide, "The Messages: Metadata").
-use Rattle.std.specs.Prelude.{◌≡◌, ℕ, ℤ, pos, false, List, [], ◌∷◌, ◌++◌, length, map, Option, Some, None, Result, Ok, if◌then◌else◌}
+use Rattle.std.specs.Prelude.{◌≡◌, ℕ, ℤ, pos, Bool, false, List, [], ◌∷◌, ◌++◌, length, map, Option, Some, None, Result, Ok, if◌then◌else◌}
 use Rattle.std.specs.Int.{w32}
 use Rattle.std.specs.List.{flat_map, range_with_len}
 use Rattle.std.specs.Option.{option_and_then}
 use Rattle.std.specs.Ordering.{int_eq}
-use Rattle.kb_wire.specs.Codec.{boolean, count, whole, ◌>>=◌}
+use Rattle.kb_wire.specs.Codec.{Codec, array, boolean, count, int16, int32, string, nullable_string, whole, ◌>>=◌, ◌⊗◌}
 use Rattle.kb_wire.specs.declared.fault.WireFault.{WireFault}
 use Rattle.kb_api_data.specs.Layouts.{metadata_request, metadata_request_v0, metadata_request_v4, metadata_topic, metadata_topic_v0}
-use Rattle.kb_api_data.specs.Layouts.{metadata_reply, metadata_reply_v0, metadata_reply_v2, metadata_reply_v3}
+use Rattle.kb_api_data.specs.Layouts.{metadata_broker, metadata_partition, metadata_reply, metadata_reply_v0, metadata_reply_v2, metadata_reply_v3}
 use Rattle.kb_api_data.specs.declared.metadata.MetadataRequest.{MetadataRequest}
 use Rattle.kb_api_data.specs.declared.metadata.MetadataBroker.{MetadataBroker}
 use Rattle.kb_api_data.specs.declared.metadata.MetadataPartition.{MetadataPartition}
@@ -75,18 +75,23 @@ metadata_of w node r = record {
   topics = topics_asked w.known.topics r.topics;
 }
 
--- ---- versions 0 and 2 to 4; any other is version 1
+-- ---- versions 0 and 2 to 5; any other is version 1
 
 -- In version 0 no topics mean all topics.
 abbrev pub all_if_none : List (List ℕ) → MetadataRequest
 all_if_none [] = record { topics = None }
 all_if_none (name ∷ names) = record { topics = Some (name ∷ names) }
 
--- A request, as the one of version 1 that asks the same. No topic is ever made by asking for it, whatever version 4 allows.
+-- No topic is ever made by asking for it, whatever a request from version 4 on allows.
+abbrev pub asked_v4 : List ℕ → Result MetadataRequest WireFault
+asked_v4 body = whole metadata_request_v4 body >>= (λ r. Ok (record { topics = r.topics }))
+
+-- a request, as the one of version 1 that asks the same
 abbrev pub asked_metadata : ℤ → List ℕ → Result MetadataRequest WireFault
 asked_metadata version body =
     if int_eq version (pos 0) then whole metadata_request_v0 body >>= (λ r. Ok (all_if_none r.topics))
-    else if int_eq version (pos 4) then whole metadata_request_v4 body >>= (λ r. Ok (record { topics = r.topics }))
+    else if int_eq version (pos 4) then asked_v4 body
+    else if int_eq version (pos 5) then asked_v4 body
     else whole metadata_request body
 
 -- Version 0 tells neither racks, nor the controller, nor which topics are internal.
@@ -106,6 +111,23 @@ reply_v2 r = record { brokers = r.brokers; cluster_id = None; controller_id = r.
 abbrev pub reply_v3 : MetadataReply → MetadataReplyV3
 reply_v3 r = record { throttle_time_ms = pos 0; brokers = r.brokers; cluster_id = None; controller_id = r.controller_id; topics = r.topics }
 
+-- Version 5 tells beside each partition which of its replicas are offline: none is.
+abbrev pub metadata_partition_v5 : Codec (MetadataPartition × List ℤ)
+metadata_partition_v5 = metadata_partition ⊗ array int32
+
+abbrev pub metadata_topic_v5 : Codec (ℤ × (List ℕ × (Bool × List (MetadataPartition × List ℤ))))
+metadata_topic_v5 = int16 ⊗ string ⊗ boolean ⊗ array metadata_partition_v5
+
+abbrev pub partition_v5 : MetadataPartition → MetadataPartition × List ℤ
+partition_v5 p = (p, [])
+
+abbrev pub topic_v5 : MetadataTopic → ℤ × (List ℕ × (Bool × List (MetadataPartition × List ℤ)))
+topic_v5 t = (t.error_code, (t.name, (t.is_internal, map partition_v5 t.partitions)))
+
+abbrev pub written_v5 : MetadataReply → List ℕ
+written_v5 r = (int32 ⊗ array metadata_broker ⊗ nullable_string ⊗ int32 ⊗ array metadata_topic_v5).written
+    (pos 0, (r.brokers, (None, (r.controller_id, map topic_v5 r.topics))))
+
 -- the reply in bytes
 abbrev pub metadata_in : ℤ → MetadataReply → List ℕ
 metadata_in version r =
@@ -113,14 +135,27 @@ metadata_in version r =
     else if int_eq version (pos 2) then metadata_reply_v2.written (reply_v2 r)
     else if int_eq version (pos 3) then metadata_reply_v3.written (reply_v3 r)
     else if int_eq version (pos 4) then metadata_reply_v3.written (reply_v3 r)
+    else if int_eq version (pos 5) then written_v5 r
     else metadata_reply.written r
 
 -- what it says of whether a topic is internal, of a topic, and of topics behind their count
 abbrev pub internal_in : ℤ → List ℕ
 internal_in version = if int_eq version (pos 0) then [] else boolean.written false
 
+-- whether it tells of offline replicas, and a partition with them or without
+abbrev pub has_offline : ℤ → Bool
+has_offline version = int_eq version (pos 5)
+
+abbrev pub partition_as : Bool → MetadataPartition → List ℕ
+partition_as offline p = if offline then metadata_partition_v5.written (partition_v5 p) else metadata_partition.written p
+
+abbrev pub topic_as : Bool → Bool → MetadataTopic → List ℕ
+topic_as old offline t =
+    if old then metadata_topic_v0.written (topic_v0 t)
+    else if offline then metadata_topic_v5.written (topic_v5 t) else metadata_topic.written t
+
 abbrev pub topic_in : ℤ → MetadataTopic → List ℕ
-topic_in version t = if int_eq version (pos 0) then metadata_topic_v0.written (topic_v0 t) else metadata_topic.written t
+topic_in version t = topic_as (int_eq version (pos 0)) (has_offline version) t
 
 abbrev pub topics_in : ℤ → List MetadataTopic → List ℕ
 topics_in version ts = (count w32).written (length ts) ++ flat_map (topic_in version) ts

@@ -20,7 +20,7 @@ returns-in-2 c = λ topics. on_ok_weaker c.put_cluster.result (λ wrote.
 
 pub returns-in_ok-put_i32-in-3 : goal.returns-in_ok-put_i32-in-3
 returns-in_ok-put_i32-in-3 c = λ topics. on_ok_weaker c.put_cluster-in-3.result (λ wrote.
-    let version : (c.args.version ≡ pos 3) ⊎ (c.args.version ≡ pos 4) = search rules in
+    let version : (c.args.version ≡ pos 3) ⊎ ((c.args.version ≡ pos 4) ⊎ (c.args.version ≡ pos 5)) = search rules in
     front_later c.args.node.now topics c.args.version c.args.sink.now.bytes c.put_i32.new.self.bytes c.put_cluster-in-3.new.sink.bytes version c.in_ok-put_i32-in-3.ensures.ok wrote) c.put_cluster-in-3.ensures
 
 pub returns-in_ok-put_broker-in_default : goal.returns-in_ok-put_broker-in_default
@@ -29,4 +29,5 @@ returns-in_ok-put_broker-in_default c = λ topics. on_ok_weaker c.put_i32-in_def
     let not2 : int_eq c.args.version (pos 2) ≡ false = search rules in
     let not3 : int_eq c.args.version (pos 3) ≡ false = search rules in
     let not4 : int_eq c.args.version (pos 4) ≡ false = search rules in
-    front_v1 c.args.node.now topics c.args.version c.args.sink.now.bytes c.put_broker.new.sink.bytes c.put_i32-in_default.new.self.bytes not0 not2 not3 not4 c.in_ok-put_broker-in_default.ensures wrote) c.put_i32-in_default.ensures.ok
+    let not5 : int_eq c.args.version (pos 5) ≡ false = search rules in
+    front_v1 c.args.node.now topics c.args.version c.args.sink.now.bytes c.put_broker.new.sink.bytes c.put_i32-in_default.new.self.bytes not0 not2 not3 not4 not5 c.in_ok-put_broker-in_default.ensures wrote) c.put_i32-in_default.ensures.ok

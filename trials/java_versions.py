@@ -99,6 +99,8 @@ class Java(Client):
             got.take(">?")
             for _ in range(got.take(">i")):
                 got.take(">h"), got.take(">i"), got.take(">i"), got.array(">i"), got.array(">i")
+                if self.versions["Metadata"] >= 5 and got.array(">i") != []:
+                    raise SystemExit("Metadata: a replica is offline")
         return names
 
     # ---- Producer

@@ -188,7 +188,7 @@ module _ (a b : Scene Seen) (node : Node) (clock : ℕ) (request : Request) (tou
   init_producer_id_told (Err fault) is told = tt
 
   pub offset_commit_told : (r : Result Answer ReadFault) → request.api_key ≡ OFFSET_COMMIT
-      → IfOk r (λ answer. WhereHonest a b (AcknowledgesCommits (CatalogFailed a b) node.limits request.correlation_id a.state.world request.body.now
+      → IfOk r (λ answer. WhereHonest a b (AcknowledgesCommits (CatalogFailed a b) node.limits request.correlation_id request.api_version a.state.world request.body.now
       b.state.world answer))
       → IfOk r (λ answer. WhereHonest a b (IsToldOf a b node clock request touched answer))
   offset_commit_told (Ok answer) is told = λ honest agree. record {

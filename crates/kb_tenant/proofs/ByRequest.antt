@@ -16,7 +16,6 @@ use Rattle.kb_api_data.specs.declared.init_producer_id.InitProducerIdRequest.{In
 use Rattle.kb_api_data.specs.declared.list_offsets.ListOffsetsRequest.{ListOffsetsRequest}
 use Rattle.kb_api_data.specs.declared.metadata.MetadataRequest.{MetadataRequest}
 use Rattle.kb_api_data.specs.declared.produce.ProduceRequest.{ProduceRequest}
-use Rattle.kb_api_group.specs.Layouts.{offset_commit_request}
 use Rattle.kb_api_group.specs.declared.offset_commit.OffsetCommitRequest.{OffsetCommitRequest}
 use Rattle.kb_api_group.specs.declared.offset_fetch_v2.OffsetFetchRequestV2.{OffsetFetchRequestV2}
 use Rattle.kb_tenant_state.specs.World.{World}
@@ -28,6 +27,7 @@ use Rattle.kb_tenant.specs.FindCoordinator.{asked_coordinator}
 use Rattle.kb_tenant.specs.Limits.{is_past}
 use Rattle.kb_tenant.specs.ListOffsets.{asked_listing}
 use Rattle.kb_tenant.specs.Metadata.{asked_metadata}
+use Rattle.kb_tenant.specs.OffsetCommit.{asked_commit}
 use Rattle.kb_tenant.specs.OffsetFetch.{asked_offsets}
 use Rattle.kb_tenant.specs.Replies.{Reaction, Replies, Shuts}
 use Rattle.kb_tenant.specs.Serve.{Outcome, if_read, of_produce, of_fetch, of_list_offsets, of_metadata, of_offset_commit, of_offset_fetch, of_find_coordinator, of_create_topics, of_delete_records, of_delete_topics, of_init_producer_id, plainly_served, stays}
@@ -40,7 +40,7 @@ pub record Cases (P : Outcome → Type 0) (node : Node) (w : World) (clock : ℕ
   pub fetch : (r : FetchRequest) → asked_fetch version body ≡ Ok r → P (of_fetch version node.limits.fetch_bytes w clock r)
   pub list_offsets : (r : ListOffsetsRequest) → asked_listing version body ≡ Ok r → P (of_list_offsets w r)
   pub metadata : (r : MetadataRequest) → asked_metadata version body ≡ Ok r → P (of_metadata node version w r)
-  pub offset_commit : (r : OffsetCommitRequest) → whole offset_commit_request body ≡ Ok r → P (of_offset_commit node.limits w r)
+  pub offset_commit : (r : OffsetCommitRequest) → asked_commit version body ≡ Ok r → P (of_offset_commit node.limits w r)
   pub offset_fetch : (r : OffsetFetchRequestV2) → asked_offsets version body ≡ Ok r → P (of_offset_fetch node.limits.reply_bytes version w r)
   pub find_coordinator : (is_group : Bool) → asked_coordinator version body ≡ Ok is_group → P (of_find_coordinator node version w is_group)
   pub create_topics : (r : CreateTopicsRequestV1) → asked_creations version body ≡ Ok r → P (of_create_topics node.limits version w r)
@@ -85,7 +85,7 @@ by_request P node w clock n key version body c =
     let creates : Outcome = if_read w (within limit create_topics_entries (asked_creations version body)) (of_create_topics node.limits version w) in
     let finds : Outcome = if_read w (asked_coordinator version body) (of_find_coordinator node version w) in
     let asks : Outcome = if_read w (within limit offset_fetch_entries (asked_offsets version body)) (of_offset_fetch node.limits.reply_bytes version w) in
-    let commits : Outcome = if_read w (within limit commit_entries (whole offset_commit_request body)) (of_offset_commit node.limits w) in
+    let commits : Outcome = if_read w (within limit commit_entries (asked_commit version body)) (of_offset_commit node.limits w) in
     let tells : Outcome = if_read w (within limit metadata_entries (asked_metadata version body)) (of_metadata node version w) in
     let lists : Outcome = if_read w (within limit list_offsets_entries (asked_listing version body)) (of_list_offsets w) in
     let fetches : Outcome = if_read w (within limit fetch_entries (asked_fetch version body)) (of_fetch version node.limits.fetch_bytes w clock) in
@@ -104,7 +104,7 @@ by_request P node w clock n key version body c =
     (either P (int_eq key FETCH) fetches from_lists (read_within P w limit fetch_entries (asked_fetch version body) (of_fetch version node.limits.fetch_bytes w clock) c.fetch c.shut)
     (either P (int_eq key LIST_OFFSETS) lists from_tells (read_within P w limit list_offsets_entries (asked_listing version body) (of_list_offsets w) c.list_offsets c.shut)
     (either P (int_eq key METADATA) tells from_commits (read_within P w limit metadata_entries (asked_metadata version body) (of_metadata node version w) c.metadata c.shut)
-    (either P (int_eq key OFFSET_COMMIT) commits from_asks (read_within P w limit commit_entries (whole offset_commit_request body) (of_offset_commit node.limits w) c.offset_commit c.shut)
+    (either P (int_eq key OFFSET_COMMIT) commits from_asks (read_within P w limit commit_entries (asked_commit version body) (of_offset_commit node.limits w) c.offset_commit c.shut)
     (either P (int_eq key OFFSET_FETCH) asks from_finds (read_within P w limit offset_fetch_entries (asked_offsets version body) (of_offset_fetch node.limits.reply_bytes version w) c.offset_fetch c.shut)
     (either P (int_eq key FIND_COORDINATOR) finds from_creates (read_by P w (asked_coordinator version body) (of_find_coordinator node version w) c.find_coordinator c.shut)
     (either P (int_eq key CREATE_TOPICS) creates from_deletes (read_within P w limit create_topics_entries (asked_creations version body) (of_create_topics node.limits version w) c.create_topics c.shut)

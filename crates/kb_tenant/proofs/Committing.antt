@@ -1,10 +1,12 @@
 -- The steps of an OffsetCommit.
-use Rattle.std.proofs.Common.{◌≡◌, ◌∙◌, sym, ap, refl, inl, inr, ⊎_elim, ℕ, ℤ, pos, Bool, Bor, true, false, List, ◌++◌, length, Option, Some, None, Result, Ok, Err}
+use Rattle.std.proofs.Common.{◌≡◌, ◌∙◌, sym, ap, refl, inl, inr, ⊎_elim, ℕ, ℤ, pos, negsuc, Bool, Bor, true, false, List, ◌++◌, length, Option, Some, None, Result, Ok, Err}
 use Rattle.std.specs.Int.{w32}
 use Rattle.std.specs.Option.{option_copied}
 use Rattle.std.specs.Prelude.{◌&&◌, ◌+◌, is_some, nat_lt, not}
 use Rattle.std.specs.List.{flat_map}
-use Rattle.kb_wire.specs.Codec.{array, count, string, int}
+use Rattle.kb_wire.specs.Codec.{array, count, int32, string, int}
+use Rattle.kb_api_data.specs.Both.{both}
+use Rattle.kb_api_data.specs.declared.both.Both.{Both}
 use Rattle.kb_wire.specs.ErrorCode.{code_of}
 use Rattle.kb_wire.specs.declared.error_code.ErrorCode.TheVariants as codes
 use Rattle.kb_api_group.specs.Layouts.{commit_partition, commit_partition_reply, commit_topic, commit_topic_reply, offset_commit_request, offset_commit_reply}
@@ -152,6 +154,12 @@ name_fits t fits = fits.0
 pub entries_fit : (t : CommitTopic) → commit_topic.Fits t → (array commit_partition).Fits t.partitions
 unfolding commit_topic
 entries_fit t fits = fits.1
+
+-- what was read without a retention time fits with one
+pub commit_fits : (q : Both (List ℕ) (Both ℤ (Both (List ℕ) (List CommitTopic)))) → (both string (both int32 (both string (array commit_topic)))).Fits q
+    → offset_commit_request.Fits (record { group_id = q.first; generation_id = q.second.first; member_id = q.second.second.first; retention_time_ms = negsuc 0; topics = q.second.second.second })
+unfolding offset_commit_request both int
+commit_fits q fits = (fits.0, (fits.1.0, (fits.1.1.0, (tt, fits.1.1.1))))
 
 pub group_fits : (q : OffsetCommitRequest) → offset_commit_request.Fits q → string.Fits q.group_id
 unfolding offset_commit_request

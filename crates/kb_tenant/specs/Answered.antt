@@ -42,6 +42,6 @@ pub record IsTruthful (failed full : Type 0) (node : Node) (clock n : ℕ) (key 
   pub removed : key ≡ DELETE_TOPICS → AcknowledgesRemovals (failed ⊎ full) id version w body v touched answer
   pub trimmed : key ≡ DELETE_RECORDS → AcknowledgesDeletions (failed ⊎ full) id w body v touched answer
   pub issued : key ≡ INIT_PRODUCER_ID → AcknowledgesIssue (failed ⊎ full) id w body v answer
-  pub committed : key ≡ OFFSET_COMMIT → AcknowledgesCommits (failed ⊎ full) node.limits id w body v answer
+  pub committed : key ≡ OFFSET_COMMIT → AcknowledgesCommits (failed ⊎ full) node.limits id version w body v answer
   pub looked_up : LooksUp key → IsAnswerOrShut id (plainly_served node w clock n key version body).reaction answer
   pub stays : OnlyReads key → v ≡ w

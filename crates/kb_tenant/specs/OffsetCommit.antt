@@ -1,10 +1,14 @@
--- OffsetCommit (Kafka protocol guide, "The Messages: OffsetCommit", version 2): a group records how far it has processed partitions.
+-- OffsetCommit (Kafka protocol guide, "The Messages: OffsetCommit", versions 2 and 5): a group records how far it has processed partitions.
 -- Whether all entries of a request are refused is a parameter of `committed_all`. This crate's own `served` is that of a tenant whose
 -- groups have no members: there only a consumer that chooses its partitions itself commits, and it names a generation below 0.
-use Rattle.std.specs.Prelude.{ℕ, ℤ, pos, Bool, true, false, List, [], ◌+◌, length, Option, Some, None, is_some, not, int_lt, ◌==◌, ◌&&◌}
-use Rattle.std.specs.Prelude.{if◌then◌else◌}
+use Rattle.std.specs.Prelude.{ℕ, ℤ, pos, negsuc, Bool, true, false, List, [], ◌+◌, length, Option, Some, None, is_some, not, int_lt, ◌==◌, ◌&&◌}
+use Rattle.std.specs.Prelude.{Result, Ok, if◌then◌else◌}
+use Rattle.kb_wire.specs.Codec.{array, int32, string, whole, ◌>>=◌}
 use Rattle.kb_wire.specs.ErrorCode.{code_of}
 use Rattle.kb_wire.specs.declared.error_code.ErrorCode.TheVariants as codes
+use Rattle.kb_wire.specs.declared.fault.WireFault.{WireFault}
+use Rattle.kb_api_data.specs.Both.{both}
+use Rattle.kb_api_group.specs.Layouts.{commit_topic, offset_commit_request}
 use Rattle.kb_api_group.specs.declared.offset_commit.CommitPartition.{CommitPartition}
 use Rattle.kb_api_group.specs.declared.offset_commit.CommitPartitionReply.{CommitPartitionReply}
 use Rattle.kb_api_group.specs.declared.offset_commit.CommitTopic.{CommitTopic}
@@ -78,3 +82,24 @@ committed_topic limits refusal group w t =
 abbrev pub committed_all : DataLimits → World → Option ℤ → OffsetCommitRequest → World × OffsetCommitReply
 committed_all limits w refusal q =
     let r = in_turn (committed_topic limits refusal q.group_id) w q.topics in (r.0, record { topics = r.1 })
+
+-- ---- versions from 5 on; any other is version 2
+
+-- From version 5 on a request has no retention time, which has no effect.
+abbrev pub has_retention_time : ℤ → Bool
+has_retention_time version = int_lt version (pos 5)
+
+-- what a body asks
+abbrev pub commit_as : Bool → List ℕ → Result OffsetCommitRequest WireFault
+commit_as has body =
+    if has then whole offset_commit_request body
+    else whole (both string (both int32 (both string (array commit_topic)))) body >>= (λ q. Ok (record {
+      group_id = q.first;
+      generation_id = q.second.first;
+      member_id = q.second.second.first;
+      retention_time_ms = negsuc 0;
+      topics = q.second.second.second;
+    }))
+
+abbrev pub asked_commit : ℤ → List ℕ → Result OffsetCommitRequest WireFault
+asked_commit version body = commit_as (has_retention_time version) body

@@ -19,7 +19,7 @@ use Rattle.kb_api_data.specs.declared.create_topics_v1.CreateTopicsRequestV1.{Cr
 use Rattle.kb_api_data.specs.declared.delete_records.DeleteRecordsRequest.{DeleteRecordsRequest}
 use Rattle.kb_api_data.specs.declared.delete_topics.DeleteTopicsRequest.{DeleteTopicsRequest}
 use Rattle.kb_api_data.specs.declared.init_producer_id.InitProducerIdRequest.{InitProducerIdRequest}
-use Rattle.kb_api_group.specs.Layouts.{offset_commit_reply, offset_commit_request}
+use Rattle.kb_api_group.specs.Layouts.{offset_commit_reply}
 use Rattle.kb_api_group.specs.declared.offset_commit.OffsetCommitRequest.{OffsetCommitRequest}
 use Rattle.kb_api_group.specs.declared.offset_fetch_v2.OffsetFetchRequestV2.{OffsetFetchRequestV2}
 use Rattle.kb_tenant_state.specs.World.{World}
@@ -34,7 +34,7 @@ use Rattle.kb_tenant.specs.FindCoordinator.{asked_coordinator, coordinator_for, 
 use Rattle.kb_tenant.specs.InitProducerId.{init_producer_id}
 use Rattle.kb_tenant.specs.ListOffsets.{asked_listing, list_offsets}
 use Rattle.kb_tenant.specs.Metadata.{asked_metadata, metadata_in, metadata_of}
-use Rattle.kb_tenant.specs.OffsetCommit.{committed_all, refusal_of}
+use Rattle.kb_tenant.specs.OffsetCommit.{asked_commit, committed_all, refusal_of}
 use Rattle.kb_tenant.specs.OffsetFetch.{asked_offsets, fetched_all, offsets_in}
 use Rattle.kb_tenant.specs.Produce.{produced, is_due}
 use Rattle.kb_tenant.specs.Replies.{Reaction, Replies, Waits, Silent, Shuts, IsAnswer, replies_within}
@@ -123,7 +123,7 @@ plainly_served node w clock n key version body =
     else if int_eq key LIST_OFFSETS then if_read w (within limit list_offsets_entries (asked_listing version body))
     (of_list_offsets w)
     else if int_eq key METADATA then if_read w (within limit metadata_entries (asked_metadata version body)) (of_metadata node version w)
-    else if int_eq key OFFSET_COMMIT then if_read w (within limit commit_entries (whole offset_commit_request body))
+    else if int_eq key OFFSET_COMMIT then if_read w (within limit commit_entries (asked_commit version body))
     (of_offset_commit node.limits w)
     else if int_eq key OFFSET_FETCH then if_read w (within limit offset_fetch_entries (asked_offsets version body))
     (of_offset_fetch node.limits.reply_bytes version w)

@@ -39,7 +39,7 @@ use Rattle.kb_api_data.specs.declared.produce.ProduceRequest.{ProduceRequest}
 use Rattle.kb_api_data.specs.declared.produce.ProduceReply.{ProduceReply}
 use Rattle.kb_wire.specs.ErrorCode.{code_of}
 use Rattle.kb_wire.specs.declared.error_code.ErrorCode.TheVariants as codes
-use Rattle.kb_api_group.specs.Layouts.{offset_commit_reply, offset_commit_request}
+use Rattle.kb_api_group.specs.Layouts.{offset_commit_reply}
 use Rattle.kb_api_group.specs.declared.offset_commit.OffsetCommitReply.{OffsetCommitReply}
 use Rattle.kb_api_group.specs.declared.offset_commit.OffsetCommitRequest.{OffsetCommitRequest}
 use Rattle.kb_api_group.specs.declared.offset_commit.CommitPartition.{CommitPartition}
@@ -64,7 +64,7 @@ use Rattle.kb_tenant.specs.Fetch.{Limits, asked_fetch, begun, bounded, deadline_
 use Rattle.kb_tenant.specs.Fetch.{reply_written}
 use Rattle.kb_tenant.specs.InitProducerId.{id_refused, init_producer_id}
 use Rattle.kb_tenant.specs.ListOffsets.{asked_listing, listed, offset_refused}
-use Rattle.kb_tenant.specs.OffsetCommit.{committed_entry, refusal_of as commit_refusal}
+use Rattle.kb_tenant.specs.OffsetCommit.{asked_commit, committed_entry, refusal_of as commit_refusal}
 use Rattle.kb_tenant.specs.Produce.{Progress, answer, progress, refusal_of, entry_served}
 use Rattle.kb_tenant.specs.Replies.{framed}
 use Rattle.kb_tenant.specs.Room.{reply_length}
@@ -238,10 +238,10 @@ TellsCommits failed limits w q v body =
     (reply : OffsetCommitReply) × ((body ≡ offset_commit_reply.written reply)
     × AreServed (IsCommitTopicTold failed limits (commit_refusal q.group_id q.generation_id) q.group_id) w q.topics v reply.topics)
 
--- The same of a body, where it is a request of OffsetCommit.
-abbrev pub AcknowledgesCommits : Type 0 → DataLimits → ℤ → World → List ℕ → World → Answer → Type 0
-AcknowledgesCommits failed limits id w body v a =
-    (q : OffsetCommitRequest) → whole offset_commit_request body ≡ Ok q → IsReplied id (TellsCommits failed limits w q v) a
+-- The same of a body, where it is a request of OffsetCommit of a version.
+abbrev pub AcknowledgesCommits : Type 0 → DataLimits → (id version : ℤ) → World → List ℕ → World → Answer → Type 0
+AcknowledgesCommits failed limits id version w body v a =
+    (q : OffsetCommitRequest) → asked_commit version body ≡ Ok q → IsReplied id (TellsCommits failed limits w q v) a
 
 -- ---- DeleteRecords
 

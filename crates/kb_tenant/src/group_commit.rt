@@ -1,4 +1,5 @@
-//! OffsetCommit, version 2 (Kafka protocol guide): a group records how far it has processed partitions.
+//! OffsetCommit (Kafka protocol guide): a group records how far it has processed partitions. From version 5 on a request has no
+//! retention time.
 ghost use Rattle.std.specs.Prelude.{◌≡◌, ◌++◌, ◌+◌, ◌-◌, ◌<◌, ◌^◌, ℕ, length, min, nat_lt, pos, List, OnOk};
 ghost use Rattle.std.specs.List.{flat_map};
 ghost use Rattle.kb_api_group.specs.Layouts.{commit_partition_reply, commit_topic, commit_topic_reply, offset_commit_request};
@@ -8,26 +9,78 @@ ghost use Rattle.kb_api_group.specs.declared.offset_commit.CommitTopicReply.{Com
 ghost use Rattle.kb_api_group.specs.declared.offset_commit.OffsetCommitReply.{OffsetCommitReply};
 ghost use Rattle.kb_tenant_state.specs.Scene.{WhereHonest};
 ghost use Rattle.kb_tenant.specs.OffsetCommit.{refusal_of as refusal_for, metadata_in as metadata_for, committed_at, committed};
-ghost use Rattle.kb_tenant.specs.OffsetCommit.{is_one_too_many, is_takeable};
+ghost use Rattle.kb_tenant.specs.Entries.{commit_entries, within};
+ghost use Rattle.kb_tenant.specs.OffsetCommit.{asked_commit, commit_as, has_retention_time, is_one_too_many, is_takeable};
 ghost use Rattle.kb_tenant.specs.OffsetCommit.{committed_entry, committed_topic, committed_all};
 ghost use Rattle.kb_tenant.specs.Produce.{written_next};
 ghost use Rattle.kb_tenant.specs.Told.{CatalogFailed, IsCommitTold, IsCommitTopicTold, IsFaultOf, IsTold};
 ghost use Rattle.kb_tenant.specs.Turns.{in_turn, written_behind, AreServed};
 ghost use Rattle.kb_wire.specs.Codec.{string};
+ghost use Rattle.kb_wire.specs.Reads.{ReadsWhole};
 ghost use Rattle.kb_store.specs.Disk.{Files, Table};
 ghost use Rattle.kb_tenant_state.specs.Parts.{scene, world_of, IsSound};
 ghost use Rattle.kb_tenant_state.specs.Steps.{IsStep, Meets};
 ghost use Rattle.kb_tenant_state.specs.Told.{IsCatalogWant, IsDone};
-ghost use Rattle.std.specs.Prelude.{Some};
+ghost use Rattle.std.specs.Prelude.{Some, Ok, IfOk};
 
 use crate::create_topics::code_in;
 use crate::limits::DataLimits;
+use crate::within::within;
+use kb_api_data::Both;
 use kb_api_group::{CommitPartition, CommitPartitionReply, CommitTopic, OffsetCommitRequest};
 use kb_log::{PartitionLog, Shelf};
 use kb_store::Store;
 use kb_tenant_state::{Parts, TopicPartition};
-use kb_wire::{ErrorCode, Layout, Sink};
-use std::alloc::AllocError;
+use kb_wire::{Array, ErrorCode, Layout, ReadFault, Sink, Text};
+use std::alloc::{AllocError, Global};
+
+/// A request of version 5, which has no retention time.
+type Timeless<'a> = Both<Text<'a>, Both<i32, Both<Text<'a>, Array<CommitTopic<'a>>>>>;
+
+/// Whether a request of a version has a retention time.
+fn has_retention_time(version: i16) -> bool
+    ensures { result ≡ has_retention_time version }
+{
+    version < 5
+}
+
+/// The request that a whole body spells, with a retention time or without one.
+#[tactic(auto, using(crate::proofs::Committing::commit_fits))]
+fn read_commit<'a>(
+    alloc: Global,
+    has_retention_time: bool,
+    body: &'a [u8],
+) -> Result<OffsetCommitRequest<'a>, ReadFault>
+    ensures exact { ReadsWhole (commit_as has_retention_time body.now) result }
+    ensures fits { IfOk result (λ q. offset_commit_request.Fits q) }
+{
+    if has_retention_time {
+        return OffsetCommitRequest::read(alloc, body);
+    }
+    let Both { first, second } = Timeless::read(alloc, body)?;
+    Ok(OffsetCommitRequest {
+        group_id: first,
+        generation_id: second.first,
+        member_id: second.second.first,
+        retention_time_ms: -1,
+        topics: second.second.second,
+    })
+}
+
+/// The request that a body of a version spells, unless it names more topics and partitions than a limit allows.
+pub fn read_commit_within<'a>(
+    alloc: Global,
+    limit: Option<u64>,
+    version: i16,
+    body: &'a [u8],
+) -> Result<OffsetCommitRequest<'a>, ReadFault>
+    ensures exact { ReadsWhole (within limit commit_entries (asked_commit version body.now)) result }
+    ensures spelled { IfOk result (λ q. asked_commit version body.now ≡ Ok q) }
+    ensures fits { IfOk result (λ q. offset_commit_request.Fits q) }
+{
+    let asked = read_commit(alloc, has_retention_time(version), body)?;
+    within(limit, asked)
+}
 
 /// What every entry is refused for where groups have no members: the group has no name, or a member of it commits, and it has
 /// none.

@@ -1,27 +1,25 @@
 //! Requests about the offsets of groups, from their bodies to their replies.
 ghost use Rattle.std.specs.Prelude.{◌≡◌, [], IfOk};
-ghost use Rattle.kb_api_group.specs.Layouts.{offset_commit_request};
 ghost use Rattle.kb_store.specs.Disk.{Files};
 ghost use Rattle.kb_tenant_state.specs.Scene.{WhereHonest};
 ghost use Rattle.kb_tenant.specs.Entries.{commit_entries, offset_fetch_entries, within};
 ghost use Rattle.kb_tenant.specs.FindCoordinator.{asked_coordinator};
+ghost use Rattle.kb_tenant.specs.OffsetCommit.{asked_commit};
 ghost use Rattle.kb_tenant.specs.OffsetFetch.{asked_offsets};
 ghost use Rattle.kb_tenant.specs.Told.{AcknowledgesCommits, CatalogFailed};
 ghost use Rattle.kb_tenant.specs.Serve.{if_read, of_find_coordinator, of_offset_commit, of_offset_fetch, IsServed};
-ghost use Rattle.kb_wire.specs.Codec.{string, whole};
+ghost use Rattle.kb_wire.specs.Codec.{string};
 ghost use Rattle.kb_tenant_state.specs.Parts.{scene, world_of};
 ghost use Rattle.kb_tenant_state.specs.Steps.{IsStep, Meets};
 ghost use Rattle.kb_tenant_state.specs.World.{World};
 
 use crate::answer::{Answer, begin, finish, finish_within, most_bytes};
 use crate::find_coordinator::{find_coordinator, has_key_type, read_find_coordinator};
-use crate::group_commit::{offset_commit, refusal_of};
+use crate::group_commit::{offset_commit, read_commit_within, refusal_of};
 use crate::limits::DataLimits;
 use crate::node::Node;
 use crate::offset_fetch::{has_code, offset_fetch, read_offset_fetch_within};
 use crate::request::Request;
-use crate::within::read_within;
-use kb_api_group::OffsetCommitRequest;
 use kb_log::{PartitionLog, Shelf};
 use kb_store::Store;
 use kb_tenant_state::Parts;
@@ -40,14 +38,15 @@ pub(crate) fn serve_offset_commit<L: PartitionLog + Drop, S: Store>(
     ensures step { IsStep (scene L.log S.disk parts.old shelf.old) (scene L.log S.disk parts.new shelf.new) }
     ensures meets { let a = scene L.log S.disk parts.old shelf.old in let b = scene L.log S.disk parts.new shelf.new in
         Meets a b (IsServed request.now.correlation_id
-        (if_read a.state.world (within limits.request_entries commit_entries (whole offset_commit_request request.now.body.now))
+        (if_read a.state.world (within limits.request_entries commit_entries (asked_commit request.now.api_version request.now.body.now))
         (of_offset_commit limits a.state.world)) b.state.world [] result) }
     ensures acknowledged { let a = scene L.log S.disk parts.old shelf.old in let b = scene L.log S.disk parts.new shelf.new in
         IfOk result (λ answer. WhereHonest a b (AcknowledgesCommits
-        (CatalogFailed a b) limits request.now.correlation_id a.state.world request.now.body.now b.state.world answer)) }
+        (CatalogFailed a b) limits request.now.correlation_id request.now.api_version a.state.world request.now.body.now b.state.world
+        answer)) }
 {
     let limit = limits.request_entries;
-    let asked = read_within::<OffsetCommitRequest<'_>>(alloc, limit, request.body)?;
+    let asked = read_commit_within(alloc, limit, request.api_version, request.body)?;
     let mut sink = begin(alloc, request.correlation_id)?;
     let refusal = refusal_of(asked.group_id.as_str(), asked.generation_id);
     offset_commit(parts, shelf, limits, &asked, refusal, &mut sink)?;

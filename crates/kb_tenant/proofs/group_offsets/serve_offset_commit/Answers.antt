@@ -1,13 +1,39 @@
-use Rattle.std.proofs.Common.{rules, ◌≡◌, ◌∙◌, Ok, ap, of_z, refl, subst, sym, to_z}
-use Rattle.std.specs.Int.{w32}
+use Rattle.std.proofs.Common.{rules, ◌≡◌, ◌∙◌, ◌++◌, [], Ok, ap, of_z, refl, subst, sym, to_z}
+use Rattle.std.specs.Int.{w16, w32}
 use Rattle.kb_api_group.specs.Layouts.{offset_commit_reply}
-use Rattle.kb_tenant.specs.OffsetCommit.{refusal_of}
+use Rattle.kb_tenant.specs.Entries.{commit_entries, within}
+use Rattle.kb_tenant.specs.OffsetCommit.{asked_commit, committed_all, refusal_of}
 use Rattle.kb_tenant.specs.Replies.{begun}
+use Rattle.kb_tenant.specs.Serve.{if_read, of_offset_commit, IsServed}
 use Rattle.kb_tenant.specs.Told.{CatalogFailed, IsCommitTopicTold, IsReplied, TellsCommits}
 use Rattle.kb_tenant.specs.Turns.{AreServed}
 use Rattle.kb_tenant_state.specs.Parts.{scene, world_of}
 use Rattle.kb_tenant.proofs.Acknowledging.{replied_by}
 use Rattle.kb_tenant.proofs.group_offsets.serve_offset_commit.Goals as goal
+
+pub returns-clause-meets : goal.returns-clause-meets
+returns-clause-meets g c = λ honest agree calm.
+    let w = world_of g.L.PartitionLog.log c.args.parts.now (g.S.Store.disk c.args.shelf.now.store).files in
+    let v = world_of g.L.PartitionLog.log c.offset_commit.new.parts (g.S.Store.disk c.offset_commit.new.shelf.store).files in
+    let request = c.args.request.now in
+    let version = request.api_version in
+    let limits = c.args.limits in
+    let asked = c.in_ok-asked.asked in
+    let out = c.in_ok-sink.sink.bytes in
+    let body = offset_commit_reply.written (committed_all limits w (refusal_of asked.group_id asked.generation_id) asked).1 in
+    let id : to_z w32 (of_z w32 request.correlation_id) ≡ request.correlation_id = search rules in
+    let same : to_z w16 (of_z w16 version) ≡ version = search rules in
+    let refusal : c.refusal_of-refusal.result ≡ refusal_of asked.group_id asked.generation_id = search rules in
+    let read : within limits.request_entries commit_entries (asked_commit version request.body.now) ≡ Ok asked =
+    ap (λ x. within limits.request_entries commit_entries (asked_commit x request.body.now)) (sym same) ∙ c.in_ok-asked.ensures.exact in
+    let met = c.in_ok-offset_commit.ensures.meets honest agree calm in
+    subst (λ r. IsServed request.correlation_id (if_read w r (of_offset_commit limits w)) v [] (Ok c.finish.result)) (sym read) (
+      met.0 ∙ ap (λ x. (committed_all limits w x asked).0) refusal,
+      refl,
+      c.finish.ensures request.correlation_id body
+          (met.1 ∙ ap (λ x. out ++ offset_commit_reply.written (committed_all limits w x asked).1) refusal
+          ∙ ap (λ s. s ++ body) (c.in_ok-sink.ensures ∙ ap begun id)),
+    )
 
 pub returns-clause-acknowledged : goal.returns-clause-acknowledged
 returns-clause-acknowledged g c = λ honest agree q read.
@@ -19,7 +45,9 @@ returns-clause-acknowledged g c = λ honest agree q read.
     let failed = CatalogFailed (scene log disk c.args.parts.now c.args.shelf.now) (scene log disk c.offset_commit.new.parts c.offset_commit.new.shelf) in
     let asked = c.in_ok-asked.asked in
     let id : to_z w32 (of_z w32 request.correlation_id) ≡ request.correlation_id = search rules in
-    let both : Ok asked ≡ Ok q = sym c.in_ok-asked.ensures.spelled ∙ read in
+    let version = request.api_version in
+    let same : to_z w16 (of_z w16 version) ≡ version = search rules in
+    let both : Ok asked ≡ Ok q = sym (ap (λ x. asked_commit x request.body.now) (sym same) ∙ c.in_ok-asked.ensures.spelled) ∙ read in
     let one : asked ≡ q = cc in
     let told = c.in_ok-offset_commit.ensures.told honest agree in
     let refusal : c.refusal_of-refusal.result ≡ refusal_of asked.group_id asked.generation_id = search rules in

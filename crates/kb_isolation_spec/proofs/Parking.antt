@@ -10,7 +10,7 @@ use Rattle.kb_api_data.specs.declared.fetch.FetchRequest.{FetchRequest}
 use Rattle.kb_api_data.specs.declared.fetch_v5.FetchReplyV5.{FetchReplyV5}
 use Rattle.kb_api_group.specs.declared.group_key.TheConstants.{DESCRIBE_GROUPS, LIST_GROUPS}
 use Rattle.kb_api_group.specs.Layouts.{describe_groups_reply, describe_groups_request, list_groups_reply, list_groups_request}
-use Rattle.kb_api_group.specs.Layouts.{heartbeat_request, join_group_request, leave_group_request, offset_commit_request, sync_group_request}
+use Rattle.kb_api_group.specs.Layouts.{heartbeat_request, join_group_request, leave_group_request, sync_group_request}
 use Rattle.kb_coordinator.specs.Calls.{is_accepted, join_code, sync_answer}
 use Rattle.kb_coordinator.specs.Groups.{Groups, silent}
 use Rattle.kb_coordinator.specs.Tools.{descriptions, group_list}
@@ -18,6 +18,7 @@ use Rattle.kb_groups.specs.declared.reply.SyncAnswer.{SyncAnswer}
 use Rattle.kb_groups.specs.declared.reply.SyncAnswer.TheVariants as sync
 use Rattle.kb_tenant_state.specs.World.{World}
 use Rattle.kb_tenant_state.specs.declared.topic_partition.TopicPartition.{TopicPartition}
+use Rattle.kb_tenant.specs.OffsetCommit.{asked_commit}
 use Rattle.kb_tenant.specs.CreateTopics.{checked_all, created_all, creations_in, made_of}
 use Rattle.kb_tenant.specs.Entries.{commit_entries, describe_groups_entries, within}
 use Rattle.kb_tenant.specs.Fetch.{asked_fetch, bounded, deadline_of, fetch_answer, places_of, fetched_in}
@@ -145,14 +146,14 @@ parks node w clock gs n key version body =
     let leaves : Outcome = if_read w gs (whole leave_group_request body) (of_leave w clock gs) in
     let beats : Outcome = if_read w gs (whole heartbeat_request body) (of_heartbeat w clock gs) in
     let joins : Outcome = if_read w gs (whole join_group_request body) (of_join w clock n gs) in
-    let commits : Outcome = if_read w gs (within node.limits.request_entries commit_entries (whole offset_commit_request body)) (of_offset_commit node.limits w clock gs) in
+    let commits : Outcome = if_read w gs (within node.limits.request_entries commit_entries (asked_commit version body)) (of_offset_commit node.limits w clock gs) in
     let from_list : Outcome = if int_eq key LIST_GROUPS then lists else others in
     let from_describe : Outcome = if int_eq key DESCRIBE_GROUPS then describes else from_list in
     let from_sync : Outcome = if int_eq key SYNC_GROUP then syncs else from_describe in
     let from_leave : Outcome = if int_eq key LEAVE_GROUP then leaves else from_sync in
     let from_heartbeat : Outcome = if int_eq key HEARTBEAT then beats else from_leave in
     let from_join : Outcome = if int_eq key JOIN_GROUP then joins else from_heartbeat in
-    either version body clock (int_eq key OFFSET_COMMIT) commits from_join (read-parks version body clock w gs (within node.limits.request_entries commit_entries (whole offset_commit_request body)) (of_offset_commit node.limits w clock gs) (λ r deadline limit places e. absurd (cc)))
+    either version body clock (int_eq key OFFSET_COMMIT) commits from_join (read-parks version body clock w gs (within node.limits.request_entries commit_entries (asked_commit version body)) (of_offset_commit node.limits w clock gs) (λ r deadline limit places e. absurd (cc)))
     (either version body clock (int_eq key JOIN_GROUP) joins from_heartbeat (read-parks version body clock w gs (whole join_group_request body) (of_join w clock n gs) (λ r. join-parks version body clock w (of_join w clock n gs r).groups (is_accepted (join_code n r gs)) _))
     (either version body clock (int_eq key HEARTBEAT) beats from_leave (read-parks version body clock w gs (whole heartbeat_request body) (of_heartbeat w clock gs) (λ r deadline limit places e. absurd (cc)))
     (either version body clock (int_eq key LEAVE_GROUP) leaves from_sync (read-parks version body clock w gs (whole leave_group_request body) (of_leave w clock gs) (λ r deadline limit places e. absurd (cc)))

@@ -48,7 +48,7 @@ member_told failed full honest agree node clock n key version id body w gs new s
 
 -- a commit that is told
 pub commit_told : (failed full honest agree : Type 0) (node : Node) (clock n : ℕ) (key version id : ℤ) (body : List ℕ) (w v : World) (gs : Groups) (touched : List TopicPartition) (result : Result Answer ReadFault) → key ≡ OFFSET_COMMIT
-    → IfOk result (λ answer. honest → agree → AcknowledgesCommits (failed ⊎ full) node.limits id gs w body v answer)
+    → IfOk result (λ answer. honest → agree → AcknowledgesCommits (failed ⊎ full) node.limits id version gs w body v answer)
     → IfOk result (λ answer. honest → agree → IsTruthful failed full node clock n key version id body w gs v touched answer)
 commit_told failed full honest agree node clock n key version id body w v gs touched (Ok answer) is told = λ h a. record {
   plain = λ none other. absurd (other is);

@@ -7,10 +7,11 @@ use Rattle.kb_wire.specs.declared.api_key.TheConstants.{OFFSET_COMMIT, JOIN_GROU
 use Rattle.kb_wire.specs.declared.fault.WireFault.{WireFault}
 use Rattle.kb_api_group.specs.declared.group_key.TheConstants.{DESCRIBE_GROUPS, LIST_GROUPS}
 use Rattle.kb_api_group.specs.Layouts.{describe_groups_request, list_groups_request}
-use Rattle.kb_api_group.specs.Layouts.{heartbeat_request, join_group_request, leave_group_request, offset_commit_request, sync_group_request}
+use Rattle.kb_api_group.specs.Layouts.{heartbeat_request, join_group_request, leave_group_request, sync_group_request}
 use Rattle.kb_api_group.specs.declared.offset_commit.OffsetCommitRequest.{OffsetCommitRequest}
 use Rattle.kb_coordinator.specs.Groups.{Groups, silent}
 use Rattle.kb_tenant_state.specs.World.{World}
+use Rattle.kb_tenant.specs.OffsetCommit.{asked_commit}
 use Rattle.kb_tenant.specs.Replies.{Shuts}
 use Rattle.kb_tenant.specs.Entries.{commit_entries, describe_groups_entries, within}
 use Rattle.kb_tenant.specs.Serve as tenant
@@ -43,14 +44,14 @@ by_request P node w clock gs n key version body c =
     let leaves : Outcome = if_read w gs (whole leave_group_request body) (of_leave w clock gs) in
     let beats : Outcome = if_read w gs (whole heartbeat_request body) (of_heartbeat w clock gs) in
     let joins : Outcome = if_read w gs (whole join_group_request body) (of_join w clock n gs) in
-    let commits : Outcome = if_read w gs (within node.limits.request_entries commit_entries (whole offset_commit_request body)) (of_offset_commit node.limits w clock gs) in
+    let commits : Outcome = if_read w gs (within node.limits.request_entries commit_entries (asked_commit version body)) (of_offset_commit node.limits w clock gs) in
     let from_list : Outcome = if int_eq key LIST_GROUPS then lists else others in
     let from_describe : Outcome = if int_eq key DESCRIBE_GROUPS then describes else from_list in
     let from_sync : Outcome = if int_eq key SYNC_GROUP then syncs else from_describe in
     let from_leave : Outcome = if int_eq key LEAVE_GROUP then leaves else from_sync in
     let from_heartbeat : Outcome = if int_eq key HEARTBEAT then beats else from_leave in
     let from_join : Outcome = if int_eq key JOIN_GROUP then joins else from_heartbeat in
-    either P (int_eq key OFFSET_COMMIT) commits from_join (read_by P w gs (within node.limits.request_entries commit_entries (whole offset_commit_request body)) (of_offset_commit node.limits w clock gs) c.commit shut)
+    either P (int_eq key OFFSET_COMMIT) commits from_join (read_by P w gs (within node.limits.request_entries commit_entries (asked_commit version body)) (of_offset_commit node.limits w clock gs) c.commit shut)
     (either P (int_eq key JOIN_GROUP) joins from_heartbeat (read_by P w gs (whole join_group_request body) (of_join w clock n gs) (λ r. c.stays (of_join w clock n gs r).groups (of_join w clock n gs r).reaction) shut)
     (either P (int_eq key HEARTBEAT) beats from_leave (read_by P w gs (whole heartbeat_request body) (of_heartbeat w clock gs) (λ r. c.stays (of_heartbeat w clock gs r).groups (of_heartbeat w clock gs r).reaction) shut)
     (either P (int_eq key LEAVE_GROUP) leaves from_sync (read_by P w gs (whole leave_group_request body) (of_leave w clock gs) (λ r. c.stays (of_leave w clock gs r).groups (of_leave w clock gs r).reaction) shut)

@@ -6,15 +6,16 @@ use Rattle.kb_wire.specs.Codec.{whole}
 use Rattle.kb_wire.specs.declared.api_key.TheConstants.{OFFSET_COMMIT, JOIN_GROUP, HEARTBEAT, LEAVE_GROUP, SYNC_GROUP}
 use Rattle.kb_api_group.specs.declared.group_key.TheConstants.{DESCRIBE_GROUPS, LIST_GROUPS}
 use Rattle.kb_api_group.specs.Layouts.{describe_groups_request, list_groups_request}
-use Rattle.kb_api_group.specs.Layouts.{heartbeat_request, join_group_request, leave_group_request, offset_commit_request, sync_group_request}
+use Rattle.kb_api_group.specs.Layouts.{heartbeat_request, join_group_request, leave_group_request, sync_group_request}
 use Rattle.kb_coordinator.specs.Groups.{Groups}
 use Rattle.kb_tenant_state.specs.World.{World}
+use Rattle.kb_tenant.specs.OffsetCommit.{asked_commit}
 use Rattle.kb_tenant.specs.Entries.{commit_entries, describe_groups_entries, within}
 use Rattle.kb_tenant.specs.Serve as tenant
 use Rattle.kb_tenant.specs.declared.node.Node.{Node}
 use Rattle.kb_tenant_api.specs.Serve.{Outcome, if_read, of_describe, of_heartbeat, of_join, of_leave, of_list, of_offset_commit, of_sync, of_topics, served}
 
-pub served_commit : (node : Node) (w : World) (clock : ℕ) (gs : Groups) (n : ℕ) (key version : ℤ) (body : List ℕ) → key ≡ OFFSET_COMMIT → served node w clock gs n key version body ≡ if_read w gs (within node.limits.request_entries commit_entries (whole offset_commit_request body)) (of_offset_commit node.limits w clock gs)
+pub served_commit : (node : Node) (w : World) (clock : ℕ) (gs : Groups) (n : ℕ) (key version : ℤ) (body : List ℕ) → key ≡ OFFSET_COMMIT → served node w clock gs n key version body ≡ if_read w gs (within node.limits.request_entries commit_entries (asked_commit version body)) (of_offset_commit node.limits w clock gs)
 unfolding served
 served_commit node w clock gs n key version body is = ap (λ k. served node w clock gs n k version body) is
 

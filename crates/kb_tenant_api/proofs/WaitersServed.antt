@@ -9,7 +9,7 @@ use Rattle.kb_wire.specs.ErrorCode.{code_of}
 use Rattle.kb_wire.specs.declared.api_key.TheConstants.{OFFSET_COMMIT, JOIN_GROUP, HEARTBEAT, LEAVE_GROUP, SYNC_GROUP}
 use Rattle.kb_api_group.specs.declared.group_key.TheConstants.{DESCRIBE_GROUPS, LIST_GROUPS}
 use Rattle.kb_api_group.specs.Layouts.{describe_groups_request, list_groups_request}
-use Rattle.kb_api_group.specs.Layouts.{heartbeat_request, join_group_request, leave_group_request, offset_commit_request, sync_group_request}
+use Rattle.kb_api_group.specs.Layouts.{heartbeat_request, join_group_request, leave_group_request, sync_group_request}
 use Rattle.kb_api_group.specs.declared.heartbeat.HeartbeatRequest.{HeartbeatRequest}
 use Rattle.kb_api_group.specs.declared.join_group.JoinGroupRequest.{JoinGroupRequest}
 use Rattle.kb_api_group.specs.declared.leave_group.LeaveGroupRequest.{LeaveGroupRequest}
@@ -33,6 +33,7 @@ use Rattle.kb_coordinator.specs.Groups.{Groups, first_above, found, silent}
 use Rattle.kb_coordinator.specs.Replies.{join_refusal}
 use Rattle.kb_coordinator.specs.Requests.{assigned_to, join_of, named}
 use Rattle.kb_tenant_state.specs.World.{World, new_world}
+use Rattle.kb_tenant.specs.OffsetCommit.{asked_commit}
 use Rattle.kb_tenant.specs.Replies.{Shuts}
 use Rattle.kb_tenant.specs.Entries.{commit_entries, describe_groups_entries, within}
 use Rattle.kb_tenant.specs.Serve as tenant
@@ -151,14 +152,14 @@ served_told node w clock gs n key version body =
     let leaves : Outcome = if_read w gs (whole leave_group_request body) (of_leave w clock gs) in
     let beats : Outcome = if_read w gs (whole heartbeat_request body) (of_heartbeat w clock gs) in
     let joins : Outcome = if_read w gs (whole join_group_request body) (of_join w clock n gs) in
-    let commits : Outcome = if_read w gs (within node.limits.request_entries commit_entries (whole offset_commit_request body)) (of_offset_commit node.limits w clock gs) in
+    let commits : Outcome = if_read w gs (within node.limits.request_entries commit_entries (asked_commit version body)) (of_offset_commit node.limits w clock gs) in
     let from_list : Outcome = if int_eq key LIST_GROUPS then lists else others in
     let from_describe : Outcome = if int_eq key DESCRIBE_GROUPS then describes else from_list in
     let from_sync : Outcome = if int_eq key SYNC_GROUP then syncs else from_describe in
     let from_leave : Outcome = if int_eq key LEAVE_GROUP then leaves else from_sync in
     let from_heartbeat : Outcome = if int_eq key HEARTBEAT then beats else from_leave in
     let from_join : Outcome = if int_eq key JOIN_GROUP then joins else from_heartbeat in
-    either n gs (int_eq key OFFSET_COMMIT) commits from_join (read_told w n gs (within node.limits.request_entries commit_entries (whole offset_commit_request body)) (of_offset_commit node.limits w clock gs) (commit_told node.limits w clock n gs))
+    either n gs (int_eq key OFFSET_COMMIT) commits from_join (read_told w n gs (within node.limits.request_entries commit_entries (asked_commit version body)) (of_offset_commit node.limits w clock gs) (commit_told node.limits w clock n gs))
     (either n gs (int_eq key JOIN_GROUP) joins from_heartbeat (read_told w n gs (whole join_group_request body) (of_join w clock n gs) (join_told w clock n gs))
     (either n gs (int_eq key HEARTBEAT) beats from_leave (read_told w n gs (whole heartbeat_request body) (of_heartbeat w clock gs) (heartbeat_told w clock n gs))
     (either n gs (int_eq key LEAVE_GROUP) leaves from_sync (read_told w n gs (whole leave_group_request body) (of_leave w clock gs) (leave_told w clock n gs))
@@ -244,8 +245,8 @@ leave_waits_told w clock n gs new body r is = told_groups n gs (if_read w gs (wh
     by (Ok q) = leave_told w clock n gs q
     by (Err fault) = silent_served n false gs
 
-pub commit_waits : (limits : DataLimits) (w : World) (clock n : ℕ) (gs new : Groups) (body : List ℕ) (r : Result Answer ReadFault) → AreGroupsBy gs (if_read w gs (within limits.request_entries commit_entries (whole offset_commit_request body)) (of_offset_commit limits w clock gs)).groups r new → IsWaitToldBy n gs r new
-commit_waits limits w clock n gs new body r is = told_groups n gs (if_read w gs (within limits.request_entries commit_entries (whole offset_commit_request body)) (of_offset_commit limits w clock gs)).groups new r (by (within limits.request_entries commit_entries (whole offset_commit_request body))) is
+pub commit_waits : (limits : DataLimits) (w : World) (clock n : ℕ) (gs new : Groups) (version : ℤ) (body : List ℕ) (r : Result Answer ReadFault) → AreGroupsBy gs (if_read w gs (within limits.request_entries commit_entries (asked_commit version body)) (of_offset_commit limits w clock gs)).groups r new → IsWaitToldBy n gs r new
+commit_waits limits w clock n gs new version body r is = told_groups n gs (if_read w gs (within limits.request_entries commit_entries (asked_commit version body)) (of_offset_commit limits w clock gs)).groups new r (by (within limits.request_entries commit_entries (asked_commit version body))) is
   where
     by : (q : Result OffsetCommitRequest WireFault) → AreServed n false gs (if_read w gs q (of_offset_commit limits w clock gs)).groups
     by (Ok q) = commit_told limits w clock n gs q

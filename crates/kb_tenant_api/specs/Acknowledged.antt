@@ -1,14 +1,14 @@
 -- What requests are answered, whatever memory and the store refuse.
 use Rattle.std.specs.Prelude.{◌≡◌, ◌⊎◌, ℕ, ℤ, List, Ok}
-use Rattle.kb_wire.specs.Codec.{whole}
 use Rattle.kb_wire.specs.declared.api_key.TheConstants.{OFFSET_COMMIT, JOIN_GROUP, HEARTBEAT, LEAVE_GROUP, SYNC_GROUP}
 use Rattle.kb_api_group.specs.declared.group_key.TheConstants.{DESCRIBE_GROUPS, LIST_GROUPS}
-use Rattle.kb_api_group.specs.Layouts.{offset_commit_reply, offset_commit_request}
+use Rattle.kb_api_group.specs.Layouts.{offset_commit_reply}
 use Rattle.kb_api_group.specs.declared.offset_commit.OffsetCommitReply.{OffsetCommitReply}
 use Rattle.kb_api_group.specs.declared.offset_commit.OffsetCommitRequest.{OffsetCommitRequest}
 use Rattle.kb_coordinator.specs.Groups.{Groups}
 use Rattle.kb_tenant_state.specs.World.{World}
 use Rattle.kb_tenant_state.specs.declared.topic_partition.TopicPartition.{TopicPartition}
+use Rattle.kb_tenant.specs.OffsetCommit.{asked_commit}
 use Rattle.kb_tenant.specs.Answered as tenant
 use Rattle.kb_tenant.specs.Told.{IsCommitTopicTold, IsReplied}
 use Rattle.kb_tenant.specs.Turns.{AreServed}
@@ -33,10 +33,10 @@ TellsCommits failed limits gs w q v body =
     (reply : OffsetCommitReply) × ((body ≡ offset_commit_reply.written reply)
     × AreServed (IsCommitTopicTold failed limits (commit_refusal gs q) q.group_id) w q.topics v reply.topics)
 
--- The same of a body, where it is a request of OffsetCommit.
-abbrev pub AcknowledgesCommits : Type 0 → DataLimits → ℤ → Groups → World → List ℕ → World → Answer → Type 0
-AcknowledgesCommits failed limits id gs w body v a =
-    (q : OffsetCommitRequest) → whole offset_commit_request body ≡ Ok q → IsPlainly (IsReplied id (TellsCommits failed limits gs w q v)) a
+-- The same of a body, where it is a request of OffsetCommit of a version.
+abbrev pub AcknowledgesCommits : Type 0 → DataLimits → (id version : ℤ) → Groups → World → List ℕ → World → Answer → Type 0
+AcknowledgesCommits failed limits id version gs w body v a =
+    (q : OffsetCommitRequest) → asked_commit version body ≡ Ok q → IsPlainly (IsReplied id (TellsCommits failed limits gs w q v)) a
 
 -- the APIs of a group's members, and of those who look at groups
 abbrev pub IsOfMembers : ℤ → Type 0
@@ -54,6 +54,6 @@ pub record IsTruthful (failed full : Type 0) (node : Node) (clock n : ℕ) (key 
     (v : World) (touched : List TopicPartition) (answer : Answer) : Type 0 where
   pub plain : (IsOfMembers key → ⊥) → (key ≡ OFFSET_COMMIT → ⊥)
       → IsPlainly (tenant.IsTruthful failed full node clock n key version id body w v touched) answer
-  pub committed : key ≡ OFFSET_COMMIT → AcknowledgesCommits (failed ⊎ full) node.limits id gs w body v answer
+  pub committed : key ≡ OFFSET_COMMIT → AcknowledgesCommits (failed ⊎ full) node.limits id version gs w body v answer
   pub members : IsOfMembers key → IsAnswerOrShut id (served node w clock gs n key version body).reaction answer
   pub stays : IsOfMembers key → v ≡ w

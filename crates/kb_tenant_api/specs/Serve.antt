@@ -10,7 +10,7 @@ use Rattle.kb_wire.specs.declared.api_key.TheConstants.{OFFSET_COMMIT, JOIN_GROU
 use Rattle.kb_api_group.specs.declared.group_key.TheConstants.{DESCRIBE_GROUPS, LIST_GROUPS}
 use Rattle.kb_api_group.specs.Layouts.{describe_groups_reply, describe_groups_request, list_groups_reply, list_groups_request}
 use Rattle.kb_api_group.specs.Layouts.{heartbeat_reply, heartbeat_request, join_group_request, leave_group_reply, leave_group_request}
-use Rattle.kb_api_group.specs.Layouts.{offset_commit_reply, offset_commit_request, sync_group_request}
+use Rattle.kb_api_group.specs.Layouts.{offset_commit_reply, sync_group_request}
 use Rattle.kb_wire.specs.declared.error_code.ErrorCode.{ErrorCode}
 use Rattle.kb_api_group.specs.declared.describe_groups.DescribeGroupsRequest.{DescribeGroupsRequest}
 use Rattle.kb_api_group.specs.declared.heartbeat.HeartbeatRequest.{HeartbeatRequest}
@@ -30,7 +30,7 @@ use Rattle.kb_groups.specs.declared.reply.SyncAnswer.TheVariants as sync
 use Rattle.kb_tenant_state.specs.World.{World}
 use Rattle.kb_tenant_state.specs.declared.topic_partition.TopicPartition.{TopicPartition}
 use Rattle.kb_tenant.specs.Entries.{commit_entries, describe_groups_entries, within}
-use Rattle.kb_tenant.specs.OffsetCommit.{committed_all}
+use Rattle.kb_tenant.specs.OffsetCommit.{asked_commit, committed_all}
 use Rattle.kb_tenant.specs.Replies.{Shuts}
 use Rattle.kb_tenant.specs.Serve as tenant
 use Rattle.kb_tenant.specs.declared.limits.DataLimits.{DataLimits}
@@ -118,7 +118,7 @@ if_read w gs (Err fault) f = of_groups w (silent gs) (Plain Shuts)
 unfoldable pub served : Node → World → ℕ → Groups → ℕ → ℤ → ℤ → List ℕ → Outcome
 served node w clock gs n key version body =
     let limit = node.limits.request_entries in
-    if int_eq key OFFSET_COMMIT then if_read w gs (within limit commit_entries (whole offset_commit_request body))
+    if int_eq key OFFSET_COMMIT then if_read w gs (within limit commit_entries (asked_commit version body))
     (of_offset_commit node.limits w clock gs)
     else if int_eq key JOIN_GROUP then if_read w gs (whole join_group_request body) (of_join w clock n gs)
     else if int_eq key HEARTBEAT then if_read w gs (whole heartbeat_request body) (of_heartbeat w clock gs)

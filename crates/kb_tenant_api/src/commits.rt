@@ -1,10 +1,9 @@
 //! OffsetCommit of a tenant whose groups have members.
 ghost use Rattle.std.specs.Prelude.{◌≡◌, [], IfOk};
-ghost use Rattle.kb_api_group.specs.Layouts.{offset_commit_request};
 ghost use Rattle.kb_coordinator.specs.Calls.{after_may_commit};
-ghost use Rattle.kb_wire.specs.Codec.{whole};
 ghost use Rattle.kb_tenant_state.specs.Scene.{WhereHonest};
 ghost use Rattle.kb_tenant.specs.Entries.{commit_entries, within};
+ghost use Rattle.kb_tenant.specs.OffsetCommit.{asked_commit};
 ghost use Rattle.kb_tenant.specs.Told.{CatalogFailed};
 ghost use Rattle.kb_tenant_state.specs.Parts.{scene};
 ghost use Rattle.kb_tenant_state.specs.Steps.{IsStep, Meets};
@@ -16,7 +15,7 @@ use kb_api_group::OffsetCommitRequest;
 use kb_coordinator::Coordinator;
 use kb_log::{PartitionLog, Shelf};
 use kb_store::Store;
-use kb_tenant::{DataLimits, Request, begin, finish, offset_commit, read_within};
+use kb_tenant::{DataLimits, Request, begin, finish, offset_commit, read_commit_within};
 use kb_tenant_state::Parts;
 use kb_wire::ReadFault;
 use std::alloc::Global;
@@ -51,20 +50,22 @@ pub(crate) fn commit_offsets<L: PartitionLog + Drop, S: Store>(
     ensures step { IsStep (scene L.log S.disk parts.old shelf.old) (scene L.log S.disk parts.new shelf.new) }
     ensures meets { let a = scene L.log S.disk parts.old shelf.old in let b = scene L.log S.disk parts.new shelf.new in
         Meets a b (IsServed request.now.correlation_id
-        (if_read a.state.world groups.old (within limits.request_entries commit_entries (whole offset_commit_request request.now.body.now))
+        (if_read a.state.world groups.old
+        (within limits.request_entries commit_entries (asked_commit request.now.api_version request.now.body.now))
         (of_offset_commit limits a.state.world clock groups.old)) b.state.world groups.new [] result) }
     // An offset that is answered with no error is what the catalog has, whatever else was refused.
     ensures acknowledged { let a = scene L.log S.disk parts.old shelf.old in let b = scene L.log S.disk parts.new shelf.new in
         IfOk result (λ answer. WhereHonest a b (AcknowledgesCommits
-        (CatalogFailed a b) limits request.now.correlation_id groups.old a.state.world request.now.body.now b.state.world answer)) }
+        (CatalogFailed a b) limits request.now.correlation_id request.now.api_version groups.old a.state.world request.now.body.now
+        b.state.world answer)) }
     ensures groups { let a = scene L.log S.disk parts.old shelf.old in
         AreGroupsBy groups.old (if_read a.state.world groups.old
-        (within limits.request_entries commit_entries (whole offset_commit_request request.now.body.now))
+        (within limits.request_entries commit_entries (asked_commit request.now.api_version request.now.body.now))
         (of_offset_commit limits a.state.world clock groups.old)).groups result groups.new }
 {
     groups.silence();
     let limit = limits.request_entries;
-    let asked = read_within::<OffsetCommitRequest<'_>>(alloc, limit, request.body)?;
+    let asked = read_commit_within(alloc, limit, request.api_version, request.body)?;
     let mut sink = begin(alloc, request.correlation_id)?;
     let refusal = refusal(groups, clock, &asked);
     offset_commit(parts, shelf, limits, &asked, refusal, &mut sink)?;

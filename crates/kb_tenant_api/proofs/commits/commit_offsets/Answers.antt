@@ -1,11 +1,10 @@
-use Rattle.std.proofs.Common.{rules, ◌≡◌, ◌∙◌, ◌++◌, sym, ap, refl, subst, Ok, to_z, of_z, w32}
-use Rattle.kb_api_group.specs.Layouts.{offset_commit_reply, offset_commit_request}
+use Rattle.std.proofs.Common.{rules, ◌≡◌, ◌∙◌, ◌++◌, sym, ap, refl, subst, Ok, to_z, of_z, w16, w32}
+use Rattle.kb_api_group.specs.Layouts.{offset_commit_reply}
 use Rattle.kb_tenant.specs.Entries.{commit_entries, within}
-use Rattle.kb_tenant.specs.OffsetCommit.{committed_all}
+use Rattle.kb_tenant.specs.OffsetCommit.{asked_commit, committed_all}
 use Rattle.kb_tenant.specs.Replies.{begun}
 use Rattle.kb_tenant.specs.Told.{CatalogFailed, IsCommitTopicTold, IsReplied}
 use Rattle.kb_tenant.specs.Turns.{AreServed}
-use Rattle.kb_wire.specs.Codec.{whole}
 use Rattle.kb_tenant_state.specs.Parts.{scene, world_of}
 use Rattle.kb_tenant_api.specs.Acknowledged.{TellsCommits}
 use Rattle.kb_tenant_api.specs.Serve.{commit_refusal, of_offset_commit}
@@ -26,7 +25,8 @@ returns-clause-meets g c = λ honest agree calm.
     let body = offset_commit_reply.written (committed_all c.args.limits w refusal asked).1 in
     let met = c.in_ok-offset_commit.ensures.meets honest agree calm in
     let id : to_z w32 (of_z w32 request.correlation_id) ≡ request.correlation_id = search rules in
-    was_read request.correlation_id w after gs c.refusal-refusal.new.groups (within c.args.limits.request_entries commit_entries (whole offset_commit_request request.body.now)) asked (of_offset_commit c.args.limits w c.args.clock gs) (answers.Plain c.finish.result) c.in_ok-asked.ensures.exact
+    let same : to_z w16 (of_z w16 request.api_version) ≡ request.api_version = search rules in
+    was_read request.correlation_id w after gs c.refusal-refusal.new.groups (within c.args.limits.request_entries commit_entries (asked_commit request.api_version request.body.now)) asked (of_offset_commit c.args.limits w c.args.clock gs) (answers.Plain c.finish.result) (ap (λ x. within c.args.limits.request_entries commit_entries (asked_commit x request.body.now)) (sym same) ∙ c.in_ok-asked.ensures.exact)
     (commits c.args.limits request.correlation_id w after c.args.clock gs c.silence.new.self c.refusal-refusal.new.groups asked refusal (answers.Plain c.finish.result) c.silence.ensures c.refusal-refusal.ensures.refusal c.refusal-refusal.ensures.after met.0
     (c.finish.ensures request.correlation_id body (met.1 ∙ ap (λ s. s ++ body) (c.in_ok-sink.ensures ∙ ap begun id))))
 
@@ -41,7 +41,8 @@ returns-clause-acknowledged g c = λ honest agree q read.
     let gs = c.args.groups.now in
     let asked = c.in_ok-asked.asked in
     let id : to_z w32 (of_z w32 request.correlation_id) ≡ request.correlation_id = search rules in
-    let both : Ok asked ≡ Ok q = sym c.in_ok-asked.ensures.spelled ∙ read in
+    let same : to_z w16 (of_z w16 request.api_version) ≡ request.api_version = search rules in
+    let both : Ok asked ≡ Ok q = sym (ap (λ x. asked_commit x request.body.now) (sym same) ∙ c.in_ok-asked.ensures.spelled) ∙ read in
     let one : asked ≡ q = cc in
     let told = c.in_ok-offset_commit.ensures.told honest agree in
     let refusal : c.refusal-refusal.result ≡ commit_refusal gs asked = c.refusal-refusal.ensures.refusal ∙ ap (λ x. commit_refusal x asked) c.silence.ensures in

@@ -184,7 +184,7 @@ returns-in_default-clause-groups g c =
 pub returns-in-8-clause-waits : goal.returns-in-8-clause-waits
 returns-in-8-clause-waits g c =
     let w = world_of g.L.PartitionLog.log c.args.parts.now (g.S.Store.disk c.args.shelf.now.store).files in
-    commit_waits c.args.node.now.limits w c.args.clock c.args.request.now.connection c.args.groups.now c.commit_offsets.new.groups c.args.request.now.body.now c.commit_offsets.result c.commit_offsets.ensures.groups
+    commit_waits c.args.node.now.limits w c.args.clock c.args.request.now.connection c.args.groups.now c.commit_offsets.new.groups c.args.request.now.api_version c.args.request.now.body.now c.commit_offsets.result c.commit_offsets.ensures.groups
 
 pub returns-in-12-clause-waits : goal.returns-in-12-clause-waits
 returns-in-12-clause-waits g c =

@@ -170,7 +170,8 @@ class Java(Client):
 
     def commit(self, generation, member, offset):
         """OffsetCommit: the error code."""
-        body = text(GROUP) + struct.pack(">i", generation) + text(member) + struct.pack(">q", -1) + place(TOPIC)
+        retention = struct.pack(">q", -1) if self.versions["OffsetCommit"] < 5 else b""
+        body = text(GROUP) + struct.pack(">i", generation) + text(member) + retention + place(TOPIC)
         got = self.call("OffsetCommit", body + struct.pack(">q", offset) + text(b""), 3)
         got.take(">i"), got.text(), got.take(">i"), got.take(">i")
         return got.take(">h")

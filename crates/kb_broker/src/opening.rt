@@ -39,7 +39,7 @@ const APIS: [Api; 20] = [
     (api_key::FETCH, 4, 5, 4, 6),
     (api_key::LIST_OFFSETS, 1, 1, 1, 3),
     (api_key::METADATA, 1, 1, 0, 5),
-    (api_key::OFFSET_COMMIT, 2, 2, 2, 4),
+    (api_key::OFFSET_COMMIT, 2, 2, 2, 5),
     (api_key::OFFSET_FETCH, 1, 1, 1, 4),
     (api_key::FIND_COORDINATOR, 0, 0, 0, 2),
     (api_key::JOIN_GROUP, 1, 1, 1, 3),

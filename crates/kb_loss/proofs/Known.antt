@@ -1,0 +1,286 @@
+-- What a catalog knows after more commands.
+use Rattle.std.proofs.Common.{◌≡◌, ◌∙◌, ◌<◌, ◌≤◌, ◌+◌, ◌++◌, ◌∷◌, ◌⊎◌, ◌≤ℤ◌, [], ℕ, ℤ, zero, suc, Bool, true, false, cond, Option, Some, None, List, length, nat_le, sym, ap, subst, refl, inl, inr, ⊎_elim, arith}
+use Rattle.std.specs.Prelude.{◌&&◌, pos, negsuc, int_le, slice_get, slice_set}
+use Rattle.std.specs.List.{AllByRecursion, Contains}
+use Rattle.std.specs.Map.{keys_of, lookup}
+use Rattle.std.specs.BTreeMap.{is_at}
+use Rattle.std.specs.Option.{option_and_then, option_map}
+use Rattle.std.specs.Ordering.{int_eq, nat_cmp}
+use Rattle.std.proofs.lemmas.Bool.{cases_eq}
+use Rattle.std.proofs.lemmas.Int.{ints}
+use Rattle.std.proofs.lemmas.Option.{none-some, same_Some}
+use Rattle.kb_batch.specs.Batch.{natural}
+use Rattle.kb_topics.specs.declared.command.CommitOffset.{CommitOffset}
+use Rattle.kb_topics.specs.declared.command.Command.{Command}
+use Rattle.kb_topics.specs.declared.command.Command.TheVariants.{Create, Delete, Issue, Commit, Start, Snapshot, Topic}
+use Rattle.kb_topics.specs.Known.{Known, PartitionState, TopicState, topic_at, named, partition_at, with_topic, without_topic, with_id, with_part, with_partition, with_commit, with_start, put_topic, new_topic, config_in, offset_in, may_create, is_left, step}
+use Rattle.kb_topics.specs.MetaLog.{Says, SayEach, IsFoldOf}
+use Rattle.kb_topics.specs.Reading.{Reading, in_use, read_all, read_step, starting_at}
+use Rattle.kb_topics.specs.WellFormed.{IsWellFormed, AreTopics}
+use Rattle.kb_topics.proofs.Links.{named_found, same_number}
+use Rattle.kb_topics.proofs.WellFormed.{read_well_formed, fold_well_formed}
+use Rattle.kb_tenant_state.proofs.StillKept.{other_removed, inserted_other}
+use Rattle.kb_tenant_state.proofs.Put.{found_put, own_number, other_number}
+use Rattle.kb_replay.proofs.Reading.{one_command}
+use Rattle.kb_opening.specs.Opened.{EndsWith, IsLongestFold}
+use Rattle.kb_loss.specs.Fronts.{IsFrontOf}
+use Rattle.kb_loss.specs.Known.{StartNoEarlier, IsStillThere, StaysAt, GoesOnTo}
+
+-- ---- partitions
+
+int_same : (z : ℤ) → z ≤ℤ z
+int_same z = grind (arith, ints)
+
+int_then : (x y z : ℤ) → x ≤ℤ y → y ≤ℤ z → x ≤ℤ z
+int_then x y z a b = grind (arith, ints, a, b)
+
+int_is : (x y : ℤ) → int_le x y ≡ true → x ≤ℤ y
+int_is x y e = grind (arith, ints, e)
+
+starts_same : (ps : List PartitionState) → StartNoEarlier ps ps
+starts_same [] = tt
+starts_same (p ∷ ps) = (int_same p.start, starts_same ps)
+
+starts_then : (ps qs rs : List PartitionState) → StartNoEarlier ps qs → StartNoEarlier qs rs → StartNoEarlier ps rs
+starts_then [] [] [] a b = tt
+starts_then [] [] (r ∷ rs) a b = absurd b
+starts_then [] (q ∷ qs) rs a b = absurd a
+starts_then (p ∷ ps) [] rs a b = absurd a
+starts_then (p ∷ ps) (q ∷ qs) [] a b = absurd b
+starts_then (p ∷ ps) (q ∷ qs) (r ∷ rs) a b = (int_then p.start q.start r.start a.0 b.0, starts_then ps qs rs a.1 b.1)
+
+starts_set : (ps : List PartitionState) (n : ℕ) (p q : PartitionState) → slice_get ps n ≡ Some p → p.start ≤ℤ q.start → StartNoEarlier ps (slice_set ps n q)
+starts_set [] n p q at l = absurd cc
+starts_set (x ∷ ps) zero p q at l = let same : x ≡ p = cc in (subst (λ (y : PartitionState). y.start ≤ℤ q.start) (sym same) l, starts_same ps)
+starts_set (x ∷ ps) (suc n) p q at l = (int_same x.start, starts_set ps n p q at l)
+
+pub starts_get : (ps qs : List PartitionState) (n : ℕ) (p : PartitionState) → StartNoEarlier ps qs → slice_get ps n ≡ Some p → (q : PartitionState) × (slice_get qs n ≡ Some q) × (p.start ≤ℤ q.start)
+starts_get [] qs n p a at = absurd cc
+starts_get (x ∷ ps) [] n p a at = absurd a
+starts_get (x ∷ ps) (q ∷ qs) zero p a at = let same : x ≡ p = cc in (q, refl, subst (λ (y : PartitionState). y.start ≤ℤ q.start) same a.0)
+starts_get (x ∷ ps) (q ∷ qs) (suc n) p a at = starts_get ps qs n p a.1 at
+
+-- ---- topics
+
+still_itself : (t : TopicState) → IsStillThere t t
+still_itself t = record { name = refl; config = refl; partitions = starts_same t.partitions }
+
+still_then : (t u v : TopicState) → IsStillThere t u → IsStillThere u v → IsStillThere t v
+still_then t u v a b = record { name = b.name ∙ a.name; config = b.config ∙ a.config; partitions = starts_then t.partitions u.partitions v.partitions a.partitions b.partitions }
+
+-- one command keeps a topic, or deletes it
+abbrev Keeps : ℕ → TopicState → Command → Known → Type 0
+Keeps i t c new = (c ≡ Delete t.name) ⊎ StaysAt i t new
+
+stays_same : (i : ℕ) (t : TopicState) (new : Known) → topic_at i new.topics ≡ Some t → StaysAt i t new
+stays_same i t new at = record { topic = t; at = at; still = still_itself t }
+
+below_creates : (n : ℕ) (ts : List (ℕ × TopicState)) (i : ℕ) (t : TopicState) → AreTopics n ts → topic_at i ts ≡ Some t → i < n
+below_creates n [] i t all at = absurd cc
+below_creates n (e ∷ ts) i t all at = by (is_at (nat_cmp i) e.0) refl at (λ rest. below_creates n ts i t all.1 rest)
+  where
+    by : (b : Bool) → is_at (nat_cmp i) e.0 ≡ b → cond b (Some e.1) (topic_at i ts) ≡ Some t → (topic_at i ts ≡ Some t → i < n) → i < n
+    by true is at more = let same = same_number i e.0 is in let low = all.0.0 in omega (arith, same, low)
+    by false is at more = more at
+
+-- a partition that starts no earlier is put in the place of one
+put_keeps : (i j p : ℕ) (part new : PartitionState) (k : Known) (t u : TopicState) → topic_at j k.topics ≡ Some u → slice_get u.partitions p ≡ Some part → part.start ≤ℤ new.start → topic_at i k.topics ≡ Some t
+    → StaysAt i t (record k { topics = put_topic j p new k.topics (topic_at j k.topics) })
+put_keeps i j p part new k t u there at l has =
+    let put : put_topic j p new k.topics (topic_at j k.topics) ≡ put_topic j p new k.topics (Some u) = ap (put_topic j p new k.topics) there in
+    let found = ap (topic_at i) put ∙ found_put k.topics j i u (with_part p new u) there in
+    by (is_at (nat_cmp j) i) refl found
+  where
+    by : (b : Bool) → is_at (nat_cmp j) i ≡ b → topic_at i (put_topic j p new k.topics (topic_at j k.topics)) ≡ cond b (Some (with_part p new u)) (topic_at i k.topics) → StaysAt i t (record k { topics = put_topic j p new k.topics (topic_at j k.topics) })
+    by true is found =
+        let same = same_number j i is in
+        let one : u ≡ t = same_Some u t (sym there ∙ ap (λ n. topic_at n k.topics) same ∙ has) in
+        record {
+          topic = with_part p new u;
+          at = found;
+          still = subst (λ (x : TopicState). IsStillThere x (with_part p new u)) one (record { name = refl; config = refl; partitions = starts_set u.partitions p part new at l });
+        }
+    by false is found = record { topic = t; at = found ∙ has; still = still_itself t }
+
+found_topic : (k : Known) (i p : ℤ) (part : PartitionState) → partition_at k i p ≡ Some part → (u : TopicState) × (topic_at (natural i) k.topics ≡ Some u) × (slice_get u.partitions (natural p) ≡ Some part)
+found_topic k (pos i) (pos p) part at = by (topic_at i k.topics) refl at
+  where
+    by : (o : Option TopicState) → topic_at i k.topics ≡ o → option_and_then (λ (t : TopicState). slice_get t.partitions p) o ≡ Some part → (u : TopicState) × (topic_at i k.topics ≡ Some u) × (slice_get u.partitions p ≡ Some part)
+    by None is at = absurd (none-some part at)
+    by (Some u) is at = (u, is, at)
+found_topic k (pos i) (negsuc p) part at = absurd (none-some part at)
+found_topic k (negsuc i) p part at = absurd (none-some part at)
+
+module _ (i : ℕ) (t : TopicState) (k : Known) (has : topic_at i k.topics ≡ Some t) where
+  keeps_by : (j p : ℤ) (new : PartitionState → PartitionState) (n : Known) (o : Option PartitionState) → partition_at k j p ≡ o → ((part : PartitionState) → part.start ≤ℤ (new part).start) → option_map (λ part. with_partition k j p (new part)) o ≡ Some n → StaysAt i t n
+  keeps_by j p new n None is l e = absurd (none-some n e)
+  keeps_by j p new n (Some part) is l e =
+      let f = found_topic k j p part is in
+      subst (StaysAt i t) (same_Some (with_partition k j p (new part)) n e) (put_keeps i (natural j) (natural p) part (new part) k t f.0 f.1 f.2 (l part) has)
+
+  starts_by : (j p offset : ℤ) (n : Known) (o : Option PartitionState) → partition_at k j p ≡ o → option_and_then (λ (part : PartitionState). cond (int_le part.start offset) (Some (with_partition k j p (with_start part offset))) None) o ≡ Some n → StaysAt i t n
+  starts_by j p offset n None is e = absurd (none-some n e)
+  starts_by j p offset n (Some part) is e = by (int_le part.start offset) refl e
+    where
+      by : (b : Bool) → int_le part.start offset ≡ b → cond b (Some (with_partition k j p (with_start part offset))) None ≡ Some n → StaysAt i t n
+      by true l e =
+          let f = found_topic k j p part is in
+          subst (StaysAt i t) (same_Some (with_partition k j p (with_start part offset)) n e) (put_keeps i (natural j) (natural p) part (with_start part offset) k t f.0 f.1 f.2 (int_is part.start offset l) has)
+      by false l e = absurd (none-some n e)
+
+  commits_by : (c : CommitOffset) (n : Known) (b : Bool) → cond b (option_map (λ part. with_partition k c.instance c.partition (with_commit part c.group (offset_in c))) (partition_at k c.instance c.partition)) None ≡ Some n → StaysAt i t n
+  commits_by c n true e = keeps_by c.instance c.partition (λ part. with_commit part c.group (offset_in c)) n (partition_at k c.instance c.partition) refl (λ part. int_same part.start) e
+  commits_by c n false e = absurd (none-some n e)
+
+  creates_by : (n : Known) (new : TopicState) (b : Bool) → IsWellFormed k → cond b (Some (with_topic k new)) None ≡ Some n → StaysAt i t n
+  creates_by n new true wf e =
+      let low = below_creates k.creates k.topics i t wf.topics has in
+      subst (StaysAt i t) (same_Some (with_topic k new) n e) (stays_same i t (with_topic k new) (inserted_other k.creates i new k.topics (λ same. omega (arith, same, low)) ∙ has))
+  creates_by n new false wf e = absurd (none-some n e)
+
+  deletes_by : (name : List ℕ) (n : Known) (o : Option ℕ) → IsWellFormed k → named name k.topics ≡ o → option_map (without_topic k) o ≡ Some n → Keeps i t (Delete name) n
+  deletes_by name n None wf is e = absurd (none-some n e)
+  deletes_by name n (Some j) wf is e = ⊎_elim
+      (λ (same : i ≡ j).
+      let f = named_found name k.topics j is wf.ordered in
+      let one : f.0 ≡ t = same_Some f.0 t (sym f.1 ∙ ap (λ m. topic_at m k.topics) (sym same) ∙ has) in
+      inl (ap Delete (sym f.2 ∙ ap (λ (x : TopicState). x.name) one)))
+      (λ (ne : i ≡ j → ⊥). inr (subst (StaysAt i t) (same_Some (without_topic k j) n e) (stays_same i t (without_topic k j) (other_removed j i k.topics ne ∙ has))))
+      (cases_eq i j)
+
+  issues_by : (n : Known) (b : Bool) → cond b (Some (with_id k)) None ≡ Some n → StaysAt i t n
+  issues_by n true e = subst (StaysAt i t) (same_Some (with_id k) n e) (stays_same i t (with_id k) has)
+  issues_by n false e = absurd (none-some n e)
+
+  step_keeps : (c : Command) (n : Known) → IsWellFormed k → step k c ≡ Some n → Keeps i t c n
+  step_keeps (Create c) n wf e = inr (creates_by n (new_topic c.name (natural c.partitions) (config_in c)) (may_create k c) wf e)
+  step_keeps (Delete name) n wf e = deletes_by name n (named name k.topics) wf refl e
+  step_keeps (Issue id) n wf e = inr (issues_by n (int_eq id (pos k.issues) && is_left k.issues) e)
+  step_keeps (Commit c) n wf e = inr (commits_by c n (nat_le (length c.metadata) 4096) e)
+  step_keeps (Start s) n wf e = inr (starts_by s.instance s.partition s.offset n (partition_at k s.instance s.partition) refl e)
+  step_keeps (Snapshot s) n wf e = absurd (none-some n e)
+  step_keeps (Topic c) n wf e = absurd (none-some n e)
+
+-- ---- numbers
+
+abbrev counts : Known → Known → Type 0
+counts k n = (k.creates ≤ n.creates) × (k.issues ≤ n.issues)
+
+module _ (k : Known) where
+  counts_is : (m n : Known) → counts k m → Some m ≡ Some n → counts k n
+  counts_is m n c e = subst (counts k) (same_Some m n e) c
+
+  counts_cond : (m n : Known) (b : Bool) → counts k m → cond b (Some m) None ≡ Some n → counts k n
+  counts_cond m n true c e = counts_is m n c e
+  counts_cond m n false c e = absurd (none-some n e)
+
+  counts_map : {A : Type 0} (f : A → Known) (n : Known) (o : Option A) → ((x : A) → counts k (f x)) → option_map f o ≡ Some n → counts k n
+  counts_map f n None c e = absurd (none-some n e)
+  counts_map f n (Some x) c e = counts_is (f x) n (c x) e
+
+  counts_then : {A : Type 0} (f : A → Option Known) (n : Known) (o : Option A) → ((x : A) → f x ≡ Some n → counts k n) → option_and_then f o ≡ Some n → counts k n
+  counts_then f n None c e = absurd (none-some n e)
+  counts_then f n (Some x) c e = c x e
+
+  counts_both : (o : Option Known) (n : Known) (b : Bool) → (o ≡ Some n → counts k n) → cond b o None ≡ Some n → counts k n
+  counts_both o n true c e = c e
+  counts_both o n false c e = absurd (none-some n e)
+
+  same_counts : counts k k
+  same_counts = (omega arith, omega arith)
+
+  step_counts : (c : Command) (n : Known) → step k c ≡ Some n → counts k n
+  step_counts (Create c) n e = counts_cond (with_topic k (new_topic c.name (natural c.partitions) (config_in c))) n (may_create k c) (omega arith, omega arith) e
+  step_counts (Delete name) n e = counts_map (without_topic k) n (named name k.topics) (λ i. same_counts) e
+  step_counts (Issue id) n e = counts_cond (with_id k) n (int_eq id (pos k.issues) && is_left k.issues) (omega arith, omega arith) e
+  step_counts (Commit c) n e =
+      counts_both (option_map (λ part. with_partition k c.instance c.partition (with_commit part c.group (offset_in c))) (partition_at k c.instance c.partition)) n (nat_le (length c.metadata) 4096)
+      (λ f. counts_map (λ part. with_partition k c.instance c.partition (with_commit part c.group (offset_in c))) n (partition_at k c.instance c.partition) (λ part. same_counts) f) e
+  step_counts (Start s) n e =
+      counts_then (λ (part : PartitionState). cond (int_le part.start s.offset) (Some (with_partition k s.instance s.partition (with_start part s.offset))) None) n (partition_at k s.instance s.partition)
+      (λ part f. counts_cond (with_partition k s.instance s.partition (with_start part s.offset)) n (int_le part.start s.offset) same_counts f) e
+  step_counts (Snapshot s) n e = absurd (none-some n e)
+  step_counts (Topic c) n e = absurd (none-some n e)
+
+-- ---- commands, one after another
+
+contains_first : (c d : Command) (cs : List Command) → d ≡ c → Contains (d ∷ cs) c
+contains_first c d cs e = (0, omega arith, e)
+
+contains_later : (c d : Command) (cs : List Command) → Contains cs c → Contains (d ∷ cs) c
+contains_later c d cs (k, l, e) = (suc k, omega (arith, l), e)
+
+goes_nowhere : (k n : Known) → Some (in_use k) ≡ Some (in_use n) → GoesOnTo k n
+goes_nowhere k n e =
+    let same : k ≡ n = ap (λ (r : Reading). r.known) (same_Some (in_use k) (in_use n) e) in
+    subst (GoesOnTo k) same (record { commands = []; read = refl; topics = λ i t at. inr (stays_same i t k at); creates = omega arith; issues = omega arith })
+
+goes_once : (k m n : Known) (c : Command) → IsWellFormed k → step k c ≡ Some m → GoesOnTo m n → GoesOnTo k n
+goes_once k m n c wf e on = record {
+  commands = c ∷ on.commands;
+  read = ap (λ o. option_and_then (λ (r : Reading). read_all r on.commands) (option_map in_use o)) e ∙ on.read;
+  topics = λ i t at. ⊎_elim
+      (λ (deleted : c ≡ Delete t.name). inl (contains_first (Delete t.name) c on.commands deleted))
+      (λ (s : StaysAt i t m). ⊎_elim
+      (λ (later : Contains on.commands (Delete s.topic.name)).
+      inl (contains_later (Delete t.name) c on.commands (subst (λ (x : List ℕ). Contains on.commands (Delete x)) s.still.name later)))
+      (λ (u : StaysAt i s.topic n). inr (record { topic = u.topic; at = u.at; still = still_then t s.topic u.topic s.still u.still }))
+      (on.topics i s.topic s.at))
+      (step_keeps i t k at c m wf e);
+  creates = let one = step_counts k c m e in omega (arith, one.0, on.creates);
+  issues = let one = step_counts k c m e in omega (arith, one.1, on.issues);
+}
+
+goes_all : (ss : List (List ℕ)) (cs : List Command) (k n : Known) → SayEach ss cs → IsWellFormed k → read_all (in_use k) cs ≡ Some (in_use n) → GoesOnTo k n
+goes_all [] [] k n said wf e = goes_nowhere k n e
+goes_all [] (c ∷ cs) k n said wf e = absurd said
+goes_all (s ∷ ss) [] k n said wf e = absurd said
+goes_all (s ∷ ss) (c ∷ cs) k n said wf e = by (step k c) refl e (λ m w f. goes_all ss cs m n said.1 w f)
+  where
+    by : (o : Option Known) → step k c ≡ o → option_and_then (λ (r : Reading). read_all r cs) (option_map in_use o) ≡ Some (in_use n) → ((m : Known) → IsWellFormed m → read_all (in_use m) cs ≡ Some (in_use n) → GoesOnTo m n) → GoesOnTo k n
+    by None is f more = absurd (none-some (in_use n) f)
+    by (Some m) is f more = goes_once k m n c wf is (more m (read_well_formed s (in_use k) (in_use m) c said.0 (ap (option_map in_use) is) wf) f)
+
+-- ---- a catalog's batches
+
+-- the first of some commands that are applicable is
+stepped : (j k : Reading) (c : Command) (cs : List Command) → read_all j (c ∷ cs) ≡ Some k → (n : Reading) × (read_step j c ≡ Some n) × (read_all n cs ≡ Some k)
+stepped j k c cs e = by (read_step j c) refl
+  where
+    by : (o : Option Reading) → read_step j c ≡ o → (n : Reading) × (read_step j c ≡ Some n) × (read_all n cs ≡ Some k)
+    by None is = absurd (none-some k (sym (ap (option_and_then (λ (m : Reading). read_all m cs)) is) ∙ e))
+    by (Some n) is = (n, is, sym (ap (option_and_then (λ (m : Reading). read_all m cs)) is) ∙ e)
+
+head_is : (s t : List ℕ) (ss ts : List (List ℕ)) → s ∷ ss ≡ t ∷ ts → (s ≡ t) × (ss ≡ ts)
+head_is s t ss ts e = (cc, cc)
+
+-- the commands behind those that were all read
+record Further (k n : Reading) : Type 0 where
+  batches : List (List ℕ)
+  commands : List Command
+  said : SayEach batches commands
+  read : read_all k commands ≡ Some n
+
+further : (j k n : Reading) (us ws xs ys : List (List ℕ)) (cs ds : List Command) → SayEach us cs → SayEach ws ds → read_all j cs ≡ Some k → read_all j ds ≡ Some n → us ++ xs ≡ ws ++ ys → EndsWith ys n → Further k n
+further j k n [] ws xs ys [] ds p q f g e s = record { batches = ws; commands = ds; said = q; read = subst (λ (r : Reading). read_all r ds ≡ Some n) (same_Some j k f) g }
+further j k n [] ws xs ys (c ∷ cs) ds p q f g e s = absurd p
+further j k n (u ∷ us) ws xs ys [] ds p q f g e s = absurd p
+further j k n (u ∷ us) [] xs ys (c ∷ cs) [] p q f g e s =
+    let made = stepped j k c cs f in
+    let none : read_step n c ≡ None = subst (λ (zs : List (List ℕ)). EndsWith zs n) (sym e) s c p.0 in
+    absurd (none-some made.0 (sym none ∙ ap (λ m. read_step m c) (sym (same_Some j n g)) ∙ made.1))
+further j k n (u ∷ us) [] xs ys (c ∷ cs) (d ∷ ds) p q f g e s = absurd q
+further j k n (u ∷ us) (w ∷ ws) xs ys (c ∷ cs) [] p q f g e s = absurd q
+further j k n (u ∷ us) (w ∷ ws) xs ys (c ∷ cs) (d ∷ ds) p q f g e s =
+    let heads = head_is u w (us ++ xs) (ws ++ ys) e in
+    let one : d ≡ c = one_command w d c q.0 (subst (λ (t : List ℕ). Says t c) heads.0 p.0) in
+    let made = stepped j k c cs f in
+    let also = stepped j n d ds g in
+    let same : also.0 ≡ made.0 = same_Some also.0 made.0 (sym also.1 ∙ ap (read_step j) one ∙ made.1) in
+    further made.0 k n us ws xs ys cs ds p.1 q.1 made.2 (subst (λ (m : Reading). read_all m ds ≡ Some n) same also.2) heads.1 s
+
+-- where batches that were all commands are a front of others, these come to what those came to after more commands
+pub catalog_on : (generation : ℕ) (bs cs : List (List ℕ)) (k n : Known) → IsFoldOf generation bs k → IsFrontOf bs cs → IsLongestFold generation cs n → GoesOnTo k n
+catalog_on generation bs cs k n fold front long =
+    let more = further (starting_at generation) (in_use k) (in_use n) bs long.before front.rest long.behind fold.commands long.fold.commands fold.said long.fold.said fold.read long.fold.read (sym front.split ∙ long.split) long.ends in
+    goes_all more.batches more.commands k n more.said (fold_well_formed generation bs k fold) more.read

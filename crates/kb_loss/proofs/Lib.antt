@@ -1,0 +1,10 @@
+pub mod Chains
+pub mod Fronts
+pub mod Headers
+pub mod Known
+pub mod Left
+pub mod Logs
+pub mod Orders
+pub mod Owned
+pub mod Since
+pub mod Tenant

@@ -1,0 +1,35 @@
+-- What a catalog knows after more commands.
+use Rattle.std.specs.Prelude.{◌≡◌, ◌≤◌, ◌≤ℤ◌, ◌⊎◌, ℕ, List, [], ◌∷◌, Some}
+use Rattle.std.specs.List.{Contains}
+use Rattle.kb_topics.specs.declared.command.Command.{Command}
+use Rattle.kb_topics.specs.declared.command.Command.TheVariants.{Delete}
+use Rattle.kb_topics.specs.Known.{Known, PartitionState, TopicState, topic_at}
+use Rattle.kb_topics.specs.Reading.{in_use, read_all}
+
+-- As many partitions, none of which starts earlier than it did.
+abbrev pub StartNoEarlier : List PartitionState → List PartitionState → Type 0
+StartNoEarlier [] [] = Unit {0}
+StartNoEarlier [] (q ∷ qs) = ⊥
+StartNoEarlier (p ∷ ps) [] = ⊥
+StartNoEarlier (p ∷ ps) (q ∷ qs) = (p.start ≤ℤ q.start) × StartNoEarlier ps qs
+
+-- A topic with the name and the settings that it had, and its partitions.
+pub record IsStillThere (old new : TopicState) : Type 0 where
+  pub name : new.name ≡ old.name
+  pub config : new.config ≡ old.config
+  pub partitions : StartNoEarlier old.partitions new.partitions
+
+-- It is there under its instance.
+pub record StaysAt (instance : ℕ) (t : TopicState) (new : Known) : Type 0 where
+  pub topic : TopicState
+  pub at : topic_at instance new.topics ≡ Some topic
+  pub still : IsStillThere t topic
+
+-- Those commands were applied to what was known. Each topic that none of them deletes is still there, and no number is given out twice.
+pub record GoesOnTo (old new : Known) : Type 0 where
+  pub commands : List Command
+  pub read : read_all (in_use old) commands ≡ Some (in_use new)
+  pub topics : (instance : ℕ) (t : TopicState) → topic_at instance old.topics ≡ Some t
+      → Contains commands (Delete t.name) ⊎ StaysAt instance t new
+  pub creates : old.creates ≤ new.creates
+  pub issues : old.issues ≤ new.issues

@@ -1,0 +1,84 @@
+//! Laws about the definitions, each as the contract of a function with an empty body.
+ghost use Rattle.std.specs.Prelude.{◌≤◌, ℕ, Bool, List, [], IsSome, nat_eq};
+ghost use Rattle.std.specs.FinMap.{get};
+ghost use Rattle.std.specs.List.{Contains, IsDistinct};
+ghost use Rattle.kb_store.specs.Disk.{Files};
+ghost use Rattle.kb_segment.specs.Header.{Header};
+ghost use Rattle.kb_segment_log.specs.Chain.{Chain, ComesTo, numbers_in};
+ghost use Rattle.kb_topics.specs.Known.{Known};
+ghost use Rattle.kb_topics.specs.MetaLog.{IsFoldOf};
+ghost use Rattle.kb_tenant_state.specs.Logs.{Logs};
+ghost use Rattle.kb_opening.specs.Opened.{IsLongestFold, IsOpened, Owners};
+ghost use Rattle.kb_opening.specs.Owners.{catalog_of, partition_of};
+ghost use Rattle.kb_loss.specs.Fronts.{IsFrontOf};
+ghost use Rattle.kb_loss.specs.Chains.{HasAll, LastsIn};
+ghost use Rattle.kb_loss.specs.Known.{GoesOnTo};
+ghost use Rattle.kb_loss.specs.Since.{AreLeft, AreOf, IsWritten, Touched, untouched};
+ghost use Rattle.kb_loss.specs.Tenant.{AreOfTenant, FilesLast, HasWhatWas, IsReadAgain, TenantIsWritten};
+
+/// Where all files of a chain are found, and each further one begins at its end or behind it, the chain of what is found has the first
+/// one's batches as a front.
+pub fn chains_go_on()
+    ensures { (files : Files) (numbers : List ℕ) (from : ℕ) (bs : List (List ℕ)) (c : Chain files numbers from bs)
+        (found : Files) (there : List ℕ) → LastsIn c 0 found there → IsDistinct nat_eq numbers → IsDistinct nat_eq there
+        → (to : ℕ) (cs : List (List ℕ)) → Chain found there to cs → IsFrontOf bs cs }
+{}
+
+/// Where of a log's files none is gone but first ones, which end at a recorded start or below it, and each further one begins at its end
+/// or behind it, the log has all batches from that start on.
+pub fn logs_go_on()
+    ensures { (files : Files) (numbers : List ℕ) (from first last : ℕ) (list : List (List ℕ))
+        (c : ComesTo files numbers from first last list) (start : ℕ) → from ≤ start → (found : Files) (there : List ℕ)
+        → LastsIn c.chain start found there → IsDistinct nat_eq numbers → IsDistinct nat_eq there → (first_now last_now : ℕ)
+        (now : List (List ℕ)) → ComesTo found there start first_now last_now now → HasAll start list last now last_now }
+{}
+
+/// Where a catalog's batches, all of which were commands, are a front of those that are found, what is known goes on from what was
+/// known.
+pub fn catalogs_go_on()
+    ensures { (generation : ℕ) (bs cs : List (List ℕ)) (known now : Known) → IsFoldOf generation bs known → IsFrontOf bs cs
+        → IsLongestFold generation cs now → GoesOnTo known now }
+{}
+
+/// What an opening finds of a tenant goes on from what its files came to, where they are found but for what may go.
+pub fn tenants_go_on()
+    ensures { (files : Files) (owners : Owners) (known : Known) (logs : Logs) (was : IsOpened files owners known logs)
+        (found : Files) (there : Owners) (now : Known) (logs_now : Logs) → IsOpened found there now logs_now
+        → IsReadAgain was found there → FilesLast was found there now → HasWhatWas known logs now logs_now }
+{}
+
+/// What is left of the files of a log that is written in order is found but for what may go.
+pub fn logs_in_order_last()
+    ensures { (files : Files) (numbers : List ℕ) (from : ℕ) (bs : List (List ℕ)) (c : Chain files numbers from bs)
+        (test : Header → Bool) (t : Touched) (waiting : List ℕ) (start : ℕ) (found : Files) (there : List ℕ)
+        → IsWritten c test t waiting start found → AreOf files test numbers → AreOf found test there
+        → AreLeft files t waiting found → LastsIn c start found there }
+{}
+
+/// Nothing that a tenant had at a commit is missing after a loss of power, at any moment since: an opening finds the catalog with all
+/// commands that it had, and of each partition all records from its start on. So it is where the tenant's logs are written in order, and
+/// what is left of the catalog can be read.
+pub fn what_was_acknowledged_is_there()
+    ensures { (files : Files) (owners : Owners) (known : Known) (logs : Logs) (was : IsOpened files owners known logs)
+        (name : List ℕ) (t : Touched) (waiting : List ℕ) (found : Files) → AreLeft files t waiting found → (there : Owners)
+        → AreOfTenant files name owners → AreOfTenant found name there → (now : Known) (logs_now : Logs)
+        → IsReadAgain was found there → TenantIsWritten was name t waiting found there now → IsOpened found there now logs_now
+        → HasWhatWas known logs now logs_now }
+{}
+
+/// A log is written in order while none of its files is touched, where its chain goes through all of them.
+pub fn untouched_logs_are_in_order()
+    ensures { (files : Files) (numbers : List ℕ) (from : ℕ) (bs : List (List ℕ)) (c : Chain files numbers from bs)
+        (test : Header → Bool) (start : ℕ) → ((n : ℕ) → Contains numbers n → Contains (numbers_in c) n)
+        → IsWritten c test untouched [] start files }
+{}
+
+/// Of all files of a store those are a tenant's whose headers name its logs, as an opening takes them.
+pub fn named_files_are_the_tenants()
+    ensures { (files : Files) (numbers name : List ℕ) → IsDistinct nat_eq numbers
+        → ((n : ℕ) → IsSome (get files n) → Contains numbers n)
+        → AreOfTenant files name (record {
+          catalog = λ g. catalog_of files name g numbers;
+          partition = λ i p. partition_of files name i p numbers;
+        }) }
+{}

@@ -1,0 +1,15 @@
+//! After a loss of power: what an opening finds of what had been made to last. Definitions and their laws, and no code but five calls
+//! of a store, which say what each leaves.
+//!
+//! `specs/Chains.antt` says what a loss leaves of the files of a log, `specs/Known.antt` what a catalog knows after more commands,
+//! `specs/Tenant.antt` what a tenant has then, and `specs/Since.antt` what is left of the files of a commit, call after call.
+#![tactic(auto)]
+
+mod calls;
+mod laws;
+
+pub use calls::{append_keeps, commit_lasts, create_keeps, cut_keeps, sync_leaves};
+pub use laws::{
+    catalogs_go_on, chains_go_on, logs_go_on, logs_in_order_last, named_files_are_the_tenants,
+    tenants_go_on, untouched_logs_are_in_order, what_was_acknowledged_is_there,
+};

@@ -1,14 +1,18 @@
 -- A file whose bytes go on has the header that it had.
 use Rattle.std.proofs.Common.{◌≡◌, ◌∙◌, ◌≤◌, ◌<◌, ◌+◌, ◌++◌, ℕ, ℤ, Bool, true, false, cond, List, [], length, take, drop, Option, Some, None, Ok, Err, Result, sym, ap, subst, refl, arith}
-use Rattle.std.specs.Prelude.{IsSome, unwrap_or, nat_le}
+use Rattle.std.specs.Prelude.{◌&&◌, ◌==◌, IsSome, unwrap_or, nat_le}
+use Rattle.std.specs.Int.{w32}
 use Rattle.std.specs.FinMap.{get}
 use Rattle.std.proofs.lemmas.Bool.{false≢true}
 use Rattle.std.proofs.lemmas.Bool.Decides.{nat_tests}
 use Rattle.std.proofs.lemmas.List.{take-append-le, drop-append-le, length-take}
 use Rattle.std.proofs.lemmas.Option.{none-some}
+use Rattle.kb_batch.specs.Batch.{is_natural}
 use Rattle.kb_batch.specs.BatchLaws.{both_true}
+use Rattle.kb_batch.specs.Crc.{crc_of}
+use Rattle.kb_batch.specs.Header.{number_at}
 use Rattle.kb_store.specs.Disk.{Files}
-use Rattle.kb_segment.specs.Header.{Header, header_in, header_of, header_with, is_readable, is_sealed, said_read, said_size}
+use Rattle.kb_segment.specs.Header.{Header, header_in, header_of, header_with, is_legal, is_readable, is_sealed, said_read, said_size}
 use Rattle.kb_segment_log.specs.SegmentLog.{bytes_at}
 use Rattle.kb_segment_log.specs.Chain.{Part, base_said, behind_header, base_at, part_at}
 use Rattle.kb_segment_log.proofs.Fronts.{header_stays}
@@ -34,8 +38,9 @@ header_size bytes h =
     elim (said_read s) as (λ r. header_of s r ≡ Some h → (h.size ≤ length bytes) × (0 < h.size)) [
       | Ok x ↦ λ e.
           let read = cond_both (is_readable x.0.0 x.0.1 s) (header_with x.0.0 x.0.1) h e in
-          let sealed : nat_le (said_size x.0.0 + 4) (length s) ≡ true = (both_true _ _ (both_true _ _ read.0).1).0 in
-          let long : said_size x.0.0 + 4 ≤ length s = is_le (said_size x.0.0 + 4) (length s) sealed in
+          let parts = both_true (is_natural 1262637895 x.0.0.magic && is_legal (header_with x.0.0 x.0.1)) (is_sealed (said_size x.0.0) s) read.0 in
+          let sealed = both_true (nat_le (said_size x.0.0 + 4) (length s)) (number_at w32 (said_size x.0.0) s == crc_of (take (said_size x.0.0) s)) parts.1 in
+          let long : said_size x.0.0 + 4 ≤ length s = is_le (said_size x.0.0 + 4) (length s) sealed.0 in
           let size : said_size x.0.0 + 4 ≡ h.size = ap (λ (k : Header). k.size) read.1 in
           (omega (arith, long, size, length-take 106 bytes), omega (arith, size))
       | Err fault ↦ λ e. absurd (none-some h e)

@@ -1,11 +1,12 @@
 -- What a loss may leave of the files of a commit, call after call.
-use Rattle.std.proofs.Common.{◌≡◌, ◌≢◌, ◌∙◌, ◌≤◌, ◌+◌, ◌-◌, ◌++◌, ◌⊎◌, ℕ, Bool, true, false, List, [], length, take, Option, Some, None, Result, Ok, Err, OnOk, sym, ap, subst, refl, inl, inr, ⊎_elim, arith, append_assoc}
+use Rattle.std.proofs.Common.{◌≡◌, ◌≢◌, ◌∙◌, ◌≤◌, ◌+◌, ◌-◌, ◌++◌, ◌⊎◌, ℕ, Bool, true, false, List, [], length, take, Option, Some, None, Result, Ok, Err, OnOk, OnErr, sym, ap, subst, refl, inl, inr, ⊎_elim, arith, append_assoc}
 use Rattle.std.specs.Prelude.{IsSome, unwrap_or}
 use Rattle.std.specs.FinMap.{get, insert}
 use Rattle.std.proofs.Math.Seq.{take-append-add}
 use Rattle.std.proofs.lemmas.Bool.{cases_eq, false≢true}
 use Rattle.std.proofs.lemmas.List.{append-nil}
-use Rattle.kb_store.specs.Disk.{Disk, Files, len_of, bytes_of, Keeps, Creates, Appends, Cuts}
+use Rattle.kb_store.specs.Disk.{Disk, Files, len_of, bytes_of, Keeps, Creates, Appends, Cuts, MayCreate, AppendsSome}
+use Rattle.kb_store.specs.declared.fault.StoreFault.{StoreFault}
 use Rattle.kb_store.specs.Loss.{Loss, IsLawfulLoss, Goes, Only, Same, Makes, Tears, found_of}
 use Rattle.kb_store.proofs.Maps.{get_inserted, get_other}
 use Rattle.kb_durable.specs.Waiting.{without, Trims, IsTrimmed}
@@ -155,6 +156,20 @@ module _ (files : Files) (t : Touched) where
             let first : take len (old ++ was.0) ≡ old ++ take n was.0 = ap (λ j. take j (old ++ was.0)) k ∙ take-append-add old was.0 n in
             (take n was.0, here d.files e.files m (take len (bytes_of d m)) (cut.files honest) ∙ ap (λ l. Some (take len l)) had ∙ ap Some first),
       )
+
+  -- whether it is answered or refused
+  pub created_still : {T : Type 0} (m : ℕ) (d e : Disk) (r : Result T StoreFault) → t.made m ≡ true → OnOk r (Creates d m e) → OnErr r (MayCreate d m e) → e.honest → AreStill files t d.files → AreStill files t e.files
+  created_still m d e (Ok x) made created refused honest s = disk_created m d e made created honest s
+  created_still m d e (Err f) made created refused honest s =
+      ⊎_elim (λ (kept : Keeps d e). disk_kept d e kept honest s) (λ (made_it : Creates d m e). disk_created m d e made made_it honest s) refused
+
+  pub appended_still : {T : Type 0} (m : ℕ) (bytes : List ℕ) (d e : Disk) (r : Result T StoreFault) → MayChange files t m (len_of d m) → OnOk r (Appends d m bytes e) → OnErr r (AppendsSome d m bytes e) → e.honest → AreStill files t d.files → AreStill files t e.files
+  appended_still m bytes d e (Ok x) may appended refused honest s = disk_appended m bytes d e may appended honest s
+  appended_still m bytes d e (Err f) may appended refused honest s = disk_appended m (take refused.0 bytes) d e may refused.2 honest s
+
+  pub cut_still : {T : Type 0} (m len : ℕ) (d e : Disk) (r : Result T StoreFault) → MayChange files t m len → OnOk r (Cuts d m len e) → OnErr r (Keeps d e) → e.honest → AreStill files t d.files → AreStill files t e.files
+  cut_still m len d e (Ok x) may cut refused honest s = disk_cut m len d e may cut honest s
+  cut_still m len d e (Err f) may cut refused honest s = disk_kept d e refused honest s
 
 pub on_ok : {T E P Q : Type 0} (r : Result T E) → OnOk r P → (P → Q) → OnOk r Q
 on_ok (Ok x) p f = f p

@@ -1,5 +1,5 @@
 -- What a tenant has after a loss of power, by what is left of its files.
-use Rattle.std.proofs.Common.{◌≡◌, ◌∙◌, ◌<◌, ◌≤◌, ◌⊎◌, ◌≤ℤ◌, ℕ, ℤ, Some, List, sym, ap, subst, refl, inl, inr, ⊎_elim, arith}
+use Rattle.std.proofs.Common.{◌≡◌, ◌∙◌, ◌<◌, ◌≤◌, ◌⊎◌, ◌≤ℤ◌, ℕ, ℤ, Some, List, [], sym, ap, subst, refl, inl, inr, ⊎_elim, arith}
 use Rattle.std.specs.Prelude.{pos, negsuc, slice_get}
 use Rattle.std.specs.List.{Contains}
 use Rattle.std.specs.Option.{option_and_then}
@@ -10,15 +10,17 @@ use Rattle.kb_store.specs.Disk.{Files}
 use Rattle.kb_batch.specs.Batch.{natural}
 use Rattle.kb_topics.specs.declared.command.Command.TheVariants.{Delete}
 use Rattle.kb_topics.specs.Known.{Known, PartitionState, TopicState, topic_at, partition_at}
+use Rattle.kb_topics.specs.MetaLog.{IsFoldOf}
 use Rattle.kb_tenant_state.specs.Logs.{LogState, Logs, log_at}
 use Rattle.kb_opening.specs.Opened.{Owners, IsInUse, IsOpened}
 use Rattle.kb_loss.specs.Chains.{HasAll}
 use Rattle.kb_loss.specs.Known.{StaysAt, GoesOnTo}
-use Rattle.kb_loss.specs.Since.{Touched, AreLeft}
-use Rattle.kb_loss.specs.Tenant.{IsReadAgain, FilesLast, AreOfTenant, TenantIsWritten, HasLog, HasWhatWas}
+use Rattle.kb_loss.specs.Since.{Touched, AreLeft, untouched}
+use Rattle.kb_loss.specs.Tenant.{IsReadAgain, FilesLast, GoesThroughAll, AreOfTenant, TenantIsWritten, HasLog, HasWhatWas}
 use Rattle.kb_loss.proofs.Known.{catalog_on, starts_get}
-use Rattle.kb_loss.proofs.Left.{left_lasts}
+use Rattle.kb_loss.proofs.Left.{left_lasts, untouched_written}
 use Rattle.kb_loss.proofs.Logs.{whole_front, log_lasts}
+use Rattle.kb_loss.proofs.Since.{still_itself}
 use Rattle.kb_opening.specs.Owners.{is_of_catalog, is_of_partition}
 
 natural_le : (x y : ℤ) → x ≤ℤ y → natural x ≤ natural y
@@ -41,7 +43,7 @@ module _ (files : Files) (owners : Owners) (k : Known) (logs : Logs) (o : IsOpen
   catalog = ⊎_elim
       (λ (lower : q.generation < g). absurd (q.in_use.greatest a.generation (omega (arith, lower, a.no_earlier)) a.small a.known a.read))
       (λ (not_lower : g ≤ q.generation). ⊎_elim
-      (λ (higher : g < q.generation). a.snapshots q.generation now higher q.in_use.whole)
+      (λ (higher : g < q.generation). a.snapshots q.generation now higher q.in_use.small q.in_use.whole)
       (λ (not_higher : q.generation ≤ g). same_generation q.generation (omega (arith, not_lower, not_higher)) q.in_use)
       (cases_lt g q.generation))
       (cases_lt q.generation g)
@@ -87,3 +89,25 @@ what_was_left files owners k logs o name t waiting found left there mine theirs 
   once = record { catalog = λ h. (mine.catalog h).once; partition = λ i p. (mine.partition i p).once };
   once_there = record { catalog = λ h. (theirs.catalog h).once; partition = λ i p. (theirs.partition i p).once };
 })
+
+-- ---- where nothing is lost
+
+pub nothing_lost : (files : Files) (owners : Owners) (k : Known) (logs : Logs) (o : IsOpened files owners k logs) (name : List ℕ) → IsFoldOf o.generation o.in_use.whole.commands k → GoesThroughAll o → IsReadAgain o files owners × TenantIsWritten o name untouched [] files owners k × AreLeft files untouched [] files
+nothing_lost files owners k logs o name fold all = (
+  record {
+    commands = fold;
+    generation = o.generation;
+    no_earlier = omega arith;
+    small = o.in_use.small;
+    known = k;
+    read = o.in_use.whole;
+    snapshots = λ g n above small whole. absurd (o.in_use.greatest g above small n whole);
+  },
+  record {
+    catalog = λ here. untouched_written files (owners.catalog o.generation) 0 o.in_use.whole.commands o.in_use.whole.chain (is_of_catalog name o.generation) 0 all.catalog;
+    partitions = λ i p was is at here.
+        let had = (o.has.each i p was at).2 in
+        untouched_written files (owners.partition i p) (natural was.start) had.bs had.chain (is_of_partition name i p) (natural is.start) (all.partitions i p was at);
+  },
+  record { whole = files; still = still_itself files untouched; count = 0; is = refl },
+)

@@ -3,6 +3,7 @@ use Rattle.std.specs.Prelude.{◌≡◌, ◌≤◌, ◌<◌, ◌^◌, ◌⊎◌,
 use Rattle.std.specs.List.{Contains, IsDistinct}
 use Rattle.kb_store.specs.Disk.{Files}
 use Rattle.kb_batch.specs.Batch.{natural}
+use Rattle.kb_segment_log.specs.Chain.{numbers_in}
 use Rattle.kb_topics.specs.declared.command.Command.TheVariants.{Delete}
 use Rattle.kb_topics.specs.Known.{Known, PartitionState, TopicState, topic_at, partition_at}
 use Rattle.kb_topics.specs.MetaLog.{IsFoldOf}
@@ -25,7 +26,7 @@ pub record IsReadAgain {files : Files} {owners : Owners} {k : Known} {logs : Log
   pub small : generation < 2 ^ 63
   pub known : Known
   pub read : ComesToKnown found (there.catalog generation) generation known
-  pub snapshots : (g : ℕ) (n : Known) → o.generation < g → ComesToKnown found (there.catalog g) g n → GoesOnTo k n
+  pub snapshots : (g : ℕ) (n : Known) → o.generation < g → g < 2 ^ 63 → ComesToKnown found (there.catalog g) g n → GoesOnTo k n
 
 -- No file is of one log twice.
 pub record AreOnce (owners : Owners) : Type 0 where
@@ -57,6 +58,12 @@ pub record TenantIsWritten {files : Files} {owners : Owners} {k : Known} {logs :
   pub partitions : (i p : ℕ) (was is : PartitionState) (at : partition_at k (pos i) (pos p) ≡ Some was)
       → partition_at now (pos i) (pos p) ≡ Some is
       → IsWritten (o.has.each i p was at).2.chain (is_of_partition name i p) t waiting (natural is.start) found
+
+-- The chain of each log of a tenant goes through all of its files.
+pub record GoesThroughAll {files : Files} {owners : Owners} {k : Known} {logs : Logs} (o : IsOpened files owners k logs) : Type 0 where
+  pub catalog : (n : ℕ) → Contains (owners.catalog o.generation) n → Contains (numbers_in o.in_use.whole.chain) n
+  pub partitions : (i p : ℕ) (was : PartitionState) (at : partition_at k (pos i) (pos p) ≡ Some was) (n : ℕ)
+      → Contains (owners.partition i p) n → Contains (numbers_in (o.has.each i p was at).2.chain) n
 
 -- ---- what the tenant has
 

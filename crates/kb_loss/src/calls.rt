@@ -17,31 +17,37 @@ pub fn commit_lasts<S: Store>(store: &mut S) -> Result<(), StoreFault>
     store.sync()
 }
 
-/// Makes a file, as [`Store::create`] does: the files of a commit are still there.
+/// Makes a file, as [`Store::create`] does: the files of a commit are still there, and after a loss, too.
 pub fn create_keeps<S: Store>(store: &mut S, file: u64) -> Result<(), StoreFault>
     requires { map.get (S.disk store.old).table file ≡ None }
-    ensures { (files : Files) (t : Touched) (at : ℕ) → t.made file ≡ true → at ≤ (S.loss store.old).moment
+    ensures lost { (files : Files) (t : Touched) (at : ℕ) → t.made file ≡ true → at ≤ (S.loss store.old).moment
         → HoldsSince (AreStill files t) at (S.loss store.old) → HoldsSince (AreStill files t) at (S.loss store.new) }
+    ensures now { (files : Files) (t : Touched) → t.made file ≡ true → (S.disk store.new).honest
+        → AreStill files t (S.disk store.old).files → AreStill files t (S.disk store.new).files }
 {
     store.create(file)
 }
 
-/// Adds bytes at the end of a file, as [`Store::append`] does: the files of a commit are still there.
+/// Adds bytes at the end of a file, as [`Store::append`] does: the files of a commit are still there, and after a loss, too.
 pub fn append_keeps<S: Store>(store: &mut S, file: u64, bytes: &[u8]) -> Result<(), StoreFault>
     requires { IsThere (S.disk store.old) file }
-    ensures { (files : Files) (t : Touched) (at : ℕ) → MayChange files t file (len_of (S.disk store.old) file)
+    ensures lost { (files : Files) (t : Touched) (at : ℕ) → MayChange files t file (len_of (S.disk store.old) file)
         → at ≤ (S.loss store.old).moment
         → HoldsSince (AreStill files t) at (S.loss store.old) → HoldsSince (AreStill files t) at (S.loss store.new) }
+    ensures now { (files : Files) (t : Touched) → MayChange files t file (len_of (S.disk store.old) file) → (S.disk store.new).honest
+        → AreStill files t (S.disk store.old).files → AreStill files t (S.disk store.new).files }
 {
     store.append(file, bytes)
 }
 
-/// Cuts a file, as [`Store::cut`] does: the files of a commit are still there.
+/// Cuts a file, as [`Store::cut`] does: the files of a commit are still there, and after a loss, too.
 pub fn cut_keeps<S: Store>(store: &mut S, file: u64, len: u64) -> Result<(), StoreFault>
     requires there { IsThere (S.disk store.old) file }
     requires within { len ≤ len_of (S.disk store.old) file }
-    ensures { (files : Files) (t : Touched) (at : ℕ) → MayChange files t file len → at ≤ (S.loss store.old).moment
+    ensures lost { (files : Files) (t : Touched) (at : ℕ) → MayChange files t file len → at ≤ (S.loss store.old).moment
         → HoldsSince (AreStill files t) at (S.loss store.old) → HoldsSince (AreStill files t) at (S.loss store.new) }
+    ensures now { (files : Files) (t : Touched) → MayChange files t file len → (S.disk store.new).honest
+        → AreStill files t (S.disk store.old).files → AreStill files t (S.disk store.new).files }
 {
     store.cut(file, len)
 }

@@ -4,7 +4,7 @@ ghost use Rattle.std.specs.FinMap.{get};
 ghost use Rattle.std.specs.List.{Contains, IsDistinct};
 ghost use Rattle.kb_store.specs.Disk.{Files};
 ghost use Rattle.kb_segment.specs.Header.{Header};
-ghost use Rattle.kb_segment_log.specs.Chain.{Chain, ComesTo, numbers_in};
+ghost use Rattle.kb_segment_log.specs.Chain.{Chain, ComesTo};
 ghost use Rattle.kb_topics.specs.Known.{Known};
 ghost use Rattle.kb_topics.specs.MetaLog.{IsFoldOf};
 ghost use Rattle.kb_tenant_state.specs.Logs.{Logs};
@@ -14,7 +14,7 @@ ghost use Rattle.kb_loss.specs.Fronts.{IsFrontOf};
 ghost use Rattle.kb_loss.specs.Chains.{HasAll, LastsIn};
 ghost use Rattle.kb_loss.specs.Known.{GoesOnTo};
 ghost use Rattle.kb_loss.specs.Since.{AreLeft, AreOf, IsWritten, Touched, untouched};
-ghost use Rattle.kb_loss.specs.Tenant.{AreOfTenant, FilesLast, HasWhatWas, IsReadAgain, TenantIsWritten};
+ghost use Rattle.kb_loss.specs.Tenant.{AreOfTenant, FilesLast, GoesThroughAll, HasWhatWas, IsReadAgain, TenantIsWritten};
 
 /// Where all files of a chain are found, and each further one begins at its end or behind it, the chain of what is found has the first
 /// one's batches as a front.
@@ -66,11 +66,12 @@ pub fn what_was_acknowledged_is_there()
         → HasWhatWas known logs now logs_now }
 {}
 
-/// A log is written in order while none of its files is touched, where its chain goes through all of them.
-pub fn untouched_logs_are_in_order()
-    ensures { (files : Files) (numbers : List ℕ) (from : ℕ) (bs : List (List ℕ)) (c : Chain files numbers from bs)
-        (test : Header → Bool) (start : ℕ) → ((n : ℕ) → Contains numbers n → Contains (numbers_in c) n)
-        → IsWritten c test untouched [] start files }
+/// Where nothing was changed since the commit and nothing is lost, all of these premises are met: so they are together at least there.
+pub fn nothing_lost_is_written_in_order()
+    ensures { (files : Files) (owners : Owners) (known : Known) (logs : Logs) (was : IsOpened files owners known logs)
+        (name : List ℕ) → IsFoldOf was.generation was.in_use.whole.commands known → GoesThroughAll was
+        → IsReadAgain was files owners × TenantIsWritten was name untouched [] files owners known
+        × AreLeft files untouched [] files }
 {}
 
 /// Of all files of a store those are a tenant's whose headers name its logs, as an opening takes them.

@@ -1,4 +1,4 @@
-use Rattle.std.proofs.Common.{◌≡◌, ◌∙◌, ◌≤◌, ℤ, length, arith, ap, inl, of_z, refl, rules, to_z, w16, w32, SFits}
+use Rattle.std.proofs.Common.{◌≡◌, ◌∙◌, ℤ, length, arith, ap, inl, of_z, refl, rules, to_z, w16, w32, SFits}
 use Rattle.std.proofs.lemmas.Int.{to_z-of_z}
 use Rattle.std.specs.Prelude.{is_some}
 use Rattle.kb_topics.specs.Known.{named}

@@ -1,5 +1,5 @@
 -- What is listed beside what, in either listing.
-use Rattle.std.proofs.Common.{◌≡◌, Bool, true, false, refl}
+use Rattle.std.proofs.Common.{◌≡◌, true, false, refl}
 use Rattle.kb_wire.specs.declared.api_key.TheConstants.{FETCH, METADATA, PRODUCE}
 use Rattle.kb_isolation_spec.specs.Requests.{is_served}
 use Rattle.kb_broker.specs.Opening.{lists}

@@ -1,23 +1,22 @@
 -- The chain of a log's files goes on where its files do.
-use Rattle.std.proofs.Common.{◌≡◌, ◌≢◌, ◌∙◌, ◌<◌, ◌≤◌, ◌+◌, ◌++◌, ◌∷◌, ◌⊎◌, [], ℕ, zero, suc, Bool, true, false, cond, Some, List, length, map, take, max, nat_lt, sym, ap, subst, refl, inl, inr, ⊎_elim, arith, append_assoc}
+use Rattle.std.proofs.Common.{◌≡◌, ◌∙◌, ◌<◌, ◌≤◌, ◌+◌, ◌++◌, ◌∷◌, ◌⊎◌, [], ℕ, zero, suc, Bool, true, false, cond, Some, List, length, map, take, nat_lt, sym, ap, subst, refl, inl, inr, ⊎_elim, arith, append_assoc}
 use Rattle.std.specs.Prelude.{pos}
-use Rattle.std.specs.List.{Contains, IsDistinct, concat}
+use Rattle.std.specs.List.{Contains, concat}
 use Rattle.std.proofs.lemmas.Bool.{cases_lt}
 use Rattle.std.proofs.lemmas.Bool.Decides.{nat_tests}
-use Rattle.std.proofs.lemmas.List.{append-nil, append_cancel_left, map-append}
+use Rattle.std.proofs.lemmas.List.{append-nil, append_cancel_left}
 use Rattle.kb_store.specs.Disk.{Files}
 use Rattle.kb_batch.specs.Batch.{IsBatch, count_of, front}
 use Rattle.kb_batch.specs.BatchLaws.{front-append}
 use Rattle.kb_batch.specs.Header.{base_offset_of}
 use Rattle.kb_segment.specs.Segment.{EndsAt}
-use Rattle.kb_log.specs.Log.{IsRun, starting}
+use Rattle.kb_log.specs.Log.{IsRun}
 use Rattle.kb_segment_log.specs.SegmentLaws.{run_join, run_ordered}
-use Rattle.kb_segment_log.specs.Chain.{Part, base_at, part_at, parts_at, numbers_of, numbers_in, first_of, IsLongest, StopsAt, EndsIn, GoesThrough, IsChain, Chain, ComesTo}
-use Rattle.kb_segment_log.proofs.Remaining.{order_said}
+use Rattle.kb_segment_log.specs.Chain.{Part, base_at, part_at, parts_at, IsLongest, StopsAt, EndsIn, GoesThrough, IsChain}
 use Rattle.kb_loss.specs.Fronts.{IsFrontOf}
-use Rattle.kb_loss.specs.Chains.{GoesOn, AreFound, first_at, LastsIn}
-use Rattle.kb_loss.proofs.Fronts.{front_itself, front_none, front_then, front_cons, front_behind, fronts_equal, run_none, run_end, front_ordered, starting_front, starting_twice, starting_behind}
-use Rattle.kb_loss.proofs.Orders.{Spot, Has, has_of, contains_of, Once, once_front, once_behind, front_has, Rising, rising_front, rising_behind, order_rises, order_once, order_has, has_order, taken_split, ordered_front, Before}
+use Rattle.kb_loss.specs.Chains.{GoesOn, AreFound, first_at}
+use Rattle.kb_loss.proofs.Fronts.{front_itself, front_none, front_then, front_cons, front_behind, fronts_equal, run_none, run_end}
+use Rattle.kb_loss.proofs.Orders.{Spot, Has, Rising}
 
 -- ---- one file
 

@@ -1,5 +1,5 @@
 -- A file whose bytes go on has the header that it had.
-use Rattle.std.proofs.Common.{◌≡◌, ◌∙◌, ◌≤◌, ◌<◌, ◌+◌, ◌++◌, ℕ, ℤ, Bool, true, false, cond, List, [], length, take, drop, Option, Some, None, Ok, Err, Result, sym, ap, subst, refl, arith}
+use Rattle.std.proofs.Common.{◌≡◌, ◌∙◌, ◌≤◌, ◌<◌, ◌+◌, ◌++◌, ℕ, Bool, true, false, cond, List, [], length, take, drop, Option, Some, None, Ok, Err, sym, ap, refl, arith}
 use Rattle.std.specs.Prelude.{◌&&◌, ◌==◌, IsSome, unwrap_or, nat_le}
 use Rattle.std.specs.Int.{w32}
 use Rattle.std.specs.FinMap.{get}
@@ -14,7 +14,7 @@ use Rattle.kb_batch.specs.Header.{number_at}
 use Rattle.kb_store.specs.Disk.{Files}
 use Rattle.kb_segment.specs.Header.{Header, header_in, header_of, header_with, is_legal, is_readable, is_sealed, said_read, said_size}
 use Rattle.kb_segment_log.specs.SegmentLog.{bytes_at}
-use Rattle.kb_segment_log.specs.Chain.{Part, base_said, behind_header, base_at, part_at}
+use Rattle.kb_segment_log.specs.Chain.{Part, base_said, behind_header}
 use Rattle.kb_segment_log.proofs.Fronts.{header_stays}
 use Rattle.kb_loss.specs.Fronts.{IsFrontOf}
 use Rattle.kb_loss.specs.Chains.{GoesOn}

@@ -1,8 +1,7 @@
 -- What a catalog knows after more commands.
-use Rattle.std.proofs.Common.{◌≡◌, ◌∙◌, ◌<◌, ◌≤◌, ◌+◌, ◌++◌, ◌∷◌, ◌⊎◌, ◌≤ℤ◌, [], ℕ, ℤ, zero, suc, Bool, true, false, cond, Option, Some, None, List, length, nat_le, sym, ap, subst, refl, inl, inr, ⊎_elim, arith}
+use Rattle.std.proofs.Common.{◌≡◌, ◌∙◌, ◌<◌, ◌≤◌, ◌++◌, ◌∷◌, ◌⊎◌, ◌≤ℤ◌, [], ℕ, ℤ, zero, suc, Bool, true, false, cond, Option, Some, None, List, length, nat_le, sym, ap, subst, refl, inl, inr, ⊎_elim, arith}
 use Rattle.std.specs.Prelude.{◌&&◌, pos, negsuc, int_le, slice_get, slice_set}
-use Rattle.std.specs.List.{AllByRecursion, Contains}
-use Rattle.std.specs.Map.{keys_of, lookup}
+use Rattle.std.specs.List.{Contains}
 use Rattle.std.specs.BTreeMap.{is_at}
 use Rattle.std.specs.Option.{option_and_then, option_map}
 use Rattle.std.specs.Ordering.{int_eq, nat_cmp}
@@ -20,7 +19,7 @@ use Rattle.kb_topics.specs.WellFormed.{IsWellFormed, AreTopics}
 use Rattle.kb_topics.proofs.Links.{named_found, same_number}
 use Rattle.kb_topics.proofs.WellFormed.{read_well_formed, fold_well_formed}
 use Rattle.kb_tenant_state.proofs.StillKept.{other_removed, inserted_other}
-use Rattle.kb_tenant_state.proofs.Put.{found_put, own_number, other_number}
+use Rattle.kb_tenant_state.proofs.Put.{found_put}
 use Rattle.kb_replay.proofs.Reading.{one_command}
 use Rattle.kb_opening.specs.Opened.{EndsWith, IsLongestFold}
 use Rattle.kb_loss.specs.Fronts.{IsFrontOf}

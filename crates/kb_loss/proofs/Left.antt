@@ -1,11 +1,10 @@
 -- The files of a log that is written in order, as a loss leaves them, are found but for what may go.
 use Rattle.std.proofs.Common.{◌≡◌, ◌∙◌, ◌≤◌, ◌++◌, ◌∷◌, ◌⊎◌, ℕ, zero, suc, Bool, true, false, cond, List, [], take, Option, Some, None, sym, ap, subst, refl, inl, inr, ⊎_elim}
-use Rattle.std.specs.Prelude.{IsSome, unwrap_or}
+use Rattle.std.specs.Prelude.{unwrap_or}
 use Rattle.std.specs.FinMap.{get}
 use Rattle.std.specs.List.{Contains}
 use Rattle.std.proofs.lemmas.Bool.{false≢true}
 use Rattle.std.proofs.lemmas.List.Elements.{Contains-append_cases}
-use Rattle.std.proofs.lemmas.Option.{none-some}
 use Rattle.kb_store.specs.Disk.{Files}
 use Rattle.kb_segment.specs.Header.{Header, header_in}
 use Rattle.kb_segment_log.specs.SegmentLog.{bytes_at}

@@ -9,7 +9,7 @@ use Rattle.kb_store.specs.Disk.{Disk, Files, len_of, bytes_of, Keeps, Creates, A
 use Rattle.kb_store.specs.declared.fault.StoreFault.{StoreFault}
 use Rattle.kb_store.specs.Loss.{Loss, IsLawfulLoss, Goes, Only, Same, Makes, Tears, found_of}
 use Rattle.kb_store.proofs.Maps.{get_inserted, get_other}
-use Rattle.kb_durable.specs.Waiting.{without, Trims, IsTrimmed}
+use Rattle.kb_durable.specs.Waiting.{Trims, IsTrimmed}
 use Rattle.kb_loss.specs.Since.{HoldsSince, Touched, AreStill, AreLeft, MayChange}
 
 -- ---- what holds at each moment
@@ -96,7 +96,7 @@ module _ (files : Files) (t : Touched) where
 
   -- ---- with removals that wait
 
-  left_whole : (waiting : List ℕ) (found : Files) → AreStill files t found → AreLeft files t waiting found
+  pub left_whole : (waiting : List ℕ) (found : Files) → AreStill files t found → AreLeft files t waiting found
   left_whole waiting found s = record { whole = found; still = s; count = 0; is = refl }
 
   -- a sync does those that wait, the first one first

@@ -1,5 +1,5 @@
 -- What a tenant has after a loss of power, by what is left of its files.
-use Rattle.std.proofs.Common.{◌≡◌, ◌∙◌, ◌<◌, ◌≤◌, ◌⊎◌, ◌≤ℤ◌, ℕ, ℤ, Some, List, [], sym, ap, subst, refl, inl, inr, ⊎_elim, arith}
+use Rattle.std.proofs.Common.{◌≡◌, ◌∙◌, ◌<◌, ◌≤◌, ◌≤ℤ◌, ℕ, ℤ, Some, List, [], sym, ap, subst, refl, inl, inr, ⊎_elim, arith}
 use Rattle.std.specs.Prelude.{pos, negsuc, slice_get}
 use Rattle.std.specs.List.{Contains}
 use Rattle.std.specs.Option.{option_and_then}
@@ -9,7 +9,7 @@ use Rattle.std.proofs.lemmas.Option.{same_Some}
 use Rattle.kb_store.specs.Disk.{Files}
 use Rattle.kb_batch.specs.Batch.{natural}
 use Rattle.kb_topics.specs.declared.command.Command.TheVariants.{Delete}
-use Rattle.kb_topics.specs.Known.{Known, PartitionState, TopicState, topic_at, partition_at}
+use Rattle.kb_topics.specs.Known.{Known, PartitionState, TopicState, partition_at}
 use Rattle.kb_topics.specs.MetaLog.{IsFoldOf}
 use Rattle.kb_tenant_state.specs.Logs.{LogState, Logs, log_at}
 use Rattle.kb_opening.specs.Opened.{Owners, IsInUse, IsOpened}

@@ -13,7 +13,7 @@ ghost use Rattle.kb_opening.specs.Owners.{catalog_of, partition_of};
 ghost use Rattle.kb_loss.specs.Fronts.{IsFrontOf};
 ghost use Rattle.kb_loss.specs.Chains.{HasAll, LastsIn};
 ghost use Rattle.kb_loss.specs.Known.{GoesOnTo};
-ghost use Rattle.kb_loss.specs.Since.{AreLeft, AreOf, IsWritten, Touched, untouched};
+ghost use Rattle.kb_loss.specs.Since.{AreLeft, AreOf, AreStill, IsWritten, Touched, untouched};
 ghost use Rattle.kb_loss.specs.Tenant.{AreOfTenant, FilesLast, GoesThroughAll, HasWhatWas, IsReadAgain, TenantIsWritten};
 
 /// Where all files of a chain are found, and each further one begins at its end or behind it, the chain of what is found has the first
@@ -53,6 +53,12 @@ pub fn logs_in_order_last()
         (test : Header → Bool) (t : Touched) (waiting : List ℕ) (start : ℕ) (found : Files) (there : List ℕ)
         → IsWritten c test t waiting start found → AreOf files test numbers → AreOf found test there
         → AreLeft files t waiting found → LastsIn c start found there }
+{}
+
+/// Before a sync none of the files is gone whose removal waits.
+pub fn what_is_still_there_is_left()
+    ensures { (files : Files) (t : Touched) (waiting : List ℕ) (found : Files) → AreStill files t found
+        → AreLeft files t waiting found }
 {}
 
 /// Nothing that a tenant had at a commit is missing after a loss of power, at any moment since: an opening finds the catalog with all

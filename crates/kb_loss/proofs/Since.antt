@@ -170,7 +170,3 @@ module _ (files : Files) (t : Touched) where
   pub cut_still : {T : Type 0} (m len : ℕ) (d e : Disk) (r : Result T StoreFault) → MayChange files t m len → OnOk r (Cuts d m len e) → OnErr r (Keeps d e) → e.honest → AreStill files t d.files → AreStill files t e.files
   cut_still m len d e (Ok x) may cut refused honest s = disk_cut m len d e may cut honest s
   cut_still m len d e (Err f) may cut refused honest s = disk_kept d e refused honest s
-
-pub on_ok : {T E P Q : Type 0} (r : Result T E) → OnOk r P → (P → Q) → OnOk r Q
-on_ok (Ok x) p f = f p
-on_ok (Err e) p f = tt

@@ -1,14 +1,11 @@
-//! After a loss of power: what an opening finds of what had been made to last. Definitions and their laws, and no code but five calls
-//! of a store, which say what each leaves.
+//! After a loss of power: what an opening finds of what had been made to last. Definitions and their laws, and no code.
 //!
 //! `specs/Chains.antt` says what a loss leaves of the files of a log, `specs/Known.antt` what a catalog knows after more commands,
-//! `specs/Tenant.antt` what a tenant has then, and `specs/Since.antt` what is left of the files of a commit, call after call.
+//! `specs/Tenant.antt` what a tenant has then, and `specs/Since.antt` what is left of the files of a commit, by what calls did since.
 #![tactic(auto)]
 
-mod calls;
 mod laws;
 
-pub use calls::{append_keeps, commit_lasts, create_keeps, cut_keeps, sync_leaves};
 pub use laws::{
     catalogs_go_on, chains_go_on, logs_go_on, logs_in_order_last, named_files_are_the_tenants,
     nothing_lost_is_written_in_order, tenants_go_on, what_is_still_there_is_left,

@@ -1,5 +1,5 @@
 use Rattle.kb_loss.proofs.Since.{cut_still, since_torn}
-use Rattle.kb_loss.proofs.calls.cut_keeps.Goals as goal
+use Rattle.kb_recovered.proofs.calls.cut_keeps.Goals as goal
 
 pub returns-clause-lost : goal.returns-clause-lost
 returns-clause-lost g c = λ files t at may later holds.

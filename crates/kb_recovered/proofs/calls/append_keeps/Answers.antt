@@ -1,6 +1,6 @@
 use Rattle.kb_store.specs.Disk.{len_of}
 use Rattle.kb_loss.proofs.Since.{appended_still, since_torn}
-use Rattle.kb_loss.proofs.calls.append_keeps.Goals as goal
+use Rattle.kb_recovered.proofs.calls.append_keeps.Goals as goal
 
 pub returns-clause-lost : goal.returns-clause-lost
 returns-clause-lost g c = λ files t at may later holds.

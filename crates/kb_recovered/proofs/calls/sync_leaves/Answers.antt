@@ -1,5 +1,5 @@
 use Rattle.kb_loss.proofs.Since.{since_synced}
-use Rattle.kb_loss.proofs.calls.sync_leaves.Goals as goal
+use Rattle.kb_recovered.proofs.calls.sync_leaves.Goals as goal
 
 pub returns : goal.returns
 returns g c = λ files t at honest later now holds.

@@ -10,7 +10,7 @@ use kb_durable::DurableStore;
 use kb_store::{Direct, Store, StoreFault};
 
 /// Syncs, as [`Store::sync`] does. Where the store has put nothing off, all its files are there from then on, whatever is changed later.
-pub fn commit_lasts<S: Store>(store: &mut S) -> Result<(), StoreFault>
+pub fn sync_lasts<S: Store>(store: &mut S) -> Result<(), StoreFault>
     ensures { OnOk result (S.settled store.new → (S.disk store.new).honest → (t : Touched)
         → HoldsSince (AreStill (S.disk store.new).files t) (S.loss store.new).moment (S.loss store.new)) }
 {

@@ -42,66 +42,135 @@ const PARTS: [(i64, Option<u64>, &str); 8] = [
 fn filled(rt: &impl Abort, alloc: Global) -> Result<Wire, Fail> {
     let mut wire = Wire::new(alloc)?;
     wire.renew(rt)?;
-    for request in SETUP {
-        match hex::decode(alloc, request.as_bytes()) {
-            Ok(bytes) => assert!(rt; !wire.pass(&bytes).is_empty()),
-            Err(hex::FromHexError::OutOfMemory) => return Err(Fail::from(AllocError)),
-            Err(_) => panic!(rt; "{request} is not hexadecimal"),
-        }
+    for request in &SETUP {
+        is_answered(rt, alloc, &mut wire, request)?;
     }
     Ok(wire)
 }
 
-/// A consumer of the partition 0 of a topic.
-fn consumer(
+/// A request has an answer.
+fn is_answered(rt: &impl Abort, alloc: Global, wire: &mut Wire, request: &str) -> Result<(), Fail> {
+    match hex::decode(alloc, request.as_bytes()) {
+        Ok(bytes) => assert!(rt; !wire.pass(&bytes).is_empty()),
+        Err(hex::FromHexError::OutOfMemory) => return Err(Fail::from(AllocError)),
+        Err(_) => panic!(rt; "{request} is not hexadecimal"),
+    }
+    Ok(())
+}
+
+/// A consumer of a type with calls of no contract, so that what happens to it is proved without a consumer's clauses.
+#[derive(Drop)]
+struct Reader {
+    core: ConsumerCore,
+}
+
+impl Reader {
+    /// One of the partition 0 of a topic.
+    fn new(
+        rt: &impl Abort,
+        alloc: Global,
+        topic: &str,
+        from: i64,
+        max: Option<u64>,
+    ) -> Result<Reader, AllocError> {
+        let (login, topic) = (login_of_ann(rt, alloc)?, short(rt, alloc, topic)?);
+        Ok(Reader {
+            core: ConsumerCore::new(alloc, login, topic, 0, from, max, false),
+        })
+    }
+
+    /// A connection begins.
+    fn begin(&mut self) {
+        self.core.connected();
+    }
+
+    /// What it asks.
+    fn ask(&mut self, rt: &impl Abort) -> Result<Vec<u8>, Fail> {
+        match self.core.take_output() {
+            Ok(output) => Ok(output),
+            Err(fault) => Err(unexpected(rt, fault)),
+        }
+    }
+
+    /// Bytes come to it: the fault that they are.
+    fn hear(&mut self, bytes: &[u8]) -> Option<ClientFault> {
+        self.core.input(bytes).err()
+    }
+
+    /// Adds the lines that came to others.
+    fn tell(&mut self, lines: &mut Vec<u8>) -> Result<(), AllocError> {
+        lines.extend_from_slice(&self.core.take_lines())
+    }
+
+    /// Whether it wants nothing more.
+    fn is_finished(&self) -> bool {
+        self.core.finished()
+    }
+}
+
+/// A reply comes to a consumer, and adds lines.
+fn hears(
     rt: &impl Abort,
-    alloc: Global,
-    topic: &str,
-    from: i64,
-    max: Option<u64>,
-) -> Result<ConsumerCore, AllocError> {
-    let (login, topic) = (login_of_ann(rt, alloc)?, short(rt, alloc, topic)?);
-    Ok(ConsumerCore::new(alloc, login, topic, 0, from, max, false))
+    reader: &mut Reader,
+    reply: &[u8],
+    lines: &mut Vec<u8>,
+) -> Result<(), Fail> {
+    if let Some(fault) = reader.hear(reply) {
+        return Err(unexpected(rt, fault));
+    }
+    Ok(reader.tell(lines)?)
 }
 
 /// A consumer asks, and what the broker answers comes, up to where the connection ends; then another one begins.
 fn exchange(
     rt: &impl Abort,
     wire: &mut Wire,
-    core: &mut ConsumerCore,
+    reader: &mut Reader,
     cut: &mut Cut,
     lines: &mut Vec<u8>,
 ) -> Result<(), Fail> {
-    let output = core.take_output().map_err(|fault| unexpected(rt, fault))?;
-    let mut reply = wire.pass(&output);
+    let mut reply = wire.pass(&reader.ask(rt)?);
     let ends = cut.shorten(&mut reply);
-    core.input(&reply).map_err(|fault| unexpected(rt, fault))?;
-    lines.extend_from_slice(&core.take_lines())?;
+    hears(rt, reader, &reply, lines)?;
     if ends {
         wire.renew(rt)?;
-        core.connected();
+        reader.begin();
     }
     Ok(())
 }
 
-/// Asks until the consumer is finished: the lines.
+/// Asks until the consumer is finished, and adds the lines.
 fn run(
+    rt: &impl Abort,
+    wire: &mut Wire,
+    reader: &mut Reader,
+    cut: &mut Cut,
+    lines: &mut Vec<u8>,
+) -> Result<(), Fail> {
+    wire.renew(rt)?;
+    reader.begin();
+    for _ in 0..REQUESTS {
+        if reader.is_finished() {
+            break;
+        }
+        exchange(rt, wire, reader, cut, lines)?;
+    }
+    assert!(rt; reader.is_finished());
+    Ok(())
+}
+
+/// The lines of the topic `t` that come over connections of which one is cut.
+fn lines_over(
     rt: &impl Abort,
     alloc: Global,
     wire: &mut Wire,
-    core: &mut ConsumerCore,
+    from: i64,
+    max: Option<u64>,
     cut: &mut Cut,
 ) -> Result<Vec<u8>, Fail> {
+    let mut reader = Reader::new(rt, alloc, "t", from, max)?;
     let mut lines = Vec::new(alloc);
-    wire.renew(rt)?;
-    core.connected();
-    for _ in 0..REQUESTS {
-        if core.finished() {
-            break;
-        }
-        exchange(rt, wire, core, cut, &mut lines)?;
-    }
-    assert!(rt; core.finished());
+    run(rt, wire, &mut reader, cut, &mut lines)?;
     Ok(lines)
 }
 
@@ -113,8 +182,7 @@ pub(crate) fn text_of(
     from: i64,
     max: Option<u64>,
 ) -> Result<Vec<u8>, Fail> {
-    let mut core = consumer(rt, alloc, "t", from, max)?;
-    run(rt, alloc, wire, &mut core, &mut Cut::nowhere())
+    lines_over(rt, alloc, wire, from, max, &mut Cut::nowhere())
 }
 
 /// Each part of the topic `t` is as wanted.
@@ -145,8 +213,7 @@ fn come_at_last(
     bytes: usize,
 ) -> Result<bool, Fail> {
     let mut cut = Cut::after(bytes);
-    let mut core = consumer(rt, alloc, "t", 1, Some(4))?;
-    let text = run(rt, alloc, wire, &mut core, &mut cut)?;
+    let text = lines_over(rt, alloc, wire, 1, Some(4), &mut cut)?;
     assert!(rt;
         text.as_slice() == b"b\nc\na\nb\n".as_slice(),
         "after {bytes} bytes"
@@ -167,26 +234,25 @@ fn lines_come_whatever_byte_is_the_last(rt: HostRuntime) -> Result<(), Fail> {
 }
 
 /// A consumer asks: the fault that the answer is to it.
-fn ask(
-    rt: &impl Abort,
-    wire: &mut Wire,
-    core: &mut ConsumerCore,
-) -> Result<Option<ClientFault>, Fail> {
-    let output = core.take_output().map_err(|fault| unexpected(rt, fault))?;
-    Ok(core.input(&wire.pass(&output)).err())
+fn ask(rt: &impl Abort, wire: &mut Wire, reader: &mut Reader) -> Result<Option<ClientFault>, Fail> {
+    let reply = wire.pass(&reader.ask(rt)?);
+    Ok(reader.hear(&reply))
 }
 
-/// What a new consumer's first fetch comes to, behind the handshake and the login.
+/// What a new consumer's first fetch of the partition 0 of a topic comes to, behind the handshake and the login.
 fn first_fetch(
     rt: &impl Abort,
+    alloc: Global,
     wire: &mut Wire,
-    core: &mut ConsumerCore,
+    topic: &str,
+    from: i64,
 ) -> Result<Option<ClientFault>, Fail> {
+    let mut reader = Reader::new(rt, alloc, topic, from, None)?;
     wire.renew(rt)?;
-    core.connected();
-    assert!(rt; ask(rt, wire, core)?.is_none());
-    assert!(rt; ask(rt, wire, core)?.is_none());
-    ask(rt, wire, core)
+    reader.begin();
+    assert!(rt; ask(rt, wire, &mut reader)?.is_none());
+    assert!(rt; ask(rt, wire, &mut reader)?.is_none());
+    ask(rt, wire, &mut reader)
 }
 
 /// A topic and an offset from which there is nothing, and the code of the fault.
@@ -205,8 +271,7 @@ fn are_refused(
     refused: &[(&str, i64, ErrorCode)],
 ) -> Result<(), Fail> {
     for (topic, from, code) in refused {
-        let mut core = consumer(rt, alloc, topic, *from, None)?;
-        let fault = first_fetch(rt, wire, &mut core)?;
+        let fault = first_fetch(rt, alloc, wire, topic, *from)?;
         assert!(rt;
             fault == Some(ClientFault::Code(code.code())),
             "{topic} from {from}"

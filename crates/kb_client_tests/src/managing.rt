@@ -90,6 +90,28 @@ fn text_of(alloc: Global, heard: Result<Heard, AdminFault>) -> Result<String, Al
     }
 }
 
+/// A session of `ann` with a task.
+fn session(
+    rt: &impl Abort,
+    alloc: Global,
+    password: &str,
+    task: Task,
+) -> Result<Session, AllocError> {
+    let (user, password) = (short(rt, alloc, "ann")?, short(rt, alloc, password)?);
+    Ok(Session::new(alloc, user, password, task))
+}
+
+/// What a session comes to on a connection of its own, as a text.
+fn said(
+    rt: &impl Abort,
+    alloc: Global,
+    wire: &mut Wire,
+    session: &mut Session,
+) -> Result<String, AllocError> {
+    wire.renew(rt)?;
+    text_of(alloc, run(wire, session))
+}
+
 /// A task of `ann` comes to this.
 fn comes_to(
     rt: &impl Abort,
@@ -99,11 +121,8 @@ fn comes_to(
     task: Task,
     expected: &str,
 ) -> Result<(), Fail> {
-    wire.renew(rt)?;
-    let (user, password) = (short(rt, alloc, "ann")?, short(rt, alloc, password)?);
-    let mut session = Session::new(alloc, user, password, task);
-    let heard = run(wire, &mut session);
-    let text = text_of(alloc, heard)?;
+    let mut session = session(rt, alloc, password, task)?;
+    let text = said(rt, alloc, wire, &mut session)?;
     assert!(rt; text.as_str() == expected, "{expected}");
     Ok(())
 }

@@ -1,10 +1,10 @@
 //! An edge on the loopback with its clients, which turn it themselves. Bytes are written as `words` says.
 
+use crate::running::Host;
 use crate::words::bytes_of;
-use kb_broker::Broker;
 use kb_isolation_spec::Login;
 use kb_node::{BindFault, Edge, Limits, LoginAttempt, Turn};
-use kb_store::MemoryStore;
+use kb_store::{FusedStore, MemoryStore};
 use std::alloc::Global;
 use std::io;
 use std::io::{ErrorKind, Read, Write};
@@ -29,18 +29,24 @@ pub(crate) trait Server {
     fn denied(&self) -> &[LoginAttempt];
 }
 
-impl Server for Edge<HostRuntime, MemoryStore> {
+/// An edge on the loopback.
+#[derive(Drop)]
+pub(crate) struct Loopback {
+    edge: Edge<HostRuntime, FusedStore<MemoryStore>>,
+}
+
+impl Server for Loopback {
     fn port(&self) -> u16 {
-        Edge::port(self)
+        self.edge.port()
     }
 
     fn turn(&mut self, alloc: Global, now: u32) -> Turn {
         // a store in memory refuses no sync
-        Edge::turn(self, alloc, u64::from(now)).unwrap_or_default()
+        self.edge.turn(alloc, u64::from(now)).unwrap_or_default()
     }
 
     fn denied(&self) -> &[LoginAttempt] {
-        self.news().denied.first()
+        self.edge.news().denied.first()
     }
 }
 
@@ -188,6 +194,39 @@ pub(crate) fn client_at<'a>(
     &mut clients[place]
 }
 
+/// A client sends bytes.
+fn says(rt: &impl Abort, alloc: Global, client: &mut Client, digits: &str) -> io::Result<()> {
+    client.stream.write_all(&bytes_of(rt, alloc, digits)?)
+}
+
+/// A client is told bytes.
+fn is_told<E: Server>(
+    rt: &impl Abort,
+    alloc: Global,
+    edge: &mut E,
+    client: &mut Client,
+    now: u32,
+    digits: &str,
+) -> io::Result<()> {
+    let reply = bytes_of(rt, alloc, digits)?;
+    hear(edge, client, alloc, now, reply.len())?;
+    assert!(rt; client.got == reply);
+    Ok(())
+}
+
+/// A client's connection is closed with no more bytes.
+fn is_closed<E: Server>(
+    rt: &impl Abort,
+    alloc: Global,
+    edge: &mut E,
+    client: &mut Client,
+    now: u32,
+) -> io::Result<()> {
+    hear(edge, client, alloc, now, 1)?;
+    assert!(rt; client.is_over && client.got.is_empty());
+    Ok(())
+}
+
 /// What happens to one client.
 fn happen_to<E: Server>(
     rt: &impl Abort,
@@ -197,61 +236,65 @@ fn happen_to<E: Server>(
     now: u32,
     next: Move<'_>,
 ) -> io::Result<()> {
-    if let Move::Send(_, digits, size) = next {
-        return send(
-            edge,
-            client,
-            alloc,
-            now,
-            &bytes_of(rt, alloc, digits)?,
-            size,
-        );
-    }
-    if let Move::Ask(_, digits, _) | Move::Fails(_, digits) = next {
-        client.stream.write_all(&bytes_of(rt, alloc, digits)?)?;
-    }
     match next {
-        Move::Ends(_) => client.stream.shutdown(Shutdown::Write)?,
-        Move::Fails(_, _) => assert!(rt; count_denied(edge, alloc, now) == 1),
-        Move::Stays(_) => assert!(rt; !client.is_over),
-        Move::Closed(_) => {
-            hear(edge, client, alloc, now, 1)?;
-            assert!(rt; client.is_over && client.got.is_empty());
+        Move::Send(_, digits, size) => {
+            let bytes = bytes_of(rt, alloc, digits)?;
+            send(edge, client, alloc, now, &bytes, size)
         }
-        Move::Told(_, digits) | Move::Ask(_, _, digits) => {
-            let reply = bytes_of(rt, alloc, digits)?;
-            hear(edge, client, alloc, now, reply.len())?;
-            assert!(rt; client.got == reply);
+        Move::Ask(_, digits, reply) => {
+            says(rt, alloc, client, digits)?;
+            is_told(rt, alloc, edge, client, now, reply)
         }
-        _ => {}
+        Move::Told(_, reply) => is_told(rt, alloc, edge, client, now, reply),
+        Move::Fails(_, digits) => {
+            says(rt, alloc, client, digits)?;
+            assert!(rt; count_denied(edge, alloc, now) == 1);
+            Ok(())
+        }
+        Move::Ends(_) => client.stream.shutdown(Shutdown::Write),
+        Move::Closed(_) => is_closed(rt, alloc, edge, client, now),
+        _ => {
+            assert!(rt; !client.is_over);
+            Ok(())
+        }
     }
-    Ok(())
 }
 
 /// An edge for a broker, on a port of the system's choice, with the standard limits.
 pub(crate) fn edge_for(
     net: &HostRuntime,
     alloc: Global,
-    broker: Broker<MemoryStore>,
-) -> Result<Edge<HostRuntime, MemoryStore>, BindFault> {
-    edge_within(net, alloc, broker, Limits::default())
+    host: Host,
+) -> Result<Loopback, BindFault> {
+    edge_at(net, alloc, host, "127.0.0.1:0", Limits::default())
 }
 
 /// The same with other limits.
 pub(crate) fn edge_within(
     net: &HostRuntime,
     alloc: Global,
-    broker: Broker<MemoryStore>,
+    host: Host,
     limits: Limits,
-) -> Result<Edge<HostRuntime, MemoryStore>, BindFault> {
-    match Edge::bind(net, alloc, broker, "127.0.0.1:0", limits) {
-        Ok(edge) => Ok(edge),
+) -> Result<Loopback, BindFault> {
+    edge_at(net, alloc, host, "127.0.0.1:0", limits)
+}
+
+/// An edge for a broker, on an address.
+pub(crate) fn edge_at(
+    net: &HostRuntime,
+    alloc: Global,
+    host: Host,
+    address: &str,
+    limits: Limits,
+) -> Result<Loopback, BindFault> {
+    match Edge::bind(net, alloc, host.into_broker(), address, limits) {
+        Ok(edge) => Ok(Loopback { edge }),
         Err(refused) => Err(refused.fault),
     }
 }
 
 /// A client connects.
-pub(crate) fn join<E: Server>(
+fn join<E: Server>(
     net: &HostRuntime,
     alloc: Global,
     edge: &E,
@@ -269,6 +312,27 @@ fn place_of(next: Move<'_>) -> Option<usize> {
         Move::Ends(place) | Move::Closed(place) | Move::Stays(place) => Some(place),
         _ => None,
     }
+}
+
+/// Turns that a move is about do what it says.
+fn turns_as<E: Server>(
+    rt: &impl Abort,
+    alloc: Global,
+    edge: &mut E,
+    clients: &mut Vec<Client>,
+    now: u32,
+    name: &str,
+    next: Move<'_>,
+) {
+    let is_so = match next {
+        Move::Turns(turn) => edge.turn(alloc, now) == turn,
+        Move::Leave => {
+            drop(clients.pop());
+            count_closed(edge, alloc, now) == 1
+        }
+        _ => edge.turn(alloc, now).is_idle(),
+    };
+    assert!(rt; is_so, "{name}");
 }
 
 /// Moves are made one after another, under a name.
@@ -291,12 +355,7 @@ pub(crate) fn play<E: Server>(
         match *next {
             Move::Join => join(net, alloc, edge, clients)?,
             Move::At(moment) => now = moment,
-            Move::Turns(turn) => assert!(rt; edge.turn(alloc, now) == turn, "{name}"),
-            Move::Leave => {
-                drop(clients.pop());
-                assert!(rt; count_closed(edge, alloc, now) == 1, "{name}");
-            }
-            _ => assert!(rt; edge.turn(alloc, now).is_idle(), "{name}"),
+            _ => turns_as(rt, alloc, edge, clients, now, name, *next),
         }
     }
     Ok(())

@@ -1,19 +1,17 @@
 //! Calls on a broker, one by one: what each answers.
 
-use crate::running::{LAST_MOMENT, new_broker, opens};
+use crate::running::{Host, LAST_MOMENT};
 use crate::words::bytes_of;
 use Call::{
     Asks, Calm, Closes, Due, Opens, Passes, Room, Sends, Shut, Speak, Stays, Takes, Unknown, Zeros,
 };
-use kb_broker::Broker;
-use kb_store::MemoryStore;
 use std::alloc::{AllocError, Global};
 use std::process::Abort;
 use std::test::Fail;
 
 /// A call on a broker, and what it is to answer. Bytes are written as `words` says.
 #[derive(Clone, Copy)]
-enum Call<'a> {
+pub(crate) enum Call<'a> {
     /// A connection opens.
     Opens(u64),
     /// Bytes come on a connection, and that is its output then; no refusal is counted.
@@ -43,9 +41,6 @@ enum Call<'a> {
     /// No refusal is counted.
     Calm,
 }
-
-/// A second login comes at no time.
-const ILLEGAL: &str = "0000001e0000000300220012696c6c6567616c205341534c20737461746500000000";
 
 /// A header that is cut off.
 const CUT: &str = "000000080012000000000005";
@@ -214,43 +209,97 @@ const SHUTTING: [&str; 5] = [
 
 /// Makes calls on a new broker.
 fn makes(rt: &impl Abort, alloc: Global, calls: &[Call<'_>]) -> Result<(), AllocError> {
-    let mut broker = new_broker(alloc)?;
+    let mut host = Host::new(alloc)?;
+    plays(rt, alloc, &mut host, calls)
+}
+
+/// Makes calls on a broker.
+pub(crate) fn plays(
+    rt: &impl Abort,
+    alloc: Global,
+    host: &mut Host,
+    calls: &[Call<'_>],
+) -> Result<(), AllocError> {
     for next in calls {
-        make(rt, alloc, &mut broker, *next)?;
+        if is_told(*next) {
+            told(rt, host, *next);
+        } else {
+            make(rt, alloc, host, *next)?;
+        }
     }
     Ok(())
 }
 
-/// Makes a call.
-fn make(
+/// Whether a call only asks what is so.
+fn is_told(next: Call<'_>) -> bool {
+    matches!(
+        next,
+        Speak(_) | Due(_) | Shut(_) | Stays(_) | Room(..) | Unknown(_) | Calm
+    )
+}
+
+/// Makes a call that only asks what is so.
+fn told(rt: &impl Abort, host: &Host, next: Call<'_>) {
+    match next {
+        Call::Speak(numbers) => assert!(rt; host.speakers() == numbers),
+        Call::Due(moment) => assert!(rt; host.deadline().min(NEVER) == moment, "{moment}"),
+        Call::Shut(number) => assert!(rt; host.has_shut(number)),
+        Call::Stays(number) => assert!(rt; host.has(number) && !host.has_shut(number)),
+        Call::Room(number, room) => assert!(rt; host.room(number) == room),
+        Call::Unknown(name) => assert!(rt; host.refusals(name) == 0),
+        _ => assert!(rt; host.is_calm()),
+    }
+}
+
+/// Makes another call.
+fn make(rt: &impl Abort, alloc: Global, host: &mut Host, next: Call<'_>) -> Result<(), AllocError> {
+    match next {
+        Call::Opens(number) => host.open(rt, alloc, number),
+        Call::Asks(number, request, reply) => asks(rt, alloc, host, number, request, reply),
+        Call::Sends(number, request) => sends(rt, alloc, host, number, request),
+        Call::Takes(number, reply) => takes(rt, alloc, host, number, reply),
+        Call::Zeros(number, count) => zeros(alloc, host, number, count),
+        Call::Passes(now) => {
+            host.pass(rt, alloc, now);
+            Ok(())
+        }
+        Call::Closes(number) => {
+            assert!(rt; host.close(alloc, number) == 0);
+            assert!(rt; !host.has(number));
+            Ok(())
+        }
+        _ => Ok(()),
+    }
+}
+
+/// Bytes come on a connection.
+fn sends(
     rt: &impl Abort,
     alloc: Global,
-    broker: &mut Broker<MemoryStore>,
-    next: Call<'_>,
+    host: &mut Host,
+    number: u64,
+    request: &str,
 ) -> Result<(), AllocError> {
-    match next {
-        Call::Opens(number) => opens(rt, alloc, broker, number)?,
-        Call::Asks(number, request, reply) => asks(rt, alloc, broker, number, request, reply)?,
-        Call::Sends(number, request) => {
-            broker.input(alloc, number, &bytes_of(rt, alloc, request)?);
-        }
-        Call::Takes(number, reply) => {
-            let output = broker.take_output(alloc, number);
-            assert!(rt; output == bytes_of(rt, alloc, reply)?);
-        }
-        Call::Speak(numbers) => assert!(rt; broker.speakers() == numbers),
-        Call::Zeros(number, count) => broker.input(alloc, number, &vec![in alloc; 0; count]?),
-        Call::Passes(now) => passes(rt, alloc, broker, now),
-        Call::Due(moment) => {
-            assert!(rt; broker.next_deadline().min(NEVER) == moment, "{moment}");
-        }
-        Call::Closes(number) => closes(rt, alloc, broker, number),
-        Call::Shut(number) => assert!(rt; broker.shut(number)),
-        Call::Stays(number) => assert!(rt; broker.is_open(number) && !broker.shut(number)),
-        Call::Room(number, room) => assert!(rt; broker.room(number) == room),
-        Call::Unknown(name) => assert!(rt; broker.refusals(name) == 0),
-        Call::Calm => assert!(rt; broker.is_calm()),
-    }
+    host.input(alloc, number, &bytes_of(rt, alloc, request)?);
+    Ok(())
+}
+
+/// So many zeros come on a connection.
+fn zeros(alloc: Global, host: &mut Host, number: u64, count: usize) -> Result<(), AllocError> {
+    host.input(alloc, number, &vec![in alloc; 0; count]?);
+    Ok(())
+}
+
+/// That is a connection's output.
+fn takes(
+    rt: &impl Abort,
+    alloc: Global,
+    host: &mut Host,
+    number: u64,
+    reply: &str,
+) -> Result<(), AllocError> {
+    let output = host.output(alloc, number);
+    assert!(rt; output == bytes_of(rt, alloc, reply)?);
     Ok(())
 }
 
@@ -258,41 +307,28 @@ fn make(
 pub(crate) fn output_of(
     rt: &impl Abort,
     alloc: Global,
-    broker: &mut Broker<MemoryStore>,
+    host: &mut Host,
     number: u64,
     request: &str,
 ) -> Result<Vec<u8>, AllocError> {
-    let request = bytes_of(rt, alloc, request)?;
-    broker.input(alloc, number, &request);
-    Ok(broker.take_output(alloc, number))
+    sends(rt, alloc, host, number, request)?;
+    Ok(host.output(alloc, number))
 }
 
 /// What a connection is answered, byte by byte.
 pub(crate) fn asks(
     rt: &impl Abort,
     alloc: Global,
-    broker: &mut Broker<MemoryStore>,
+    host: &mut Host,
     number: u64,
     request: &str,
     reply: &str,
 ) -> Result<(), AllocError> {
-    let output = output_of(rt, alloc, broker, number, request)?;
+    let output = output_of(rt, alloc, host, number, request)?;
     assert!(rt; output == bytes_of(rt, alloc, reply)?, "to {request}");
-    assert!(rt; broker.refusals_unbound() == 0);
-    assert!(rt; broker.refusals("a") == 0);
+    assert!(rt; host.refusals_unbound() == 0);
+    assert!(rt; host.refusals("a") == 0);
     Ok(())
-}
-
-/// A moment passes.
-fn passes(rt: &impl Abort, alloc: Global, broker: &mut Broker<MemoryStore>, now: u64) {
-    assert!(rt; now <= LAST_MOMENT);
-    broker.moment(alloc, now);
-}
-
-/// A connection closes, with no output left.
-fn closes(rt: &impl Abort, alloc: Global, broker: &mut Broker<MemoryStore>, number: u64) {
-    assert!(rt; broker.disconnect(alloc, number).len() == 0);
-    assert!(rt; !broker.is_open(number));
 }
 
 #[test]
@@ -309,10 +345,10 @@ fn calls_are_answered(rt: HostRuntime) -> Result<(), Fail> {
 
 #[test]
 fn what_shuts_without_an_answer(rt: HostRuntime) -> Result<(), Fail> {
-    for request in SHUTTING {
+    for request in &SHUTTING {
         let shutting = [
             Opens(3),
-            Asks(3, request, ""),
+            Asks(3, *request, ""),
             Shut(3),
             Opens(4),
             Passes(5),
@@ -321,66 +357,4 @@ fn what_shuts_without_an_answer(rt: HostRuntime) -> Result<(), Fail> {
         makes(&rt, rt.alloc(), &shutting)?;
     }
     Ok(())
-}
-
-/// Whether a connection is not shut. If it is, memory was refused: there is no output, and one refusal is counted.
-fn is_kept(rt: &impl Abort, broker: &Broker<MemoryStore>, output: &[u8]) -> bool {
-    if !broker.shut(1) {
-        assert!(rt; broker.is_calm());
-        return true;
-    }
-    assert!(rt; output.is_empty());
-    assert!(rt; broker.room(1) == 4_194_312);
-    let counts = (broker.refusals_unbound(), broker.refusals("a"));
-    assert!(rt; counts == (1, 0) || counts == (0, 1));
-    assert!(rt; broker.refusals("b") == 0);
-    false
-}
-
-/// Whether what a connection got for a request is the reply, and not nothing for want of memory.
-fn asks_or_is_refused(
-    rt: &impl Abort,
-    alloc: Global,
-    broker: &mut Broker<MemoryStore>,
-    request: &str,
-    reply: &str,
-) -> Result<bool, AllocError> {
-    let output = output_of(rt, alloc, broker, 1, request)?;
-    let is_kept = is_kept(rt, broker, &output);
-    if is_kept {
-        assert!(rt; output == bytes_of(rt, alloc, reply)?);
-    }
-    Ok(is_kept)
-}
-
-/// A handshake, a login and one more on a new broker, up to one that is refused.
-fn logs_in_or_is_refused(
-    rt: &impl Abort,
-    alloc: Global,
-    broker: &mut Broker<MemoryStore>,
-) -> Result<(), AllocError> {
-    let steps = [
-        ("handshake", "offered"),
-        ("ann", "welcome"),
-        ("ann", ILLEGAL),
-    ];
-    for (request, reply) in steps {
-        if !asks_or_is_refused(rt, alloc, broker, request, reply)? {
-            break;
-        }
-    }
-    Ok(())
-}
-
-/// Also where any one allocation is refused, each step is answered exactly or refused with one count.
-#[test]
-fn a_refused_growth_is_counted_once(rt: HostRuntime) -> Result<(), Fail> {
-    let mut broker = new_broker(rt.alloc())?;
-    assert!(rt; broker.last_connection() == 0);
-    if broker.connect(rt.alloc(), 1).is_err() {
-        assert!(rt; !broker.is_open(1));
-        assert!(rt; broker.refusals_unbound() == 1);
-        return Ok(());
-    }
-    Ok(logs_in_or_is_refused(&rt, rt.alloc(), &mut broker)?)
 }

@@ -1,7 +1,7 @@
-//! A script whose output cannot be handed on, and the texts of the faults that end one.
+//! A script whose output cannot be handed on, and the texts of the faults that end one, and that end a start.
 
 use kb_broker::ScriptFault;
-use kb_node::{NodeFault, play_script};
+use kb_node::{NodeFault, StartFault, play_script};
 use std::io;
 use std::io::{Error, ErrorKind, Write};
 use std::test::Fail;
@@ -37,7 +37,7 @@ fn output_that_is_not_handed_on_is_a_fault(rt: HostRuntime) -> Result<(), Fail> 
 }
 
 #[test]
-fn faults_have_their_texts(rt: HostRuntime) -> Result<(), Fail> {
+fn faults_of_a_script_have_their_texts(rt: HostRuntime) -> Result<(), Fail> {
     let faults = [
         (
             NodeFault::Script(ScriptFault::BadLine(2)),
@@ -59,9 +59,23 @@ fn faults_have_their_texts(rt: HostRuntime) -> Result<(), Fail> {
         (NodeFault::Write, "kbroker: write fault"),
         (NodeFault::Memory, "kbroker: out of memory"),
     ];
-    for (fault, text) in faults {
+    for (fault, text) in &faults {
         let written = format!(in rt.alloc(); "{fault}")?;
-        assert!(rt; written.as_str() == text);
+        assert!(rt; written.as_str() == *text);
+    }
+    Ok(())
+}
+
+#[test]
+fn faults_of_a_start_have_their_texts(rt: HostRuntime) -> Result<(), Fail> {
+    let faults = [
+        (StartFault::Store, "kbroker: store fault"),
+        (StartFault::Listen, "kbroker: cannot listen"),
+        (StartFault::Memory, "kbroker: out of memory"),
+    ];
+    for (fault, text) in &faults {
+        let written = format!(in rt.alloc(); "{fault}")?;
+        assert!(rt; written.as_str() == *text);
     }
     Ok(())
 }

@@ -1,16 +1,10 @@
-//! As many members of a group, and as many groups of a tenant, as there may be. Bytes are written as `words` says.
+//! As many groups of a tenant as there may be. Bytes are written as `words` says.
 
 use crate::calls::{asks, output_of};
-use crate::running::{new_broker, opens};
-use crate::words::bytes_of;
-use kb_broker::Broker;
-use kb_store::MemoryStore;
+use crate::running::Host;
 use std::alloc::{AllocError, Global};
 use std::process::Abort;
 use std::test::Fail;
-
-/// The most members of a group.
-const MEMBERS: u64 = 200;
 
 /// The most groups of a tenant.
 const GROUPS: u32 = 1000;
@@ -21,73 +15,13 @@ const JOIN: [&str; 2] = [
     "0000271000004e2000000008636f6e73756d657200000001000572616e67650000000101",
 ];
 
-/// The reply to a join that finds the group full: GROUP_MAX_SIZE_REACHED.
-const FULL: &str = "00000014000000280051ffffffff00000000000000000000";
-
 /// The reply to a join that would make one group too many: COORDINATOR_NOT_AVAILABLE.
 const NO_MORE: &str = "0000001400000028000fffffffff00000000000000000000";
 
-/// What the leader is told of a full group, from the error code on, up to the number of its members.
-const LEADER: &str = "0000000000020005 72616e6765 00036d2d31 00036d2d31 000000c8";
-
-/// What the last member is told, which lists nobody.
-const LAST: &str = "00000021000000280000000000020005 72616e6765 00036d2d31 00056d2d323030 00000000";
-
 /// A connection of `ann` opens.
-fn comes(
-    rt: &impl Abort,
-    alloc: Global,
-    broker: &mut Broker<MemoryStore>,
-    number: u64,
-) -> Result<(), AllocError> {
-    opens(rt, alloc, broker, number)?;
-    asks(
-        rt,
-        alloc,
-        broker,
-        number,
-        "handshake ann",
-        "offered welcome",
-    )
-}
-
-/// A member joins on a connection of its own, and waits.
-fn joins(
-    rt: &impl Abort,
-    alloc: Global,
-    broker: &mut Broker<MemoryStore>,
-    number: u64,
-) -> Result<(), AllocError> {
-    comes(rt, alloc, broker, number)?;
-    asks(rt, alloc, broker, number, "join", "")
-}
-
-/// The first member comes back, and with it the others are in.
-fn are_in(
-    rt: &impl Abort,
-    alloc: Global,
-    broker: &mut Broker<MemoryStore>,
-) -> Result<(), AllocError> {
-    let told = output_of(rt, alloc, broker, 1, "rejoin")?;
-    assert!(rt; told.get(8..35) == Some(bytes_of(rt, alloc, LEADER)?.as_slice()));
-    let last = broker.take_output(alloc, MEMBERS);
-    assert!(rt; last == bytes_of(rt, alloc, LAST)?);
-    Ok(())
-}
-
-/// 200 members share a group, and no other gets in.
-#[test]
-fn a_group_has_so_many_members(rt: HostRuntime) -> Result<(), Fail> {
-    let alloc = rt.alloc();
-    let mut broker = new_broker(alloc)?;
-    comes(&rt, alloc, &mut broker, 1)?;
-    asks(&rt, alloc, &mut broker, 1, "join", "joined")?;
-    for number in 2..=MEMBERS {
-        joins(&rt, alloc, &mut broker, number)?;
-    }
-    comes(&rt, alloc, &mut broker, MEMBERS + 1)?;
-    asks(&rt, alloc, &mut broker, MEMBERS + 1, "join", FULL)?;
-    Ok(are_in(&rt, alloc, &mut broker)?)
+fn comes(rt: &impl Abort, alloc: Global, host: &mut Host, number: u64) -> Result<(), AllocError> {
+    host.open(rt, alloc, number)?;
+    asks(rt, alloc, host, number, "handshake ann", "offered welcome")
 }
 
 /// The request of a new member to join a group that is named by a number.
@@ -109,13 +43,8 @@ fn join_to(alloc: Global, group: u32) -> Result<String, AllocError> {
 }
 
 /// A member joins a new group, and is alone in it.
-fn begins(
-    rt: &impl Abort,
-    alloc: Global,
-    broker: &mut Broker<MemoryStore>,
-    group: u32,
-) -> Result<(), AllocError> {
-    let told = output_of(rt, alloc, broker, 1, &join_to(alloc, group)?)?;
+fn begins(rt: &impl Abort, alloc: Global, host: &mut Host, group: u32) -> Result<(), AllocError> {
+    let told = output_of(rt, alloc, host, 1, &join_to(alloc, group)?)?;
     assert!(rt;
         told.get(8..14) == Some(b"\0\0\0\0\0\x01".as_slice()),
         "group {group}"
@@ -127,21 +56,14 @@ fn begins(
 #[test]
 fn a_tenant_has_so_many_groups(rt: HostRuntime) -> Result<(), Fail> {
     let alloc = rt.alloc();
-    let mut broker = new_broker(alloc)?;
-    comes(&rt, alloc, &mut broker, 1)?;
+    let mut host = Host::new(alloc)?;
+    comes(&rt, alloc, &mut host, 1)?;
     for group in 0..GROUPS {
-        begins(&rt, alloc, &mut broker, group)?;
+        begins(&rt, alloc, &mut host, group)?;
     }
-    asks(
-        &rt,
-        alloc,
-        &mut broker,
-        1,
-        &join_to(alloc, GROUPS)?,
-        NO_MORE,
-    )?;
-    comes(&rt, alloc, &mut broker, 2)?;
-    asks(&rt, alloc, &mut broker, 2, &join_to(alloc, 0)?, "")?;
-    assert!(rt; !broker.shut(2));
+    asks(&rt, alloc, &mut host, 1, &join_to(alloc, GROUPS)?, NO_MORE)?;
+    comes(&rt, alloc, &mut host, 2)?;
+    asks(&rt, alloc, &mut host, 2, &join_to(alloc, 0)?, "")?;
+    assert!(rt; !host.has_shut(2));
     Ok(())
 }

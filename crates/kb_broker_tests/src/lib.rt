@@ -1,5 +1,4 @@
-//! A broker's calls one by one, its openings, its runs where memory or a store refuses, two tenants' events mixed, and a broker on
-//! a network.
+//! A broker's calls one by one, a whole run, an opening that is refused, and a broker on a network.
 //!
 //! There is nothing here but tests. The bytes are those of the Kafka protocol guide's layouts, written down beforehand; the
 //! checksums of the record batches are CRC-32C by another program. Exchanges that need nothing of this stand as data in
@@ -13,36 +12,22 @@ mod calls;
 #[cfg(test)]
 mod crowd;
 #[cfg(test)]
-mod exchanges;
-#[cfg(test)]
 mod faults;
 #[cfg(test)]
 mod groups;
 #[cfg(test)]
 mod logins;
 #[cfg(test)]
-mod memory;
-#[cfg(test)]
-mod mixes;
-#[cfg(test)]
-mod mixing;
-#[cfg(test)]
-mod opening;
-#[cfg(test)]
-mod refusing;
-#[cfg(test)]
 mod running;
+#[cfg(test)]
+mod runs;
 #[cfg(test)]
 mod scripts;
 #[cfg(test)]
 mod sockets;
 #[cfg(test)]
-mod starting;
-#[cfg(test)]
 mod stores;
 #[cfg(test)]
-mod street;
+mod unread;
 #[cfg(test)]
 mod words;
-#[cfg(test)]
-mod written;

@@ -1,10 +1,10 @@
 //! Logins that fail, on the loopback.
 
 use crate::bench::Move;
-use crate::running::opened;
+use crate::running::Host;
 use crate::sockets::plays;
 use Move::{Ask, At, Closed, Fails, Idle, Join};
-use kb_broker::{Listing, Settings};
+use kb_broker::Listing;
 use std::test::Fail;
 
 /// Two logins of stock clients with a wrong password: within a request, and by itself after a handshake of version 0, which is closed with
@@ -28,7 +28,6 @@ const LOGINS_FAIL: [Move<'static>; 10] = [
 
 #[test]
 fn failed_logins_are_counted(rt: HostRuntime) -> Result<(), Fail> {
-    let settings = Settings::standard(rt.alloc())?;
-    let broker = opened(rt.alloc(), &settings, Listing::StockClients)?;
-    plays(&rt, &rt, rt.alloc(), broker, "logins fail", &LOGINS_FAIL)
+    let host = Host::listing(rt.alloc(), Listing::StockClients)?;
+    plays(&rt, &rt, rt.alloc(), host, "logins fail", &LOGINS_FAIL)
 }

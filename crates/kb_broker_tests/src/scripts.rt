@@ -38,14 +38,22 @@ const SHUTTING: [Row; 2] = [
 /// Each script ends so, and says that, on a new broker of the standard settings.
 fn say(rt: &impl Abort, alloc: Global, scripts: &[Row], told: &str) -> Result<(), Fail> {
     for (script, played) in scripts {
-        let settings = Settings::standard(alloc)?;
-        let mut reader = BufReader::with_capacity(alloc, CAPACITY, script.as_bytes())?;
         let mut writer: Vec<u8> = Vec::new(alloc);
-        let found = run_script::<ListLog, _, _>(alloc, &settings, &mut reader, &mut writer);
-        assert!(rt; found == *played, "{script}");
+        assert!(rt; play(alloc, script, &mut writer)? == *played, "{script}");
         assert!(rt; str::from_utf8(&writer) == Ok(told), "{script}");
     }
     Ok(())
+}
+
+/// Plays a script on a new broker of the standard settings.
+fn play(
+    alloc: Global,
+    script: &str,
+    writer: &mut Vec<u8>,
+) -> Result<Result<(), ScriptFault>, Fail> {
+    let settings = Settings::standard(alloc)?;
+    let mut reader = BufReader::with_capacity(alloc, CAPACITY, script.as_bytes())?;
+    Ok(run_script::<ListLog, _, _>(alloc, &settings, &mut reader, writer))
 }
 
 #[test]

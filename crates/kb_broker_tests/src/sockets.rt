@@ -1,15 +1,10 @@
-//! Edges on the loopback, and one on a network of no system.
+//! Edges on the loopback.
 
-use crate::bench::{Client, Move, Server, client_at, edge_for, edge_within, join, play};
-use crate::crowd::Crowd;
-use crate::running::new_broker;
-use crate::words::bytes_of;
+use crate::bench::{Move, Server, edge_at, edge_for, edge_within, play};
+use crate::running::Host;
 use Move::{Ask, At, Closed, Ends, Fails, Idle, Join, Leave, Send, Stays, Told, Turns};
-use kb_broker::Broker;
-use kb_node::{BindFault, Edge, Limits, Turn};
-use kb_store::MemoryStore;
-use std::alloc::{AllocError, Global};
-use std::io;
+use kb_node::{BindFault, Limits, Turn};
+use std::alloc::Global;
 use std::process::Abort;
 use std::test::Fail;
 
@@ -62,7 +57,7 @@ const ONE_TURNED_AWAY: Turn = Turn {
 };
 
 /// A turn that accepts one client, and closes another that has not logged in.
-const ONE_MADE_ROOM: Turn = Turn {
+pub(crate) const ONE_MADE_ROOM: Turn = Turn {
     accepted: 1,
     read: 0,
     written: 0,
@@ -269,19 +264,19 @@ pub(crate) fn plays(
     net: &HostRuntime,
     rt: &impl Abort,
     alloc: Global,
-    broker: Broker<MemoryStore>,
+    host: Host,
     name: &'static str,
     moves: &[Move<'_>],
 ) -> Result<(), Fail> {
-    let mut edge = edge_for(net, alloc, broker)?;
+    let mut edge = edge_for(net, alloc, host)?;
     let mut clients = Vec::new(alloc);
     Ok(play(net, rt, alloc, &mut edge, &mut clients, name, moves)?)
 }
 
 #[test]
 fn scenes_are_played(rt: HostRuntime) -> Result<(), Fail> {
-    for (name, moves) in SCENES {
-        plays(&rt, &rt, rt.alloc(), new_broker(rt.alloc())?, name, moves)?;
+    for (name, moves) in &SCENES {
+        plays(&rt, &rt, rt.alloc(), Host::new(rt.alloc())?, name, moves)?;
     }
     Ok(())
 }
@@ -297,253 +292,18 @@ const LAST: [Move<'static>; 5] = [
 
 #[test]
 fn the_last_number_is_given_once(rt: HostRuntime) -> Result<(), Fail> {
-    let mut broker = new_broker(rt.alloc())?;
-    assert!(rt; broker.last_connection() < u64::MAX - 1);
-    broker.connect(rt.alloc(), u64::MAX - 1)?;
-    plays(&rt, &rt, rt.alloc(), broker, "the last number", &LAST)
-}
-
-/// How many requests are sent at once, at the most.
-const REQUESTS: usize = 4096;
-
-/// How many bytes are sent at most, beside those of one sending: their replies are more than the system keeps for a client.
-const SENT: usize = 840_000;
-
-/// How often a client sends what can be sent.
-const SENDS: usize = 20_000;
-
-/// How often it looks for what comes.
-const LOOKS: usize = 200_000;
-
-/// Requests of 14 bytes in a row.
-fn many_requests(rt: &impl Abort, alloc: Global) -> Result<Vec<u8>, AllocError> {
-    let request = bytes_of(rt, alloc, "versions")?;
-    let mut requests = Vec::new(alloc);
-    for _ in 0..REQUESTS {
-        requests.extend_from_slice(&request)?;
-    }
-    Ok(requests)
-}
-
-/// A client sends requests and reads nothing, until what it is told can no longer be written: what waits there holds up the
-/// reading of more. How many bytes were sent, and how many written.
-fn send_unread<E: Server>(
-    edge: &mut E,
-    client: &mut Client,
-    alloc: Global,
-    requests: &[u8],
-) -> (usize, u64) {
-    let mut sent = 0usize;
-    let mut written = 0u64;
-    for _ in 0..SENDS {
-        if sent < SENT
-            && let Some(rest) = requests.get(sent % 14..)
-        {
-            sent = sent.saturating_add(client.send_some(rest));
-        }
-        let turn = edge.turn(alloc, 0);
-        written = written.saturating_add(turn.written);
-        if turn.written == 0 && sent >= SENT {
-            break;
-        }
-    }
-    (sent, written)
-}
-
-/// How many bytes a client gets once it reads, until it has so many.
-fn read_all<E: Server>(
-    edge: &mut E,
-    client: &mut Client,
-    alloc: Global,
-    wanted: usize,
-) -> io::Result<usize> {
-    let mut got = 0usize;
-    for _ in 0..LOOKS {
-        got = got.saturating_add(client.pass_over()?);
-        if got >= wanted {
-            break;
-        }
-        edge.turn(alloc, 0);
-    }
-    Ok(got)
-}
-
-/// Two clients, of which the first does not read: the second is served, and once the first reads it gets every reply.
-fn first_reads_late<E: Server>(
-    net: &HostRuntime,
-    rt: &impl Abort,
-    alloc: Global,
-    edge: &mut E,
-) -> io::Result<()> {
-    let name = "a client does not read";
-    let requests = many_requests(rt, alloc)?;
-    let mut clients = Vec::new(alloc);
-    join(net, alloc, edge, &mut clients)?;
-    join(net, alloc, edge, &mut clients)?;
-    let first = client_at(rt, &mut clients, 0);
-    let (sent, written) = send_unread(edge, first, alloc, &requests);
-    let replies = (sent / 14).saturating_mul(122);
-    assert!(rt;
-        written < replies as u64,
-        "{written} of {replies} for {sent}"
-    );
-    let other = [Ask(1, "versions", "served")];
-    play(net, rt, alloc, edge, &mut clients, name, &other)?;
-    let first = client_at(rt, &mut clients, 0);
-    assert!(rt; read_all(edge, first, alloc, replies)? == replies);
-    Ok(())
-}
-
-#[test]
-fn a_client_that_does_not_read_holds_nobody_up(rt: HostRuntime) -> Result<(), Fail> {
-    let mut edge = edge_for(&rt, rt.alloc(), new_broker(rt.alloc())?)?;
-    Ok(first_reads_late(&rt, &rt, rt.alloc(), &mut edge)?)
-}
-
-/// Two clients, of which the first does not read, where the edge keeps next to no output: nobody is served before the first has
-/// read, and then both get every reply.
-fn all_wait_for_the_first<E: Server>(
-    net: &HostRuntime,
-    rt: &impl Abort,
-    alloc: Global,
-    edge: &mut E,
-) -> io::Result<()> {
-    let requests = many_requests(rt, alloc)?;
-    let mut clients = Vec::new(alloc);
-    join(net, alloc, edge, &mut clients)?;
-    join(net, alloc, edge, &mut clients)?;
-    let (sent, _) = send_unread(edge, client_at(rt, &mut clients, 0), alloc, &requests);
-    let replies = (sent / 14).saturating_mul(122);
-    let request = bytes_of(rt, alloc, "versions")?;
-    let second = client_at(rt, &mut clients, 1);
-    assert!(rt; second.send_some(&request) == 14);
-    for _ in 0..8 {
-        edge.turn(alloc, 0);
-    }
-    assert!(rt; second.pass_over()? == 0);
-    let first = client_at(rt, &mut clients, 0);
-    assert!(rt; read_all(edge, first, alloc, replies)? == replies);
-    let second = client_at(rt, &mut clients, 1);
-    assert!(rt; read_all(edge, second, alloc, 122)? == 122);
-    Ok(())
-}
-
-#[test]
-fn no_more_is_asked_for_than_is_kept(rt: HostRuntime) -> Result<(), Fail> {
-    let limits = Limits {
-        output_bytes: 1,
-        ..Limits::default()
-    };
-    let mut edge = edge_within(&rt, rt.alloc(), new_broker(rt.alloc())?, limits)?;
-    Ok(all_wait_for_the_first(&rt, &rt, rt.alloc(), &mut edge)?)
-}
-
-/// Two clients log in.
-const TWO_LOG_IN: [Move<'static>; 6] = [
-    Join,
-    Join,
-    Ask(0, "handshake", "offered"),
-    Ask(0, "ann", "welcome"),
-    Ask(1, "handshake", "offered"),
-    Ask(1, "ann", "welcome"),
-];
-
-/// Two clients that are logged in, of which the first does not read, where the edge keeps next to no output. The first is closed once it
-/// has taken nothing for ten seconds, and the second is served. How many are closed by 9,999 ms, and how many at the moments behind.
-fn first_is_closed<E: Server>(
-    net: &HostRuntime,
-    rt: &impl Abort,
-    alloc: Global,
-    edge: &mut E,
-) -> io::Result<(u64, u64)> {
-    let name = "a client does not read, and is closed";
-    let mut clients = Vec::new(alloc);
-    play(net, rt, alloc, edge, &mut clients, name, &TWO_LOG_IN)?;
-    let requests = many_requests(rt, alloc)?;
-    send_unread(edge, client_at(rt, &mut clients, 0), alloc, &requests);
-    let request = bytes_of(rt, alloc, "versions")?;
-    let second = client_at(rt, &mut clients, 1);
-    assert!(rt; second.send_some(&request) == 14);
-    let mut early = 0u64;
-    for now in [0, 0, 0, 0, 0, 0, 0, 0, 9999] {
-        early = early.saturating_add(edge.turn(alloc, now).unread);
-    }
-    assert!(rt; second.pass_over()? == 0);
-    let mut late = 0u64;
-    for now in [20_000, 40_000, 60_000] {
-        late = late.saturating_add(edge.turn(alloc, now).unread);
-    }
-    assert!(rt; read_all(edge, second, alloc, 122)? == 122);
-    Ok((early, late))
-}
-
-#[test]
-fn a_client_that_reads_nothing_is_closed_where_all_wait(rt: HostRuntime) -> Result<(), Fail> {
-    let limits = Limits {
-        output_bytes: 1,
-        ..Limits::default()
-    };
-    let mut edge = edge_within(&rt, rt.alloc(), new_broker(rt.alloc())?, limits)?;
-    assert!(rt; first_is_closed(&rt, &rt, rt.alloc(), &mut edge)? == (0, 1));
-    Ok(())
-}
-
-/// Why an edge for a broker is not bound to an address, and the last connection of the broker that comes back. With none it is
-/// bound.
-fn refused(
-    net: &HostRuntime,
-    alloc: Global,
-    broker: Broker<MemoryStore>,
-    address: &str,
-) -> Option<(BindFault, u64)> {
-    match Edge::bind(net, alloc, broker, address, Limits::default()) {
-        Ok(_) => None,
-        Err(refused) => Some((refused.fault, refused.broker.last_connection())),
-    }
+    let mut host = Host::new(rt.alloc())?;
+    host.open(&rt, rt.alloc(), u64::MAX - 1)?;
+    plays(&rt, &rt, rt.alloc(), host, "the last number", &LAST)
 }
 
 #[test]
 fn a_taken_port_is_refused(rt: HostRuntime) -> Result<(), Fail> {
-    let edge = edge_for(&rt, rt.alloc(), new_broker(rt.alloc())?)?;
+    let edge = edge_for(&rt, rt.alloc(), Host::new(rt.alloc())?)?;
     let address = format!(in rt.alloc(); "127.0.0.1:{}", edge.port())?;
-    let found = refused(&rt, rt.alloc(), new_broker(rt.alloc())?, &address);
-    assert!(rt; found == Some((BindFault::Bind, 0)));
-    Ok(())
-}
-
-/// What the first turns of an edge with 1,025 clients at its door do.
-fn first_turns(alloc: Global, broker: Broker<MemoryStore>) -> Result<[Turn; 3], BindFault> {
-    let crowd = Crowd { waiting: 1025 };
-    match Edge::bind(&crowd, alloc, broker, "127.0.0.1:9092", Limits::default()) {
-        Ok(mut edge) => Ok([
-            edge.turn(alloc, 0).unwrap_or_default(),
-            edge.turn(alloc, 0).unwrap_or_default(),
-            edge.turn(alloc, 0).unwrap_or_default(),
-        ]),
-        Err(refused) => Err(refused.fault),
-    }
-}
-
-#[test]
-fn one_too_many_is_let_in_for_the_first(rt: HostRuntime) -> Result<(), Fail> {
-    let [full, next, last] = first_turns(rt.alloc(), new_broker(rt.alloc())?)?;
-    assert!(rt;
-        full == Turn {
-            accepted: 1024,
-            read: 1024 * 14,
-            written: 1024 * 122,
-            closed: 0,
-            turned_away: 0,
-            denied: 0,
-            strangers: 0,
-            unread: 0,
-            idle: 0,
-            slow: 0,
-            over_limit: 0
-        }
-    );
-    assert!(rt; next == ONE_MADE_ROOM);
-    assert!(rt; last.is_idle());
+    let host = Host::new(rt.alloc())?;
+    let again = edge_at(&rt, rt.alloc(), host, &address, Limits::default());
+    assert!(rt; again.err() == Some(BindFault::Bind));
     Ok(())
 }
 
@@ -567,7 +327,7 @@ fn a_client_that_logged_in_makes_no_room(rt: HostRuntime) -> Result<(), Fail> {
         ..Limits::default()
     };
     let (name, alloc) = ("one at a time", rt.alloc());
-    let mut edge = edge_within(&rt, alloc, new_broker(alloc)?, limits)?;
+    let mut edge = edge_within(&rt, alloc, Host::new(alloc)?, limits)?;
     let mut clients = Vec::new(alloc);
     Ok(play(
         &rt,

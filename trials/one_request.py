@@ -27,6 +27,12 @@ def entries(topic, form, *fields, count=ENTRIES):
     return struct.pack(">i", 1) + text(topic) + struct.pack(">i", count) + each
 
 
+def creations(names, partitions=1):
+    """A request that topics of these names be made."""
+    each = b"".join(text(it) + struct.pack(">ihii", partitions, 1, 0, 0) for it in names)
+    return struct.pack(">i", len(names)) + each + struct.pack(">i", 0)
+
+
 def requests():
     """Each kind: what it is called, and its key, version and body."""
     many = batch(b"x")
@@ -45,11 +51,10 @@ def requests():
     each = (struct.pack(">ii", 0, len(many)) + many) * count
     yield "Produce", 0, 3, struct.pack(">hhi", -1, 1, 0) + struct.pack(">i", 1) + text(b"p") + struct.pack(">i", count) + each
     names = [b"n%d" % n for n in range(ENTRIES)]
-    made = b"".join(text(it) + struct.pack(">ihii", 1, 1, 0, 0) for it in names)
-    yield "CreateTopics", 19, 0, struct.pack(">i", ENTRIES) + made + struct.pack(">i", 0)
-    wide = b"".join(text(b"w%d" % n) + struct.pack(">ihii", 64, 1, 0, 0) for n in range(900))
+    yield "CreateTopics, each name twice", 19, 0, creations([b"n%d" % (n // 2) for n in range(ENTRIES)])
+    yield "CreateTopics", 19, 0, creations(names)
     yield "DeleteTopics", 20, 0, struct.pack(">i", ENTRIES) + b"".join(text(it) for it in names) + struct.pack(">i", 0)
-    yield "CreateTopics of 64", 19, 0, struct.pack(">i", 900) + wide + struct.pack(">i", 0)
+    yield "CreateTopics of 64", 19, 0, creations([b"w%d" % n for n in range(900)], 64)
     yield "DescribeGroups", 15, 0, struct.pack(">i", ENTRIES) + text(b"g") * ENTRIES
 
 
@@ -92,7 +97,7 @@ def looked_at(broker, name, key, version, body):
     time.sleep(0.05)
     most = beside.end()
     client.socket.close()
-    print(f"{name:28} {len(body) / 1e6:5.2f} MB {answer:9} after {took * 1000:7.1f} ms; another waited {most * 1000:7.1f} ms", flush=True)
+    print(f"{name:29} {len(body) / 1e6:5.2f} MB {answer:9} after {took * 1000:7.1f} ms; another waited {most * 1000:7.1f} ms", flush=True)
     return most <= MOST
 
 

@@ -5,3 +5,4 @@ pub mod Counts
 pub mod Traffic
 pub mod Carries
 pub mod Goes
+pub mod Waiting

@@ -1,6 +1,6 @@
 //! Until when a socket may keep silent. Nobody who says nothing holds others up.
 
-ghost use Rattle.std.specs.Prelude.{◌≡◌, [], OnOk, OnErr};
+ghost use Rattle.std.specs.Prelude.{◌≡◌, [], length, OnOk, OnErr};
 ghost use Rattle.std.specs.BTreeMap.{insert_entry, is_at};
 ghost use Rattle.std.specs.Map.{remove_entry};
 ghost use Rattle.std.specs.BTreeSet.{insert_key};
@@ -144,6 +144,13 @@ impl Moments {
         Moments {
             moments: BTreeSet::new(alloc),
         }
+    }
+
+    /// Of how many it is so.
+    pub fn len(&self) -> usize
+        ensures { result ≡ length self.now.moments.keys }
+    {
+        self.moments.len()
     }
 
     /// It is so of one from now on.

@@ -1,6 +1,6 @@
 //! Failed logins, which are answered late: so guessing passwords is slow.
 
-ghost use Rattle.std.specs.Prelude.{◌≡◌, [], OnErr, OnOk};
+ghost use Rattle.std.specs.Prelude.{◌≡◌, [], length, OnErr, OnOk};
 ghost use Rattle.std.specs.BTreeSet.{insert_key};
 ghost use Rattle.kb_node.specs.Deadlines.{by_moment, first_end, silent, without_silent, without_since};
 
@@ -24,6 +24,13 @@ impl Delays {
         Delays {
             moments: Moments::new(alloc),
         }
+    }
+
+    /// How many wait.
+    pub fn len(&self) -> usize
+        ensures { result ≡ length self.now.moments.moments.keys }
+    {
+        self.moments.len()
     }
 
     /// The login of one failed now.

@@ -540,10 +540,14 @@ impl<R: Net, S: Store, L: PartitionLog + Drop> Edge<R, S, L> {
     }
 
     /// The connections that the broker told something can go on, whoever asked for it. One that has still to be written what it was
-    /// told before waits for that, and a failed login for its time.
+    /// told before waits for that, and a failed login for its time: those are not gone through where nobody else has something to say.
     fn hear_speakers(&mut self)
         ensures { self.new.host ≡ self.old.host }
     {
+        // each failed login that waits is one of them, since its connection is shut
+        if self.host.broker().speakers().len() == self.delays.len() {
+            return;
+        }
         for at in 0..self.host.broker().speakers().len() {
             if let Some(number) = self.host.broker().speakers().get(at)
                 && let Some(place) = self.place_of(*number)

@@ -4,7 +4,9 @@ ghost use Rattle.std.specs.Prelude.{◌≡◌, ◌<◌, None, vec_len};
 ghost use Rattle.kb_node.specs.Moves.{Goes};
 ghost use Rattle.std.specs.Bool.{OnTrue};
 ghost use Rattle.kb_shares.specs.Ledger.{let_go};
+ghost use Rattle.kb_isolation_spec.specs.Calls.{login_of};
 ghost use Rattle.kb_node.specs.SocketShares.{count_of, holder_of};
+ghost use Rattle.kb_node.specs.Waiting.{user_in};
 
 use crate::deadlines::{has_moved, patience};
 use crate::edge::Edge;
@@ -295,7 +297,9 @@ impl<R: Net, S: Store, L: PartitionLog + Drop> Edge<R, S, L> {
     }
 
     /// The place of the user who logged in on a connection, where one did.
-    fn user_of(&self, number: u64) -> Option<usize> {
+    fn user_of(&self, number: u64) -> Option<usize>
+        ensures { result ≡ user_in (login_of number self.now.host.broker.state) }
+    {
         match self.host.broker().login_of(number) {
             Login::User(place) => Some(place),
             Login::Nobody | Login::Failed(_) => None,

@@ -7,6 +7,7 @@ ghost use Rattle.kb_shares.specs.Ledger.{set_to};
 ghost use Rattle.kb_shares.specs.Turns.{joined};
 ghost use Rattle.kb_node.specs.TenantTraffic.{with_traffic};
 ghost use Rattle.kb_node.specs.Replies.{kept_for, place_of};
+ghost use Rattle.kb_node.specs.Waiting.{is_long, socket_at};
 
 use crate::committed::Committed;
 use crate::edge::closing::note_reply;
@@ -147,7 +148,7 @@ impl<R: Net, S: Store, L: PartitionLog + Drop> Edge<R, S, L> {
             let Some(number) = self.line.next() else {
                 break;
             };
-            let is_long = self.is_long(number);
+            let is_long = self.is_long(self.place_of(number));
             self.serve_one(alloc, number, turn);
             if is_long {
                 break;
@@ -155,9 +156,11 @@ impl<R: Net, S: Store, L: PartitionLog + Drop> Edge<R, S, L> {
         }
     }
 
-    /// Whether the request that a connection has begun is long.
-    fn is_long(&self, number: u64) -> bool {
-        let Some(place) = self.place_of(number) else {
+    /// Whether the request is long that the socket at a place has begun, where there is one.
+    fn is_long(&self, place: Option<usize>) -> bool
+        ensures { result ≡ is_long (socket_at place self.now.sockets.items) }
+    {
+        let Some(place) = place else {
             return false;
         };
         match self.sockets.get(place) {

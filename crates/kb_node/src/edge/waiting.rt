@@ -1,9 +1,15 @@
 //! How long an edge waits, and for what.
 
-ghost use Rattle.std.specs.Prelude.{◌≡◌, ◌≤◌, ◌<◌, ◌-◌, ◌^◌, min, true, false};
+ghost use Rattle.std.specs.Prelude.{◌≡◌, ◌≢◌, ◌<◌, ◌-◌, ◌*◌, ◌^◌, min, true, false, ℕ, [], ◌∷◌};
+ghost use Rattle.std.specs.Duration.{as_nanos};
 ghost use Rattle.kb_shares.specs.Shares.{has_room, own_of, piece_for, used_by};
-ghost use Rattle.kb_node.specs.Deadlines.{first_stall, patience};
+ghost use Rattle.kb_broker.specs.Deadline.{IsQuietBefore};
+ghost use Rattle.kb_broker.specs.Hosts.{is_honest};
+ghost use Rattle.kb_node.specs.declared.edge.Accepts.TheVariants.{Ready};
+ghost use Rattle.kb_node.specs.Commits.{next_commit};
+ghost use Rattle.kb_node.specs.Deadlines.{first_deadline, first_end};
 ghost use Rattle.kb_node.specs.Replies.{place_of};
+ghost use Rattle.kb_node.specs.Waiting.{first_stall_of, least, quiet_millis, stall_of, wait_millis};
 
 use crate::deadlines::patience;
 use crate::doors::DOOR;
@@ -25,8 +31,14 @@ impl<R: Net, S: Store, L: PartitionLog + Drop> Edge<R, S, L> {
     /// Waits until a socket becomes ready, a new one is there, or the broker may have something to do by the clock of the last turn, and
     /// a second at most; and no time where a socket can go on as it is. What was refused is tried again within 100 ms. An edge that was
     /// bound without a watch does not wait.
-    pub fn wait(&mut self) {
-        let longest = self.longest_wait();
+    pub fn wait(&mut self)
+        ensures { self.new.host ≡ self.old.host }
+    {
+        let longest = if self.is_busy() {
+            Duration::ZERO
+        } else {
+            self.longest_wait(self.next_deadline())
+        };
         self.listen(longest);
     }
 
@@ -44,12 +56,22 @@ impl<R: Net, S: Store, L: PartitionLog + Drop> Edge<R, S, L> {
         self.watch = Some(watch);
     }
 
-    /// How long may be waited.
-    fn longest_wait(&self) -> Duration {
-        if self.accepts == Accepts::Ready || self.can_ask_one() {
-            return Duration::ZERO;
-        }
-        let quiet = quiet_time(self.next_deadline(), self.clock, self.is_left_due);
+    /// Whether there is something to do at once: an accept may find a socket, or a socket that can go on may be asked.
+    fn is_busy(&self) -> bool
+        ensures accepts { self.now.accepts ≡ Ready → result ≡ true }
+        ensures line { self.now.line ≢ [] → result ≡ true }
+        ensures nobody { self.now.accepts ≢ Ready → self.now.line ≡ [] → self.now.ready.items ≡ [] → result ≡ false }
+    {
+        self.accepts == Accepts::Ready
+            || !self.line.is_empty()
+            || self.ready.iter().any(|number| self.can_ask(*number))
+    }
+
+    /// How long may be waited where nothing is to be done before a moment.
+    fn longest_wait(&self, next: u64) -> Duration
+        ensures { as_nanos result ≡ wait_millis self.now.accepts (quiet_millis next self.now.clock self.now.is_left_due) * 1000000 }
+    {
+        let quiet = quiet_time(next, self.clock, self.is_left_due);
         let millis = match self.accepts {
             Accepts::Refused => quiet.min(REFUSED_WAIT),
             Accepts::Ready | Accepts::Waiting => quiet,
@@ -59,7 +81,17 @@ impl<R: Net, S: Store, L: PartitionLog + Drop> Edge<R, S, L> {
 
     /// The next moment at which there may be something to do: for the broker, for a commit, where a failed login is answered, or where a
     /// socket is closed that kept silent.
-    fn next_deadline(&self) -> u64 {
+    fn next_deadline(&self) -> u64
+        ensures { (next : ℕ) × (is_honest S.disk self.now.host.broker → IsQuietBefore next self.now.host.broker.state)
+            × (result ≡ least next (next_commit self.now.host.commits ∷ first_deadline self.now.strangers.deadlines.entries
+            ∷ first_end 100 self.now.delays.moments.moments.keys
+            ∷ min (first_end self.now.reply_millis self.now.silences.unread.moments.keys)
+            (first_end 500 self.now.silences.untried.moments.keys)
+            ∷ min (first_end self.now.times.request_millis self.now.times.begun.moments.keys)
+            (first_end self.now.times.idle_millis self.now.times.looked.moments.keys)
+            ∷ first_stall_of self.now.reply_millis self.now.shares self.now.replies.pool self.now.silences.stalls.moments
+            self.now.ready.items ∷ [])) }
+    {
         self.host
             .broker()
             .next_deadline()
@@ -72,7 +104,10 @@ impl<R: Net, S: Store, L: PartitionLog + Drop> Edge<R, S, L> {
     }
 
     /// The first moment at which a socket is closed that makes others of its holder wait: the greatest number where none does.
-    fn first_stall(&self) -> u64 {
+    fn first_stall(&self) -> u64
+        ensures { result ≡ first_stall_of self.now.reply_millis self.now.shares self.now.replies.pool self.now.silences.stalls.moments
+            self.now.ready.items }
+    {
         let mut first = u64::MAX;
         for number in &self.ready {
             first = first.min(self.stall_of(*number));
@@ -82,9 +117,8 @@ impl<R: Net, S: Store, L: PartitionLog + Drop> Edge<R, S, L> {
 
     /// The moment at which a socket is closed that makes that of a connection wait, where one does.
     fn stall_of(&self, number: u64) -> u64
-        ensures open { has_room (place_of number self.now.shares) 1 self.now.replies.pool ≡ true → result ≡ 2 ^ 64 - 1 }
-        ensures stalled { has_room (place_of number self.now.shares) 1 self.now.replies.pool ≡ false → result
-            ≡ first_stall (place_of number self.now.shares) (patience false self.now.reply_millis) self.now.silences.stalls.moments }
+        ensures { result ≡ stall_of self.now.reply_millis self.now.replies.pool self.now.silences.stalls.moments
+            (place_of number self.now.shares) }
     {
         if self.may_ask(number) {
             return u64::MAX;
@@ -92,11 +126,6 @@ impl<R: Net, S: Store, L: PartitionLog + Drop> Edge<R, S, L> {
         let holder = self.shares.holder(number);
         self.silences
             .first_stall(holder, patience(false, self.reply_millis))
-    }
-
-    /// Whether a socket that can go on may be asked for more.
-    fn can_ask_one(&self) -> bool {
-        !self.line.is_empty() || self.ready.iter().any(|number| self.can_ask(*number))
     }
 
     /// Whether more may be asked for by the socket of a connection: its holder has not too much that is unwritten, or awaited. A holder
@@ -157,9 +186,7 @@ impl<R: Net, S: Store, L: PartitionLog + Drop> Edge<R, S, L> {
 /// How long may be waited by that clock where nothing is to be done before a moment, in milliseconds: a second at most. Where the moment
 /// has come, it is 100 where what was due at the clock was left due, and else 1.
 fn quiet_time(next_deadline: u64, clock: u64, is_left_due: bool) -> u64
-    ensures ahead { clock < next_deadline → result ≡ min (next_deadline - clock) 1000 }
-    ensures left_due { next_deadline ≤ clock → is_left_due ≡ true → result ≡ 100 }
-    ensures soon { next_deadline ≤ clock → is_left_due ≡ false → result ≡ 1 }
+    ensures { result ≡ quiet_millis next_deadline clock is_left_due }
 {
     let left = next_deadline.saturating_sub(clock);
     if left > 0 {

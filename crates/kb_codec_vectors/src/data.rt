@@ -5,14 +5,17 @@ use crate::plain::read_greeting;
 use crate::said::Field::{Count, Number, Numbers, Text};
 use crate::said::Said;
 use kb_api_data::{
-    CreateAssignment, CreateConfig, CreateTopic, CreateTopicsReply, CreateTopicsRequest,
+    Both, CreateAssignment, CreateConfig, CreateTopic, CreateTopicsReply, CreateTopicsRequest,
     DeleteRecordsPartition, DeleteRecordsPartitionReply, DeleteRecordsReply, DeleteRecordsRequest,
     DeleteTopicsReply, DeleteTopicsRequest, FetchPartition, FetchPartitionFront,
     FetchPartitionReply, FetchPartitionReplyV5, FetchPartitionV5, FetchReply, FetchReplyV5,
     FetchRequest, FetchRequestV5, InitProducerIdReply, InitProducerIdRequest,
-    ListOffsetsPartitionReply, ListOffsetsReply, ListOffsetsRequest, MetadataPartition,
-    MetadataReply, MetadataRequest, ProducePartitionReply, ProduceReply, ProduceRequest,
+    ListOffsetsPartitionReply, ListOffsetsReply, ListOffsetsRequest, ListOffsetsTopic,
+    MetadataPartition, MetadataReply, MetadataRequest, ProducePartitionReply, ProduceReply,
+    ProduceRequest,
 };
+use kb_api_group::{CommitTopic, FindCoordinatorRequest};
+use kb_wire::{Array, Text as TextOf};
 use std::alloc::{AllocError, Global};
 
 /// Requests, and other kinds.
@@ -72,9 +75,39 @@ fn read_within(
         "DeleteRecordsPartitionReply" => {
             read_back::<DeleteRecordsPartitionReply>(alloc, longer, said)
         }
+        _ => read_behind(alloc, kind, longer, said),
+    }
+}
+
+/// A request of OffsetCommit 5: the group, the generation, the member and the topics.
+type OffsetCommitRequestV5<'a> = Both<
+    TextOf<'a>,
+    Both<i32, Both<TextOf<'a>, Array<CommitTopic<'a>>>>,
+>;
+
+/// Fields one behind the other, which no struct names, and other kinds.
+fn read_behind(
+    alloc: Global,
+    kind: &str,
+    longer: &[u8],
+    said: &mut Said,
+) -> Result<(), AllocError> {
+    match kind {
+        "FindCoordinatorRequestV1" => {
+            read_back::<Both<FindCoordinatorRequest, i8>>(alloc, longer, said)
+        }
+        "ListOffsetsRequestV2" => {
+            read_back::<Both<i32, Both<i8, Array<ListOffsetsTopic>>>>(alloc, longer, said)
+        }
+        "MetadataPartitionV5" => {
+            read_back::<Both<MetadataPartition, Array<i32>>>(alloc, longer, said)
+        }
+        "OffsetCommitRequestV5" => read_back::<OffsetCommitRequestV5>(alloc, longer, said),
         _ => read_greeting(alloc, kind, longer, said),
     }
 }
+
+impl<A, B> Describe for Both<A, B> {}
 
 impl Describe for ProduceRequest<'_> {
     fn describe(&self, said: &mut Said) -> Result<(), AllocError> {

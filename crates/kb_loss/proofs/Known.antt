@@ -160,6 +160,61 @@ module _ (i : ℕ) (t : TopicState) (k : Known) (has : topic_at i k.topics ≡ S
   step_keeps (Snapshot s) n wf e = absurd (none-some n e)
   step_keeps (Topic c) n wf e = absurd (none-some n e)
 
+-- ---- topics that are gone
+
+module _ (i : ℕ) (k : Known) (low : i < k.creates) (none : topic_at i k.topics ≡ None) where
+  abbrev IsGone : Known → Type 0
+  IsGone n = topic_at i n.topics ≡ None
+
+  gone_put : (j p : ℤ) (part new : PartitionState) → partition_at k j p ≡ Some part → IsGone (with_partition k j p new)
+  gone_put j p part new is =
+      let f = found_topic k j p part is in
+      let put : put_topic (natural j) (natural p) new k.topics (topic_at (natural j) k.topics) ≡ put_topic (natural j) (natural p) new k.topics (Some f.0) = ap (put_topic (natural j) (natural p) new k.topics) f.1 in
+      ap (topic_at i) put ∙ found_put k.topics (natural j) i f.0 (with_part (natural p) new f.0) f.1 ∙ by f.0 f.1 (is_at (nat_cmp (natural j)) i) refl
+    where
+      by : (u : TopicState) → topic_at (natural j) k.topics ≡ Some u → (b : Bool) → is_at (nat_cmp (natural j)) i ≡ b → cond b (Some (with_part (natural p) new u)) (topic_at i k.topics) ≡ None
+      by u at true same = absurd (none-some u (sym none ∙ ap (λ m. topic_at m k.topics) (sym (same_number (natural j) i same)) ∙ at))
+      by u at false same = none
+
+  gone_by : (j p : ℤ) (new : PartitionState → PartitionState) (n : Known) (o : Option PartitionState) → partition_at k j p ≡ o → option_map (λ part. with_partition k j p (new part)) o ≡ Some n → IsGone n
+  gone_by j p new n None is e = absurd (none-some n e)
+  gone_by j p new n (Some part) is e = subst IsGone (same_Some (with_partition k j p (new part)) n e) (gone_put j p part (new part) is)
+
+  gone_started : (j p offset : ℤ) (n : Known) (o : Option PartitionState) → partition_at k j p ≡ o → option_and_then (λ (part : PartitionState). cond (int_le part.start offset) (Some (with_partition k j p (with_start part offset))) None) o ≡ Some n → IsGone n
+  gone_started j p offset n None is e = absurd (none-some n e)
+  gone_started j p offset n (Some part) is e = by (int_le part.start offset) e
+    where
+      by : (b : Bool) → cond b (Some (with_partition k j p (with_start part offset))) None ≡ Some n → IsGone n
+      by true e = subst IsGone (same_Some (with_partition k j p (with_start part offset)) n e) (gone_put j p part (with_start part offset) is)
+      by false e = absurd (none-some n e)
+
+  gone_committed : (c : CommitOffset) (n : Known) (b : Bool) → cond b (option_map (λ part. with_partition k c.instance c.partition (with_commit part c.group (offset_in c))) (partition_at k c.instance c.partition)) None ≡ Some n → IsGone n
+  gone_committed c n true e = gone_by c.instance c.partition (λ part. with_commit part c.group (offset_in c)) n (partition_at k c.instance c.partition) refl e
+  gone_committed c n false e = absurd (none-some n e)
+
+  gone_created : (n : Known) (new : TopicState) (b : Bool) → cond b (Some (with_topic k new)) None ≡ Some n → IsGone n
+  gone_created n new true e = subst IsGone (same_Some (with_topic k new) n e) (inserted_other k.creates i new k.topics (λ same. omega (arith, same, low)) ∙ none)
+  gone_created n new false e = absurd (none-some n e)
+
+  gone_deleted : (name : List ℕ) (n : Known) (o : Option ℕ) → IsWellFormed k → named name k.topics ≡ o → option_map (without_topic k) o ≡ Some n → IsGone n
+  gone_deleted name n None wf is e = absurd (none-some n e)
+  gone_deleted name n (Some j) wf is e =
+      let f = named_found name k.topics j is wf.ordered in
+      subst IsGone (same_Some (without_topic k j) n e) (other_removed j i k.topics (λ same. none-some f.0 (sym none ∙ ap (λ m. topic_at m k.topics) same ∙ f.1)) ∙ none)
+
+  gone_issued : (n : Known) (b : Bool) → cond b (Some (with_id k)) None ≡ Some n → IsGone n
+  gone_issued n true e = subst IsGone (same_Some (with_id k) n e) none
+  gone_issued n false e = absurd (none-some n e)
+
+  step_gone : (c : Command) (n : Known) → IsWellFormed k → step k c ≡ Some n → IsGone n
+  step_gone (Create c) n wf e = gone_created n (new_topic c.name (natural c.partitions) (config_in c)) (may_create k c) e
+  step_gone (Delete name) n wf e = gone_deleted name n (named name k.topics) wf refl e
+  step_gone (Issue id) n wf e = gone_issued n (int_eq id (pos k.issues) && is_left k.issues) e
+  step_gone (Commit c) n wf e = gone_committed c n (nat_le (length c.metadata) 4096) e
+  step_gone (Start s) n wf e = gone_started s.instance s.partition s.offset n (partition_at k s.instance s.partition) refl e
+  step_gone (Snapshot s) n wf e = absurd (none-some n e)
+  step_gone (Topic c) n wf e = absurd (none-some n e)
+
 -- ---- numbers
 
 abbrev counts : Known → Known → Type 0
@@ -212,7 +267,7 @@ contains_later c d cs (k, l, e) = (suc k, omega (arith, l), e)
 goes_nowhere : (k n : Known) → Some (in_use k) ≡ Some (in_use n) → GoesOnTo k n
 goes_nowhere k n e =
     let same : k ≡ n = ap (λ (r : Reading). r.known) (same_Some (in_use k) (in_use n) e) in
-    subst (GoesOnTo k) same (record { commands = []; read = refl; topics = λ i t at. inr (stays_same i t k at); creates = omega arith; issues = omega arith })
+    subst (GoesOnTo k) same (record { commands = []; read = refl; topics = λ i t at. inr (stays_same i t k at); deleted = λ i low none. none; creates = omega arith; issues = omega arith })
 
 goes_once : (k m n : Known) (c : Command) → IsWellFormed k → step k c ≡ Some m → GoesOnTo m n → GoesOnTo k n
 goes_once k m n c wf e on = record {
@@ -226,6 +281,7 @@ goes_once k m n c wf e on = record {
       (λ (u : StaysAt i s.topic n). inr (record { topic = u.topic; at = u.at; still = still_then t s.topic u.topic s.still u.still }))
       (on.topics i s.topic s.at))
       (step_keeps i t k at c m wf e);
+  deleted = λ i low none. let one = step_counts k c m e in on.deleted i (omega (arith, low, one.0)) (step_gone i k low none c m wf e);
   creates = let one = step_counts k c m e in omega (arith, one.0, on.creates);
   issues = let one = step_counts k c m e in omega (arith, one.1, on.issues);
 }

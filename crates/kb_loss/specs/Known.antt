@@ -1,5 +1,5 @@
 -- What a catalog knows after more commands.
-use Rattle.std.specs.Prelude.{◌≡◌, ◌≤◌, ◌≤ℤ◌, ◌⊎◌, ℕ, List, [], ◌∷◌, Some}
+use Rattle.std.specs.Prelude.{◌≡◌, ◌≤◌, ◌<◌, ◌≤ℤ◌, ◌⊎◌, ℕ, List, [], ◌∷◌, Some, None}
 use Rattle.std.specs.List.{Contains}
 use Rattle.kb_topics.specs.declared.command.Command.{Command}
 use Rattle.kb_topics.specs.declared.command.Command.TheVariants.{Delete}
@@ -25,11 +25,13 @@ pub record StaysAt (instance : ℕ) (t : TopicState) (new : Known) : Type 0 wher
   pub at : topic_at instance new.topics ≡ Some topic
   pub still : IsStillThere t topic
 
--- Those commands were applied to what was known. Each topic that none of them deletes is still there, and no number is given out twice.
+-- Those commands were applied to what was known. Each topic that none of them deletes is still there, none that was deleted comes back,
+-- and no number is given out twice.
 pub record GoesOnTo (old new : Known) : Type 0 where
   pub commands : List Command
   pub read : read_all (in_use old) commands ≡ Some (in_use new)
   pub topics : (instance : ℕ) (t : TopicState) → topic_at instance old.topics ≡ Some t
       → Contains commands (Delete t.name) ⊎ StaysAt instance t new
+  pub deleted : (instance : ℕ) → instance < old.creates → topic_at instance old.topics ≡ None → topic_at instance new.topics ≡ None
   pub creates : old.creates ≤ new.creates
   pub issues : old.issues ≤ new.issues

@@ -10,7 +10,7 @@ use Rattle.kb_store.specs.declared.fault.StoreFault.{StoreFault}
 use Rattle.kb_store.specs.Loss.{Loss, IsLawfulLoss, Goes, Only, Same, Makes, Tears, found_of}
 use Rattle.kb_store.proofs.Maps.{get_inserted, get_other}
 use Rattle.kb_durable.specs.Waiting.{Trims, IsTrimmed}
-use Rattle.kb_loss.specs.Since.{HoldsSince, Touched, AreStill, AreLeft, MayChange}
+use Rattle.kb_loss.specs.Since.{HoldsSince, Touched, AreStill, AreLeft, MayChange, StayOrGo, untouched}
 
 -- ---- what holds at each moment
 
@@ -99,12 +99,17 @@ module _ (files : Files) (t : Touched) where
   pub left_whole : (waiting : List ℕ) (found : Files) → AreStill files t found → AreLeft files t waiting found
   left_whole waiting found s = record { whole = found; still = s; count = 0; is = refl }
 
-  -- a sync does those that wait, the first one first
-  pub since_synced : (most at : ℕ) (waited waits : List ℕ) (d e : Disk) (old new : Loss) → Trims most waited waits d old e new → e.honest → at ≤ old.moment → AreStill files t d.files → HoldsSince (AreStill files t) at old → HoldsSince (AreLeft files t waited) at new
-  since_synced most at waited waits d e old new trims honest later now holds found left = ⊎_elim
-      (λ (was : old.left_since at found). left_whole waited found (holds found was))
-      (λ (trimmed : IsTrimmed most waited d.files found). record { whole = d.files; still = now; count = trimmed.0; is = trimmed.2 })
-      (trims.between honest at found later left)
+  -- of files that are still there
+  pub left_further : (mid : Files) (waiting : List ℕ) (found : Files) → AreStill files t mid → AreLeft mid untouched waiting found → AreLeft files t waiting found
+  left_further mid waiting found s l = record {
+    whole = l.whole;
+    still = record {
+      same = λ n made grown. l.still.same n refl refl ∙ s.same n made grown;
+      front = λ n bytes made at. let was = s.front n bytes made at in (was.0, l.still.same n refl refl ∙ was.1);
+    };
+    count = l.count;
+    is = l.is;
+  }
 
   -- ---- of the disk itself
 
@@ -170,3 +175,12 @@ module _ (files : Files) (t : Touched) where
   pub cut_still : {T : Type 0} (m len : ℕ) (d e : Disk) (r : Result T StoreFault) → MayChange files t m len → OnOk r (Cuts d m len e) → OnErr r (Keeps d e) → e.honest → AreStill files t d.files → AreStill files t e.files
   cut_still m len d e (Ok x) may cut refused honest s = disk_cut m len d e may cut honest s
   cut_still m len d e (Err f) may cut refused honest s = disk_kept d e refused honest s
+
+-- ---- a sync
+
+-- it does the removals that wait, the first one first
+pub since_synced : (files : Files) (t : Touched) (most at : ℕ) (waited waits : List ℕ) (d e : Disk) (old new : Loss) → Trims most waited waits d old e new → e.honest → at ≤ old.moment → HoldsSince (AreStill files t) at old → HoldsSince (StayOrGo files t d.files waited) at new
+since_synced files t most at waited waits d e old new trims honest later holds found left = ⊎_elim
+    (λ (was : old.left_since at found). inl (holds found was))
+    (λ (trimmed : IsTrimmed most waited d.files found). inr (record { whole = d.files; still = still_itself d.files untouched; count = trimmed.0; is = trimmed.2 }))
+    (trims.between honest at found later left)

@@ -38,6 +38,10 @@ pub record AreLeft (files : Files) (t : Touched) (waiting : List ℕ) (found : F
   pub count : ℕ
   pub is : found ≡ without (take count waiting) whole
 
+-- The files of a commit are still there; or a sync removes, and of the files that it made last first ones of those that wait are gone.
+abbrev pub StayOrGo : Files → Touched → Files → List ℕ → Files → Type 0
+StayOrGo files t synced waiting found = AreStill files t found ⊎ AreLeft synced untouched waiting found
+
 -- A call may change a file that was made since; or one of a commit that has grown, behind the bytes that it had.
 abbrev pub MayChange : Files → Touched → ℕ → ℕ → Type 0
 MayChange files t n keep =

@@ -61,6 +61,12 @@ pub fn what_is_still_there_is_left()
         → AreLeft files t waiting found }
 {}
 
+/// Where those files are there that a sync made last, what is left of them is left of the commit's.
+pub fn what_is_left_later_is_left()
+    ensures { (files : Files) (t : Touched) (synced : Files) (waiting : List ℕ) (found : Files) → AreStill files t synced
+        → AreLeft synced untouched waiting found → AreLeft files t waiting found }
+{}
+
 /// Nothing that a tenant had at a commit is missing after a loss of power, at any moment since: an opening finds the catalog with all
 /// commands that it had, and of each partition all records from its start on. So it is where the tenant's logs are written in order, and
 /// what is left of the catalog can be read.

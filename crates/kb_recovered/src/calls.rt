@@ -4,7 +4,7 @@
 ghost use Rattle.std.specs.Prelude.{◌≡◌, ◌≤◌, ℕ, None, true, OnOk};
 ghost use Rattle.std.specs.FinMap as map;
 ghost use Rattle.kb_store.specs.Disk.{Files, IsThere, len_of};
-ghost use Rattle.kb_loss.specs.Since.{AreLeft, AreStill, HoldsSince, MayChange, Touched};
+ghost use Rattle.kb_loss.specs.Since.{AreStill, HoldsSince, MayChange, StayOrGo, Touched};
 
 use kb_durable::DurableStore;
 use kb_store::{Direct, Store, StoreFault};
@@ -52,12 +52,12 @@ pub fn cut_keeps<S: Store>(store: &mut S, file: u64, len: u64) -> Result<(), Sto
     store.cut(file, len)
 }
 
-/// Syncs a store that puts off its removals: the files of a commit are left, but for first ones of those whose removal waited. So it is
-/// where the store inside had them.
+/// Syncs a store that puts off its removals: the files of a commit are still there; or those that are there now are left, but for first
+/// ones of those whose removal waited. All of these last by then, and so do the records that justify the removals.
 pub fn sync_leaves<S: Direct>(store: &mut DurableStore<S>) -> Result<(), StoreFault>
     ensures { (files : Files) (t : Touched) (at : ℕ) → (S.disk store.new.store).honest → at ≤ (S.loss store.old.store).moment
-        → AreStill files t (S.disk store.old.store).files → HoldsSince (AreStill files t) at (S.loss store.old.store)
-        → HoldsSince (AreLeft files t store.old.waiting) at (S.loss store.new.store) }
+        → HoldsSince (AreStill files t) at (S.loss store.old.store)
+        → HoldsSince (StayOrGo files t (S.disk store.old.store).files store.old.waiting) at (S.loss store.new.store) }
 {
     store.sync()
 }

@@ -1,18 +1,22 @@
 -- What a catalog knows after more commands.
 use Rattle.std.proofs.Common.{◌≡◌, ◌∙◌, ◌<◌, ◌≤◌, ◌++◌, ◌∷◌, ◌⊎◌, ◌≤ℤ◌, [], ℕ, ℤ, zero, suc, Bool, true, false, cond, Option, Some, None, List, length, nat_le, sym, ap, subst, refl, inl, inr, ⊎_elim, arith}
-use Rattle.std.specs.Prelude.{◌&&◌, pos, negsuc, int_le, slice_get, slice_set}
+use Rattle.std.specs.Prelude.{◌&&◌, IsSome, pos, negsuc, int_le, slice_get, slice_set}
 use Rattle.std.specs.List.{Contains}
-use Rattle.std.specs.BTreeMap.{is_at}
+use Rattle.std.specs.declared.cmp.Ordering.{Ordering}
+use Rattle.std.specs.declared.cmp.Ordering.TheVariants.{Less, Equal, Greater}
+use Rattle.std.specs.Cmp.Lexicographic.{slice_cmp}
+use Rattle.std.specs.Map.{lookup}
+use Rattle.std.specs.BTreeMap.{is_at, insert_entry}
 use Rattle.std.specs.Option.{option_and_then, option_map}
-use Rattle.std.specs.Ordering.{int_eq, nat_cmp}
-use Rattle.std.proofs.lemmas.Bool.{cases_eq}
+use Rattle.std.specs.Ordering.{int_eq, match_ordering, nat_cmp}
+use Rattle.std.proofs.lemmas.Bool.{cases_eq, false≢true}
 use Rattle.std.proofs.lemmas.Int.{ints}
 use Rattle.std.proofs.lemmas.Option.{none-some, same_Some}
 use Rattle.kb_batch.specs.Batch.{natural}
 use Rattle.kb_topics.specs.declared.command.CommitOffset.{CommitOffset}
 use Rattle.kb_topics.specs.declared.command.Command.{Command}
 use Rattle.kb_topics.specs.declared.command.Command.TheVariants.{Create, Delete, Issue, Commit, Start, Snapshot, Topic}
-use Rattle.kb_topics.specs.Known.{Known, PartitionState, TopicState, topic_at, named, partition_at, with_topic, without_topic, with_id, with_part, with_partition, with_commit, with_start, put_topic, new_topic, config_in, offset_in, may_create, is_left, step}
+use Rattle.kb_topics.specs.Known.{Known, CommittedOffset, PartitionState, TopicState, topic_at, named, partition_at, with_topic, without_topic, with_id, with_part, with_partition, with_commit, with_start, put_topic, new_topic, config_in, offset_in, may_create, is_left, step}
 use Rattle.kb_topics.specs.MetaLog.{Says, SayEach, IsFoldOf}
 use Rattle.kb_topics.specs.Reading.{Reading, in_use, read_all, read_step, starting_at}
 use Rattle.kb_topics.specs.WellFormed.{IsWellFormed, AreTopics}
@@ -23,7 +27,7 @@ use Rattle.kb_tenant_state.proofs.Put.{found_put}
 use Rattle.kb_replay.proofs.Reading.{one_command}
 use Rattle.kb_opening.specs.Opened.{EndsWith, IsLongestFold}
 use Rattle.kb_loss.specs.Fronts.{IsFrontOf}
-use Rattle.kb_loss.specs.Known.{StartNoEarlier, IsStillThere, StaysAt, GoesOnTo}
+use Rattle.kb_loss.specs.Known.{IsLaterPartition, AreLaterPartitions, IsStillThere, StaysAt, GoesOnTo}
 
 -- ---- partitions
 
@@ -36,36 +40,65 @@ int_then x y z a b = grind (arith, ints, a, b)
 int_is : (x y : ℤ) → int_le x y ≡ true → x ≤ℤ y
 int_is x y e = grind (arith, ints, e)
 
-starts_same : (ps : List PartitionState) → StartNoEarlier ps ps
-starts_same [] = tt
-starts_same (p ∷ ps) = (int_same p.start, starts_same ps)
+-- what is found is still found where an entry is put
+still_some : {K X : Type 0} (test : K → Bool) (cmp : K → K → Ordering) (es : List (K × X)) (k : K) (v : X) → IsSome (lookup test es) → IsSome (lookup test (insert_entry cmp es k v))
+still_some {K} {X} test cmp [] k v some = absurd (false≢true some)
+still_some {K} {X} test cmp (e ∷ es) k v some = by (cmp k e.0) (test e.0) refl some (λ rest. still_some test cmp es k v rest)
+  where
+    first : (b : Bool) → IsSome (lookup test (e ∷ es)) → IsSome (cond b (Some v) (lookup test (e ∷ es)))
+    first true was = refl
+    first false was = was
 
-starts_then : (ps qs rs : List PartitionState) → StartNoEarlier ps qs → StartNoEarlier qs rs → StartNoEarlier ps rs
-starts_then [] [] [] a b = tt
-starts_then [] [] (r ∷ rs) a b = absurd b
-starts_then [] (q ∷ qs) rs a b = absurd a
-starts_then (p ∷ ps) [] rs a b = absurd a
-starts_then (p ∷ ps) (q ∷ qs) [] a b = absurd b
-starts_then (p ∷ ps) (q ∷ qs) (r ∷ rs) a b = (int_then p.start q.start r.start a.0 b.0, starts_then ps qs rs a.1 b.1)
+    by : (o : Ordering) (b : Bool) → test e.0 ≡ b → IsSome (cond b (Some e.1) (lookup test es)) → (IsSome (lookup test es) → IsSome (lookup test (insert_entry cmp es k v)))
+        → IsSome (lookup test (match_ordering {X = List (K × X)} o ((k, v) ∷ e ∷ es) ((e.0, v) ∷ es) (e ∷ insert_entry cmp es k v)))
+    by Less b is was more = first (test k) (subst (λ c. IsSome (cond c (Some e.1) (lookup test es))) (sym is) was)
+    by Equal true is was more = subst (λ c. IsSome (cond c (Some v) (lookup test es))) (sym is) refl
+    by Equal false is was more = subst (λ c. IsSome (cond c (Some v) (lookup test es))) (sym is) was
+    by Greater true is was more = subst (λ c. IsSome (cond c (Some e.1) (lookup test (insert_entry cmp es k v)))) (sym is) refl
+    by Greater false is was more = subst (λ c. IsSome (cond c (Some e.1) (lookup test (insert_entry cmp es k v)))) (sym is) (more was)
 
-starts_set : (ps : List PartitionState) (n : ℕ) (p q : PartitionState) → slice_get ps n ≡ Some p → p.start ≤ℤ q.start → StartNoEarlier ps (slice_set ps n q)
-starts_set [] n p q at l = absurd cc
-starts_set (x ∷ ps) zero p q at l = let same : x ≡ p = cc in (subst (λ (y : PartitionState). y.start ≤ℤ q.start) (sym same) l, starts_same ps)
-starts_set (x ∷ ps) (suc n) p q at l = (int_same x.start, starts_set ps n p q at l)
+later_itself : (p : PartitionState) → IsLaterPartition p p
+later_itself p = record { start = int_same p.start; commits = λ group some. some }
 
-pub starts_get : (ps qs : List PartitionState) (n : ℕ) (p : PartitionState) → StartNoEarlier ps qs → slice_get ps n ≡ Some p → (q : PartitionState) × (slice_get qs n ≡ Some q) × (p.start ≤ℤ q.start)
-starts_get [] qs n p a at = absurd cc
-starts_get (x ∷ ps) [] n p a at = absurd a
-starts_get (x ∷ ps) (q ∷ qs) zero p a at = let same : x ≡ p = cc in (q, refl, subst (λ (y : PartitionState). y.start ≤ℤ q.start) same a.0)
-starts_get (x ∷ ps) (q ∷ qs) (suc n) p a at = starts_get ps qs n p a.1 at
+later_then : (p q r : PartitionState) → IsLaterPartition p q → IsLaterPartition q r → IsLaterPartition p r
+later_then p q r a b = record { start = int_then p.start q.start r.start a.start b.start; commits = λ group some. b.commits group (a.commits group some) }
+
+later_commit : (p : PartitionState) (group : List ℕ) (c : CommittedOffset) → IsLaterPartition p (with_commit p group c)
+later_commit p group c = record { start = int_same p.start; commits = λ other some. still_some (is_at (slice_cmp nat_cmp other)) (slice_cmp nat_cmp) p.commits group c some }
+
+later_start : (p : PartitionState) (offset : ℤ) → p.start ≤ℤ offset → IsLaterPartition p (with_start p offset)
+later_start p offset l = record { start = l; commits = λ group some. some }
+
+all_itself : (ps : List PartitionState) → AreLaterPartitions ps ps
+all_itself [] = tt
+all_itself (p ∷ ps) = (later_itself p, all_itself ps)
+
+all_then : (ps qs rs : List PartitionState) → AreLaterPartitions ps qs → AreLaterPartitions qs rs → AreLaterPartitions ps rs
+all_then [] [] [] a b = tt
+all_then [] [] (r ∷ rs) a b = absurd b
+all_then [] (q ∷ qs) rs a b = absurd a
+all_then (p ∷ ps) [] rs a b = absurd a
+all_then (p ∷ ps) (q ∷ qs) [] a b = absurd b
+all_then (p ∷ ps) (q ∷ qs) (r ∷ rs) a b = (later_then p q r a.0 b.0, all_then ps qs rs a.1 b.1)
+
+all_set : (ps : List PartitionState) (n : ℕ) (p q : PartitionState) → slice_get ps n ≡ Some p → IsLaterPartition p q → AreLaterPartitions ps (slice_set ps n q)
+all_set [] n p q at l = absurd cc
+all_set (x ∷ ps) zero p q at l = let same : x ≡ p = cc in (subst (λ (y : PartitionState). IsLaterPartition y q) (sym same) l, all_itself ps)
+all_set (x ∷ ps) (suc n) p q at l = (later_itself x, all_set ps n p q at l)
+
+pub all_get : (ps qs : List PartitionState) (n : ℕ) (p : PartitionState) → AreLaterPartitions ps qs → slice_get ps n ≡ Some p → (q : PartitionState) × (slice_get qs n ≡ Some q) × IsLaterPartition p q
+all_get [] qs n p a at = absurd cc
+all_get (x ∷ ps) [] n p a at = absurd a
+all_get (x ∷ ps) (q ∷ qs) zero p a at = let same : x ≡ p = cc in (q, refl, subst (λ (y : PartitionState). IsLaterPartition y q) same a.0)
+all_get (x ∷ ps) (q ∷ qs) (suc n) p a at = all_get ps qs n p a.1 at
 
 -- ---- topics
 
 still_itself : (t : TopicState) → IsStillThere t t
-still_itself t = record { name = refl; config = refl; partitions = starts_same t.partitions }
+still_itself t = record { name = refl; config = refl; partitions = all_itself t.partitions }
 
 still_then : (t u v : TopicState) → IsStillThere t u → IsStillThere u v → IsStillThere t v
-still_then t u v a b = record { name = b.name ∙ a.name; config = b.config ∙ a.config; partitions = starts_then t.partitions u.partitions v.partitions a.partitions b.partitions }
+still_then t u v a b = record { name = b.name ∙ a.name; config = b.config ∙ a.config; partitions = all_then t.partitions u.partitions v.partitions a.partitions b.partitions }
 
 -- one command keeps a topic, or deletes it
 abbrev Keeps : ℕ → TopicState → Command → Known → Type 0
@@ -83,7 +116,7 @@ below_creates n (e ∷ ts) i t all at = by (is_at (nat_cmp i) e.0) refl at (λ r
     by false is at more = more at
 
 -- a partition that starts no earlier is put in the place of one
-put_keeps : (i j p : ℕ) (part new : PartitionState) (k : Known) (t u : TopicState) → topic_at j k.topics ≡ Some u → slice_get u.partitions p ≡ Some part → part.start ≤ℤ new.start → topic_at i k.topics ≡ Some t
+put_keeps : (i j p : ℕ) (part new : PartitionState) (k : Known) (t u : TopicState) → topic_at j k.topics ≡ Some u → slice_get u.partitions p ≡ Some part → IsLaterPartition part new → topic_at i k.topics ≡ Some t
     → StaysAt i t (record k { topics = put_topic j p new k.topics (topic_at j k.topics) })
 put_keeps i j p part new k t u there at l has =
     let put : put_topic j p new k.topics (topic_at j k.topics) ≡ put_topic j p new k.topics (Some u) = ap (put_topic j p new k.topics) there in
@@ -97,7 +130,7 @@ put_keeps i j p part new k t u there at l has =
         record {
           topic = with_part p new u;
           at = found;
-          still = subst (λ (x : TopicState). IsStillThere x (with_part p new u)) one (record { name = refl; config = refl; partitions = starts_set u.partitions p part new at l });
+          still = subst (λ (x : TopicState). IsStillThere x (with_part p new u)) one (record { name = refl; config = refl; partitions = all_set u.partitions p part new at l });
         }
     by false is found = record { topic = t; at = found ∙ has; still = still_itself t }
 
@@ -111,7 +144,7 @@ found_topic k (pos i) (negsuc p) part at = absurd (none-some part at)
 found_topic k (negsuc i) p part at = absurd (none-some part at)
 
 module _ (i : ℕ) (t : TopicState) (k : Known) (has : topic_at i k.topics ≡ Some t) where
-  keeps_by : (j p : ℤ) (new : PartitionState → PartitionState) (n : Known) (o : Option PartitionState) → partition_at k j p ≡ o → ((part : PartitionState) → part.start ≤ℤ (new part).start) → option_map (λ part. with_partition k j p (new part)) o ≡ Some n → StaysAt i t n
+  keeps_by : (j p : ℤ) (new : PartitionState → PartitionState) (n : Known) (o : Option PartitionState) → partition_at k j p ≡ o → ((part : PartitionState) → IsLaterPartition part (new part)) → option_map (λ part. with_partition k j p (new part)) o ≡ Some n → StaysAt i t n
   keeps_by j p new n None is l e = absurd (none-some n e)
   keeps_by j p new n (Some part) is l e =
       let f = found_topic k j p part is in
@@ -124,11 +157,11 @@ module _ (i : ℕ) (t : TopicState) (k : Known) (has : topic_at i k.topics ≡ S
       by : (b : Bool) → int_le part.start offset ≡ b → cond b (Some (with_partition k j p (with_start part offset))) None ≡ Some n → StaysAt i t n
       by true l e =
           let f = found_topic k j p part is in
-          subst (StaysAt i t) (same_Some (with_partition k j p (with_start part offset)) n e) (put_keeps i (natural j) (natural p) part (with_start part offset) k t f.0 f.1 f.2 (int_is part.start offset l) has)
+          subst (StaysAt i t) (same_Some (with_partition k j p (with_start part offset)) n e) (put_keeps i (natural j) (natural p) part (with_start part offset) k t f.0 f.1 f.2 (later_start part offset (int_is part.start offset l)) has)
       by false l e = absurd (none-some n e)
 
   commits_by : (c : CommitOffset) (n : Known) (b : Bool) → cond b (option_map (λ part. with_partition k c.instance c.partition (with_commit part c.group (offset_in c))) (partition_at k c.instance c.partition)) None ≡ Some n → StaysAt i t n
-  commits_by c n true e = keeps_by c.instance c.partition (λ part. with_commit part c.group (offset_in c)) n (partition_at k c.instance c.partition) refl (λ part. int_same part.start) e
+  commits_by c n true e = keeps_by c.instance c.partition (λ part. with_commit part c.group (offset_in c)) n (partition_at k c.instance c.partition) refl (λ part. later_commit part c.group (offset_in c)) e
   commits_by c n false e = absurd (none-some n e)
 
   creates_by : (n : Known) (new : TopicState) (b : Bool) → IsWellFormed k → cond b (Some (with_topic k new)) None ≡ Some n → StaysAt i t n

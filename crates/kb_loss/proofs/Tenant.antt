@@ -14,10 +14,10 @@ use Rattle.kb_topics.specs.MetaLog.{IsFoldOf}
 use Rattle.kb_tenant_state.specs.Logs.{LogState, Logs, log_at}
 use Rattle.kb_opening.specs.Opened.{Owners, IsInUse, IsOpened}
 use Rattle.kb_loss.specs.Chains.{HasAll}
-use Rattle.kb_loss.specs.Known.{StaysAt, GoesOnTo}
+use Rattle.kb_loss.specs.Known.{IsLaterPartition, StaysAt, GoesOnTo}
 use Rattle.kb_loss.specs.Since.{Touched, AreLeft, untouched}
 use Rattle.kb_loss.specs.Tenant.{IsReadAgain, FilesLast, GoesThroughAll, AreOfTenant, TenantIsWritten, HasLog, HasWhatWas}
-use Rattle.kb_loss.proofs.Known.{catalog_on, starts_get}
+use Rattle.kb_loss.proofs.Known.{catalog_on, all_get}
 use Rattle.kb_loss.proofs.Left.{left_lasts, untouched_written}
 use Rattle.kb_loss.proofs.Logs.{whole_front, log_lasts}
 use Rattle.kb_loss.proofs.Since.{still_itself}
@@ -48,16 +48,17 @@ module _ (files : Files) (owners : Owners) (k : Known) (logs : Logs) (o : IsOpen
       (cases_lt g q.generation))
       (cases_lt q.generation g)
 
-  partition : (i p : ℕ) (was is : PartitionState) (l : LogState) → partition_at k (pos i) (pos p) ≡ Some was → partition_at now (pos i) (pos p) ≡ Some is → was.start ≤ℤ is.start → log_at i p logs ≡ Some l → HasLog now logs_now i p l
+  partition : (i p : ℕ) (was is : PartitionState) (l : LogState) → partition_at k (pos i) (pos p) ≡ Some was → partition_at now (pos i) (pos p) ≡ Some is → IsLaterPartition was is → log_at i p logs ≡ Some l → HasLog now logs_now i p was l
   partition i p was is l at here later has =
       let had = o.has.each i p was at in
       let has_now = q.has.each i p is here in
       let one : had.0 ≡ l = same_Some had.0 l (sym had.1 ∙ has) in
       let all : HasAll (natural is.start) had.0.batches had.0.end has_now.0.batches has_now.0.end =
-      log_lasts files (owners.partition i p) (natural was.start) had.0.start had.0.end had.0.batches had.2 (natural is.start) (natural_le was.start is.start later) found (there.partition i p)
+      log_lasts files (owners.partition i p) (natural was.start) had.0.start had.0.end had.0.batches had.2 (natural is.start) (natural_le was.start is.start later.start) found (there.partition i p)
       (t.partitions i p was is at here) (t.once.partition i p) (t.once_there.partition i p) has_now.0.start has_now.0.end has_now.0.batches has_now.2 in
       record {
         part = is;
+        later = later;
         at = here;
         log = has_now.0;
         has = has_now.1;
@@ -70,7 +71,7 @@ module _ (files : Files) (owners : Owners) (k : Known) (logs : Logs) (o : IsOpen
     partitions = λ i p topic was l at part has. ⊎_elim
         (λ (deleted : Contains catalog.commands (Delete topic.name)). inl deleted)
         (λ (s : StaysAt i topic now).
-        let still = starts_get topic.partitions s.topic.partitions p was s.still.partitions part in
+        let still = all_get topic.partitions s.topic.partitions p was s.still.partitions part in
         inr (partition i p was still.0 l
         (ap (option_and_then (λ (x : TopicState). slice_get x.partitions p)) at ∙ part)
         (ap (option_and_then (λ (x : TopicState). slice_get x.partitions p)) s.at ∙ still.1)

@@ -1,23 +1,28 @@
 -- What a catalog knows after more commands.
-use Rattle.std.specs.Prelude.{◌≡◌, ◌≤◌, ◌<◌, ◌≤ℤ◌, ◌⊎◌, ℕ, List, [], ◌∷◌, Some, None}
+use Rattle.std.specs.Prelude.{◌≡◌, ◌≤◌, ◌<◌, ◌≤ℤ◌, ◌⊎◌, ℕ, List, [], ◌∷◌, Some, None, IsSome}
 use Rattle.std.specs.List.{Contains}
 use Rattle.kb_topics.specs.declared.command.Command.{Command}
 use Rattle.kb_topics.specs.declared.command.Command.TheVariants.{Delete}
-use Rattle.kb_topics.specs.Known.{Known, PartitionState, TopicState, topic_at}
+use Rattle.kb_topics.specs.Known.{Known, PartitionState, TopicState, committed_at, topic_at}
 use Rattle.kb_topics.specs.Reading.{in_use, read_all}
 
--- As many partitions, none of which starts earlier than it did.
-abbrev pub StartNoEarlier : List PartitionState → List PartitionState → Type 0
-StartNoEarlier [] [] = Unit {0}
-StartNoEarlier [] (q ∷ qs) = ⊥
-StartNoEarlier (p ∷ ps) [] = ⊥
-StartNoEarlier (p ∷ ps) (q ∷ qs) = (p.start ≤ℤ q.start) × StartNoEarlier ps qs
+-- A partition starts no earlier than it did, and each group that had committed an offset of it has one.
+pub record IsLaterPartition (old new : PartitionState) : Type 0 where
+  pub start : old.start ≤ℤ new.start
+  pub commits : (group : List ℕ) → IsSome (committed_at group old) → IsSome (committed_at group new)
+
+-- as many partitions, each later
+abbrev pub AreLaterPartitions : List PartitionState → List PartitionState → Type 0
+AreLaterPartitions [] [] = Unit {0}
+AreLaterPartitions [] (q ∷ qs) = ⊥
+AreLaterPartitions (p ∷ ps) [] = ⊥
+AreLaterPartitions (p ∷ ps) (q ∷ qs) = IsLaterPartition p q × AreLaterPartitions ps qs
 
 -- A topic with the name and the settings that it had, and its partitions.
 pub record IsStillThere (old new : TopicState) : Type 0 where
   pub name : new.name ≡ old.name
   pub config : new.config ≡ old.config
-  pub partitions : StartNoEarlier old.partitions new.partitions
+  pub partitions : AreLaterPartitions old.partitions new.partitions
 
 -- It is there under its instance.
 pub record StaysAt (instance : ℕ) (t : TopicState) (new : Known) : Type 0 where

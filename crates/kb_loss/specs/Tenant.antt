@@ -11,7 +11,7 @@ use Rattle.kb_tenant_state.specs.Logs.{LogState, Logs, log_at}
 use Rattle.kb_opening.specs.Opened.{Owners, ComesToKnown, IsInUse, IsOpened}
 use Rattle.kb_opening.specs.Owners.{is_of_catalog, is_of_partition}
 use Rattle.kb_loss.specs.Chains.{HasAll, LastsIn}
-use Rattle.kb_loss.specs.Known.{GoesOnTo}
+use Rattle.kb_loss.specs.Known.{GoesOnTo, IsLaterPartition}
 use Rattle.kb_loss.specs.Since.{Touched, AreOf, IsWritten}
 
 -- ---- the files
@@ -67,9 +67,10 @@ pub record GoesThroughAll {files : Files} {owners : Owners} {k : Known} {logs : 
 
 -- ---- what the tenant has
 
--- A partition is there, and from its start on its log has all that it had.
-pub record HasLog (known : Known) (logs : Logs) (i p : ℕ) (l : LogState) : Type 0 where
+-- A partition is there, later than it was, and from its start on its log has all that it had.
+pub record HasLog (known : Known) (logs : Logs) (i p : ℕ) (was : PartitionState) (l : LogState) : Type 0 where
   pub part : PartitionState
+  pub later : IsLaterPartition was part
   pub at : partition_at known (pos i) (pos p) ≡ Some part
   pub log : LogState
   pub has : log_at i p logs ≡ Some log
@@ -81,4 +82,4 @@ pub record HasWhatWas (known : Known) (logs : Logs) (now : Known) (logs_now : Lo
   pub catalog : GoesOnTo known now
   pub partitions : (i p : ℕ) (t : TopicState) (was : PartitionState) (l : LogState) → topic_at i known.topics ≡ Some t
       → slice_get t.partitions p ≡ Some was → log_at i p logs ≡ Some l
-      → Contains catalog.commands (Delete t.name) ⊎ HasLog now logs_now i p l
+      → Contains catalog.commands (Delete t.name) ⊎ HasLog now logs_now i p was l

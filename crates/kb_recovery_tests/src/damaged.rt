@@ -1,7 +1,7 @@
 //! A write that stops at a byte, and then the process.
 
-use crate::running::{ABC, CREATE, client_on};
-use kb_store::{Fuse, FusedStore, MemoryStore};
+use crate::running::{ABC, CREATE, Disk, calls_to_open, host_on};
+use kb_store::Fuse;
 use std::alloc::{AllocError, Global};
 use std::process::Abort;
 use std::test::Fail;
@@ -13,17 +13,11 @@ const END: &str =
 /// How many bytes a batch of [`ABC`] has.
 const BATCH: u64 = 85;
 
-/// A store with a topic of three records.
-fn three_records(rt: &impl Abort, alloc: Global) -> Result<MemoryStore, AllocError> {
-    let mut client = client_on(rt, alloc, MemoryStore::new(alloc))?;
-    client.ask_all(rt, &[CREATE, ABC])?;
-    Ok(client.stop())
-}
-
-/// How many calls of the store an opening makes.
-fn opening_calls(rt: &impl Abort, alloc: Global) -> Result<u64, AllocError> {
-    let store = FusedStore::new(three_records(rt, alloc)?, Fuse::Once(0), 0);
-    Ok(client_on(rt, alloc, store)?.stop().calls)
+/// A disk with a topic of three records.
+fn three_records(rt: &impl Abort, alloc: Global) -> Result<Disk, AllocError> {
+    let mut host = host_on(rt, alloc, Disk::new(alloc))?;
+    host.ask_all(rt, &[CREATE, ABC])?;
+    Ok(host.stop())
 }
 
 /// The last byte of an answer.
@@ -34,18 +28,19 @@ fn last_of(answer: &[u8]) -> u8 {
     }
 }
 
-/// The end of the topic, where the write of three more records stopped behind so many bytes and the broker then opened again.
+/// A disk with a topic of three records, to which the write of three more stopped behind so many bytes.
+fn cut_short(rt: &impl Abort, alloc: Global, bytes: u64) -> Result<Disk, AllocError> {
+    let call = calls_to_open(rt, alloc, three_records(rt, alloc)?)?.saturating_add(1);
+    let disk = three_records(rt, alloc)?.fused(Fuse::From(call), bytes);
+    let mut host = host_on(rt, alloc, disk)?;
+    host.ask_all(rt, &[ABC])?;
+    assert!(rt; last_of(&host.ask_all(rt, &[END])?) == 3);
+    Ok(host.stop())
+}
+
+/// The end of the topic, where the broker then opened again.
 fn end_after(rt: &impl Abort, alloc: Global, bytes: u64) -> Result<u8, AllocError> {
-    let calls = opening_calls(rt, alloc)?;
-    let store = FusedStore::new(
-        three_records(rt, alloc)?,
-        Fuse::From(calls.saturating_add(1)),
-        bytes,
-    );
-    let mut client = client_on(rt, alloc, store)?;
-    client.ask_all(rt, &[ABC])?;
-    assert!(rt; last_of(&client.ask_all(rt, &[END])?) == 3);
-    let mut again = client_on(rt, alloc, client.stop().into_store())?;
+    let mut again = host_on(rt, alloc, cut_short(rt, alloc, bytes)?.mended())?;
     Ok(last_of(&again.ask_all(rt, &[END])?))
 }
 

@@ -8,6 +8,8 @@ mod damaged;
 #[cfg(test)]
 mod refused;
 #[cfg(test)]
+mod refusing;
+#[cfg(test)]
 mod renewed;
 #[cfg(test)]
 mod restarted;

@@ -1,8 +1,8 @@
 //! A store that refuses a call of an opening.
 
-use crate::running::{Client, QUESTIONS, filled, open};
+use crate::running::{Opening, filled, open, running_on, tells};
 use kb_broker::OpenFault;
-use kb_store::{Fuse, FusedStore, MemoryStore};
+use kb_store::Fuse;
 use std::alloc::{AllocError, Global};
 use std::process::Abort;
 use std::test::Fail;
@@ -10,35 +10,16 @@ use std::test::Fail;
 /// The calls that are refused in turn: more than an opening makes.
 const CALLS: u64 = 200;
 
-/// The store inside has what it had: a broker that opens on it answers so.
-fn answers(
-    rt: &impl Abort,
-    alloc: Global,
-    store: MemoryStore,
-    wanted: &[u8],
-) -> Result<(), AllocError> {
-    let Ok(opened) = open(alloc, store)? else {
-        panic!(rt; "nothing is refused");
-    };
-    let mut client = Client::new(rt, alloc, opened.broker)?;
-    assert!(rt; client.ask_all(rt, &QUESTIONS)?.as_slice() == wanted);
-    Ok(())
-}
-
-/// Opens where that call is refused, and answers whether it was. The store comes back then, and opens the next time.
+/// Opens where that call is refused, and answers whether it was. The disk comes back then. It has what it had, and a broker opens on it.
 fn is_refused(rt: &impl Abort, alloc: Global, call: u64) -> Result<bool, AllocError> {
-    let (store, wanted) = filled(rt, alloc)?;
-    match open(alloc, FusedStore::new(store, Fuse::Once(call), 0))? {
-        Ok(opened) => {
-            answers(rt, alloc, opened.broker.into_store().into_store(), &wanted)?;
-            Ok(false)
-        }
-        Err(refused) => {
-            assert!(rt; refused.fault == OpenFault::Store);
-            answers(rt, alloc, refused.store.into_store(), &wanted)?;
-            Ok(true)
-        }
-    }
+    let (disk, wanted) = filled(rt, alloc)?;
+    let (refused, disk) = match open(alloc, disk.fused(Fuse::Once(call), 0))? {
+        Opening::Runs(host) => (None, host.stop()),
+        Opening::Refused(fault, disk) => (Some(fault), disk),
+    };
+    tells(rt, running_on(rt, alloc, disk.mended())?, &wanted)?;
+    assert!(rt; refused.is_none() || refused == Some(OpenFault::Store));
+    Ok(refused.is_some())
 }
 
 #[test]

@@ -1,8 +1,9 @@
 //! A catalog that is written anew while the broker runs.
 
-use crate::running::{COMMIT, Client, QUESTIONS, SETUP, bytes_of, client_on, open};
-use kb_restart::file_lengths;
-use kb_store::{Fuse, FusedStore, MemoryStore, Store};
+use crate::running::{
+    COMMIT, Disk, QUESTIONS, SETUP, bytes_of, calls_to_open, host_on, running_on, tells,
+};
+use kb_store::Fuse;
 use std::alloc::{AllocError, Global};
 use std::process::Abort;
 use std::test::Fail;
@@ -13,82 +14,59 @@ const COMMITS: u64 = 5_000;
 /// The calls of the store that are refused in turn: more than a renewal makes.
 const CALLS: u64 = 20;
 
-/// A store on which a broker did what [`SETUP`] asks, and a group committed often.
-fn committed(rt: &impl Abort, alloc: Global) -> Result<MemoryStore, AllocError> {
-    let mut client = client_on(rt, alloc, MemoryStore::new(alloc))?;
-    client.ask_all(rt, &SETUP)?;
+/// A disk on which a broker did what [`SETUP`] asks, and a group committed often.
+fn committed(rt: &impl Abort, alloc: Global) -> Result<Disk, AllocError> {
+    let mut host = host_on(rt, alloc, Disk::new(alloc))?;
+    host.ask_all(rt, &SETUP)?;
     let commit = bytes_of(rt, alloc, COMMIT)?;
     for _ in 0..COMMITS {
-        client.ask(&commit);
+        host.ask(&commit);
     }
-    Ok(client.stop())
+    Ok(host.stop())
 }
 
-/// How many bytes the files of a store have.
-fn total_len<S: Store>(alloc: Global, store: &mut S) -> Result<u64, Fail> {
-    let files = file_lengths(alloc, store).map_err(|_| Fail::from("no lengths"))?;
-    let mut total: u64 = 0;
-    for file in &files {
-        total = total.saturating_add(file.length);
-    }
-    Ok(total)
+/// All is as it was where the catalogs had their turns, for the broker that goes on. The disk, and what is answered.
+fn renewed(rt: &impl Abort, alloc: Global, disk: Disk) -> Result<(Disk, Vec<u8>), AllocError> {
+    let mut host = host_on(rt, alloc, disk)?;
+    let wanted = host.ask_all(rt, &QUESTIONS)?;
+    host.pass();
+    assert!(rt; host.ask_all(rt, &QUESTIONS)? == wanted);
+    Ok((host.stop(), wanted))
 }
 
 /// Its files are short then, and all is as it was, also for a broker that opens with them.
 #[test]
 fn a_long_catalog_becomes_short(rt: HostRuntime) -> Result<(), Fail> {
     let alloc = rt.alloc();
-    let mut store = committed(&rt, alloc)?;
-    assert!(rt; total_len(alloc, &mut store)? > 400_000);
-    let mut client = client_on(&rt, alloc, store)?;
-    let wanted = client.ask_all(&rt, &QUESTIONS)?;
-    client.pass();
-    assert!(rt; client.ask_all(&rt, &QUESTIONS)? == wanted);
-    let mut store = client.stop();
-    assert!(rt; total_len(alloc, &mut store)? < 4_000);
-    let mut again = client_on(&rt, alloc, store)?;
-    assert!(rt; again.ask_all(&rt, &QUESTIONS)? == wanted);
+    let mut disk = committed(&rt, alloc)?;
+    assert!(rt; disk.bytes(alloc)? > 400_000);
+    let (mut disk, wanted) = renewed(&rt, alloc, disk)?;
+    assert!(rt; disk.bytes(alloc)? < 4_000);
+    tells(&rt, host_on(&rt, alloc, disk)?, &wanted)?;
     Ok(())
 }
 
-/// How many calls of the store an opening makes.
-fn opening_calls(rt: &impl Abort, alloc: Global) -> Result<u64, AllocError> {
-    let store = FusedStore::new(committed(rt, alloc)?, Fuse::Once(0), 0);
-    Ok(client_on(rt, alloc, store)?.stop().calls)
-}
-
-/// All is as it was where that call of a renewal was refused, for the broker that goes on and for one that opens with its files.
-fn is_as_before(
-    rt: &impl Abort,
-    alloc: Global,
-    call: u64,
-    wanted: &[u8],
-) -> Result<(), AllocError> {
-    let store = FusedStore::new(committed(rt, alloc)?, Fuse::Once(call), 3);
-    let mut client = client_on(rt, alloc, store)?;
+/// All is as it was where that call of a renewal was refused, for the broker that goes on. The disk.
+fn refused(rt: &impl Abort, alloc: Global, call: u64) -> Result<Disk, AllocError> {
+    let disk = committed(rt, alloc)?.fused(Fuse::Once(call), 3);
+    let mut host = host_on(rt, alloc, disk)?;
     let asked = [QUESTIONS[0], QUESTIONS[4]]; // Metadata and OffsetFetch, which ask the store for nothing
-    let known = client.ask_all(rt, &asked)?;
-    client.pass();
-    assert!(rt; client.ask_all(rt, &asked)? == known);
-    let Ok(opened) = open(alloc, client.stop().into_store())? else {
-        panic!(rt; "nothing is refused");
-    };
-    let mut again = Client::new(rt, alloc, opened.broker)?;
-    assert!(rt;
-        again.ask_all(rt, &QUESTIONS)?.as_slice() == wanted,
-        "{call}"
-    );
-    Ok(())
+    let known = host.ask_all(rt, &asked)?;
+    host.pass();
+    assert!(rt; host.ask_all(rt, &asked)? == known, "{call}");
+    Ok(host.stop())
 }
 
+/// And so it is for a broker that opens with its files.
 #[test]
 fn a_refused_renewal_loses_nothing(rt: HostRuntime) -> Result<(), Fail> {
     let alloc = rt.alloc();
-    let mut client = client_on(&rt, alloc, committed(&rt, alloc)?)?;
-    let wanted = client.ask_all(&rt, &QUESTIONS)?;
-    let calls = opening_calls(&rt, alloc)?;
+    let mut host = host_on(&rt, alloc, committed(&rt, alloc)?)?;
+    let wanted = host.ask_all(&rt, &QUESTIONS)?;
+    let calls = calls_to_open(&rt, alloc, committed(&rt, alloc)?)?;
     for call in 1..=CALLS {
-        is_as_before(&rt, alloc, calls.saturating_add(call), &wanted)?;
+        let disk = refused(&rt, alloc, calls.saturating_add(call))?;
+        tells(&rt, running_on(&rt, alloc, disk.mended())?, &wanted)?;
     }
     Ok(())
 }

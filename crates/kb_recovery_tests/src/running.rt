@@ -1,18 +1,22 @@
-//! A broker on a store, and a client that asks it.
+//! A broker on a disk, and a client that asks it. Both are of types with calls of no contract, so that what happens to them is proved
+//! without the clauses of a broker and of a store.
 
 use hex::FromHexError;
 use kb_batch::BatchBuilder;
-use kb_broker::{Broker, Listing, OpenRefused, Settings};
-use kb_restart::{Restarted, open_broker};
+use kb_broker::{Broker, Listing, OpenFault, Settings};
+use kb_restart::{file_lengths, open_broker};
 use kb_segment_log::SegmentLog;
-use kb_store::{MemoryStore, Store};
+use kb_store::{Fuse, FusedStore, MemoryStore, Store};
 use std::alloc::{AllocError, Global};
 use std::process::Abort;
 use std::test::Fail;
 
+/// SaslHandshake 1.
+pub(crate) const HANDSHAKE: &str = "000000110011000100000002ffff0005504c41494e";
+
 /// SaslHandshake 1, and the login of `ann`.
 const LOGIN: [&str; 2] = [
-    "000000110011000100000002ffff0005504c41494e",
+    HANDSHAKE,
     "000000160024000000000003ffff0000000800616e6e00707731",
 ];
 
@@ -63,64 +67,128 @@ pub(crate) fn bytes_of(
     }
 }
 
-/// Opens a broker of the standard settings on a store.
-pub(crate) fn open<S: Store + Drop>(
-    alloc: Global,
-    store: S,
-) -> Result<Result<Restarted<S>, OpenRefused<S>>, AllocError> {
-    let settings = Settings::standard(alloc)?;
-    Ok(open_broker(alloc, &settings, Listing::Served, store))
-}
-
-/// A client of the tenant `a` on a broker: it logs in, and each request is answered at once.
+/// Files in memory, of which a fuse may refuse calls.
 #[derive(Drop)]
-pub(crate) struct Client<S: Store + Drop> {
-    alloc: Global,
-    broker: Broker<S, SegmentLog>,
-    number: u64,
+pub(crate) struct Disk {
+    store: FusedStore<MemoryStore>,
 }
 
-impl<S: Store + Drop> Client<S> {
-    /// A new connection to a broker, logged in.
-    pub(crate) fn new(
-        rt: &impl Abort,
-        alloc: Global,
-        mut broker: Broker<S, SegmentLog>,
-    ) -> Result<Client<S>, AllocError> {
-        assert!(rt; broker.last_connection() == 0);
-        broker.connect(alloc, 1)?;
-        let mut client = Client {
-            alloc,
-            broker,
-            number: 1,
-        };
-        for request in LOGIN {
-            let bytes = bytes_of(rt, alloc, request)?;
-            assert!(rt; !client.ask(&bytes).is_empty());
+impl Disk {
+    /// An empty one that refuses nothing.
+    pub(crate) fn new(alloc: Global) -> Disk {
+        Disk::of(MemoryStore::new(alloc))
+    }
+
+    /// The files of a store. Nothing is refused.
+    pub(crate) fn of(store: MemoryStore) -> Disk {
+        Disk {
+            store: FusedStore::new(store, Fuse::Once(0), 0),
         }
-        Ok(client)
+    }
+
+    /// The same files, whose calls are counted from here on. Of a refused append so many bytes are left.
+    pub(crate) fn fused(self, fuse: Fuse, keep: u64) -> Disk {
+        Disk {
+            store: FusedStore::new(self.store.into_store(), fuse, keep),
+        }
+    }
+
+    /// The same files, and nothing is refused any more.
+    pub(crate) fn mended(self) -> Disk {
+        Disk::of(self.store.into_store())
+    }
+
+    /// How many calls there were.
+    pub(crate) fn calls(&self) -> u64 {
+        self.store.calls
+    }
+
+    /// How many of them were refused.
+    pub(crate) fn failures(&self) -> u64 {
+        self.store.failures()
+    }
+
+    /// How many files it has.
+    pub(crate) fn files(&mut self, alloc: Global) -> Result<usize, Fail> {
+        match self.store.list(alloc) {
+            Ok(files) => Ok(files.len()),
+            Err(_) => Err("no list".into()),
+        }
+    }
+
+    /// How many bytes they have.
+    pub(crate) fn bytes(&mut self, alloc: Global) -> Result<u64, Fail> {
+        let Ok(files) = file_lengths(alloc, &mut self.store) else {
+            return Err("no lengths".into());
+        };
+        let mut total: u64 = 0;
+        for file in &files {
+            total = total.saturating_add(file.length);
+        }
+        Ok(total)
+    }
+}
+
+/// A broker that opened on a disk, and a client of the tenant `a`, which is answered at once.
+#[derive(Drop)]
+pub(crate) struct Host {
+    alloc: Global,
+    broker: Broker<FusedStore<MemoryStore>, SegmentLog>,
+    strays: Vec<u64>,
+}
+
+/// What an opening comes to.
+#[derive(Drop)]
+pub(crate) enum Opening {
+    /// A broker runs.
+    Runs(Host),
+    /// It is refused, and the disk comes back.
+    Refused(OpenFault, Disk),
+}
+
+/// Opens a broker of the standard settings on a disk.
+pub(crate) fn open(alloc: Global, disk: Disk) -> Result<Opening, AllocError> {
+    let settings = Settings::standard(alloc)?;
+    match open_broker(alloc, &settings, Listing::Served, disk.store) {
+        Ok(opened) => Ok(Opening::Runs(Host {
+            alloc,
+            broker: opened.broker,
+            strays: opened.strays,
+        })),
+        Err(refused) => Ok(Opening::Refused(
+            refused.fault,
+            Disk {
+                store: refused.store,
+            },
+        )),
+    }
+}
+
+impl Host {
+    /// A client connects.
+    pub(crate) fn connect(&mut self, rt: &impl Abort, number: u64) -> Result<(), AllocError> {
+        assert!(rt; self.broker.last_connection() < number);
+        self.broker.connect(self.alloc, number)
     }
 
     /// What a request is answered.
     pub(crate) fn ask(&mut self, request: &[u8]) -> Vec<u8> {
-        self.broker.input(self.alloc, self.number, request);
-        self.broker.take_output(self.alloc, self.number)
+        self.ask_on(1, request)
     }
 
-    /// The answers to some requests, one behind the other.
-    pub(crate) fn ask_all(
-        &mut self,
-        rt: &impl Abort,
-        requests: &[&str],
-    ) -> Result<Vec<u8>, AllocError> {
-        let mut answers = Vec::new(self.alloc);
-        for request in requests {
-            let bytes = bytes_of(rt, self.alloc, request)?;
-            let answer = self.ask(&bytes);
-            assert!(rt; !answer.is_empty());
-            answers.extend_from_slice(&answer)?;
-        }
-        Ok(answers)
+    /// What a request on a connection is answered.
+    fn ask_on(&mut self, number: u64, request: &[u8]) -> Vec<u8> {
+        self.broker.input(self.alloc, number, request);
+        self.broker.take_output(self.alloc, number)
+    }
+
+    /// The refusals that were counted for the tenants `a` and `b`, and for connections that were not bound.
+    pub(crate) fn refusals(&self) -> [u64; 3] {
+        [
+            self.broker.refusals("a"),
+            self.broker.refusals("b"),
+            self.broker.refusals_unbound(),
+        ]
     }
 
     /// Some moments, in which the catalog of each tenant has its turn.
@@ -130,31 +198,94 @@ impl<S: Store + Drop> Client<S> {
         }
     }
 
-    /// The store, as the broker leaves it when it stops.
-    pub(crate) fn stop(self) -> S {
-        self.broker.into_store()
+    /// The disk, as the broker leaves it when it stops.
+    pub(crate) fn stop(self) -> Disk {
+        Disk {
+            store: self.broker.into_store(),
+        }
+    }
+
+    /// The files of no log that it found.
+    pub(crate) fn strays(&self) -> &[u64] {
+        &self.strays
+    }
+
+    /// The answers to some requests, one behind the other.
+    pub(crate) fn ask_all(
+        &mut self,
+        rt: &impl Abort,
+        requests: &[&str],
+    ) -> Result<Vec<u8>, AllocError> {
+        self.ask_all_on(rt, 1, requests)
+    }
+
+    /// The same on a connection.
+    pub(crate) fn ask_all_on(
+        &mut self,
+        rt: &impl Abort,
+        number: u64,
+        requests: &[&str],
+    ) -> Result<Vec<u8>, AllocError> {
+        let mut answers = Vec::new(self.alloc);
+        for request in requests {
+            let bytes = bytes_of(rt, self.alloc, request)?;
+            let answer = self.ask_on(number, &bytes);
+            assert!(rt; !answer.is_empty());
+            answers.extend_from_slice(&answer)?;
+        }
+        Ok(answers)
+    }
+
+    /// A request on a connection is answered so.
+    pub(crate) fn answers(
+        &mut self,
+        rt: &impl Abort,
+        number: u64,
+        request: &str,
+        reply: &str,
+    ) -> Result<(), AllocError> {
+        let bytes = bytes_of(rt, self.alloc, request)?;
+        let answer = self.ask_on(number, &bytes);
+        assert!(rt; answer == bytes_of(rt, self.alloc, reply)?, "to {request}");
+        Ok(())
     }
 }
 
-/// A client of a broker that opened on a store, of which no file is a stray and nothing is refused.
-pub(crate) fn client_on<S: Store + Drop>(
-    rt: &impl Abort,
-    alloc: Global,
-    store: S,
-) -> Result<Client<S>, AllocError> {
-    let Ok(opened) = open(alloc, store)? else {
+/// A broker that opens on a disk, of which nothing is refused, and its client has logged in.
+pub(crate) fn running_on(rt: &impl Abort, alloc: Global, disk: Disk) -> Result<Host, AllocError> {
+    let Opening::Runs(mut host) = open(alloc, disk)? else {
         panic!(rt; "nothing is refused");
     };
-    assert!(rt; opened.strays.is_empty());
-    Client::new(rt, alloc, opened.broker)
+    host.connect(rt, 1)?;
+    host.ask_all(rt, &LOGIN)?;
+    Ok(host)
 }
 
-/// A store in memory on which a broker did what [`SETUP`] asks, and what it answered to [`QUESTIONS`].
-pub(crate) fn filled(rt: &impl Abort, alloc: Global) -> Result<(MemoryStore, Vec<u8>), AllocError> {
-    let mut client = client_on(rt, alloc, MemoryStore::new(alloc))?;
-    client.ask_all(rt, &SETUP)?;
-    let answers = client.ask_all(rt, &QUESTIONS)?;
-    Ok((client.stop(), answers))
+/// The same where no file is a stray.
+pub(crate) fn host_on(rt: &impl Abort, alloc: Global, disk: Disk) -> Result<Host, AllocError> {
+    let host = running_on(rt, alloc, disk)?;
+    assert!(rt; host.strays().is_empty());
+    Ok(host)
+}
+
+/// How many calls of a disk an opening makes.
+pub(crate) fn calls_to_open(rt: &impl Abort, alloc: Global, disk: Disk) -> Result<u64, AllocError> {
+    let host = host_on(rt, alloc, disk.fused(Fuse::Once(0), 0))?;
+    Ok(host.stop().calls())
+}
+
+/// A disk on which a broker did what [`SETUP`] asks, and what it answered to [`QUESTIONS`].
+pub(crate) fn filled(rt: &impl Abort, alloc: Global) -> Result<(Disk, Vec<u8>), AllocError> {
+    let mut host = host_on(rt, alloc, Disk::new(alloc))?;
+    host.ask_all(rt, &SETUP)?;
+    let answers = host.ask_all(rt, &QUESTIONS)?;
+    Ok((host.stop(), answers))
+}
+
+/// [`QUESTIONS`] are answered so, and the broker stops.
+pub(crate) fn tells(rt: &impl Abort, mut host: Host, wanted: &[u8]) -> Result<Disk, AllocError> {
+    assert!(rt; host.ask_all(rt, &QUESTIONS)?.as_slice() == wanted);
+    Ok(host.stop())
 }
 
 /// Produce 3 of one record to `t`, by producer 0 in epoch 0 with that sequence number.

@@ -1,10 +1,11 @@
 //! Files that are of no log.
 
-use crate::running::{Client, QUESTIONS, SETUP, open};
+use crate::running::{Disk, Host, QUESTIONS, SETUP, running_on, tells};
 use kb_log::Shelf;
 use kb_segment::SegmentHeader;
 use kb_store::{MemoryStore, Store};
-use std::alloc::Global;
+use std::alloc::{AllocError, Global};
+use std::process::Abort;
 use std::test::Fail;
 
 /// Makes the next file, with these bytes.
@@ -20,35 +21,33 @@ fn header(alloc: Global, tenant: &str, instance: i64) -> Result<Vec<u8>, Fail> {
     Ok(header.to_bytes(alloc)?)
 }
 
-/// A store of three bytes in a file, a file of a tenant that no user names, and one of a topic that there is not.
-fn littered(alloc: Global) -> Result<MemoryStore, Fail> {
+/// A disk of three bytes in a file, a file of a tenant that no user names, and one of a topic that there is not.
+fn littered(alloc: Global) -> Result<Disk, Fail> {
     let Ok(mut shelf) = Shelf::new(alloc, MemoryStore::new(alloc), 0) else {
         return Err("no shelf".into());
     };
     put(&mut shelf, b"KBS")?;
     put(&mut shelf, &header(alloc, "zz", 0)?)?;
     put(&mut shelf, &header(alloc, "a", 5)?)?;
-    Ok(shelf.into_store())
+    Ok(Disk::of(shelf.into_store()))
+}
+
+/// A broker that opens on a disk with those files. They are told, rising.
+fn beside(rt: &impl Abort, alloc: Global, disk: Disk) -> Result<Host, AllocError> {
+    let host = running_on(rt, alloc, disk)?;
+    assert!(rt; host.strays() == [0, 1, 2].as_slice());
+    Ok(host)
 }
 
 /// They are told, rising, and left alone; the logs beside them are as they would be without.
 #[test]
 fn strays_are_told_and_left_alone(rt: HostRuntime) -> Result<(), Fail> {
     let alloc = rt.alloc();
-    let Ok(first) = open(alloc, littered(alloc)?)? else {
-        panic!(rt; "nothing is refused");
-    };
-    assert!(rt; first.strays.as_slice() == [0, 1, 2].as_slice());
-    let mut client = Client::new(&rt, alloc, first.broker)?;
-    client.ask_all(&rt, &SETUP)?;
-    let wanted = client.ask_all(&rt, &QUESTIONS)?;
-    let Ok(second) = open(alloc, client.stop())? else {
-        panic!(rt; "nothing is refused");
-    };
-    assert!(rt; second.strays.as_slice() == [0, 1, 2].as_slice());
-    let mut client = Client::new(&rt, alloc, second.broker)?;
-    assert!(rt; client.ask_all(&rt, &QUESTIONS)? == wanted);
-    let mut store = client.stop();
-    assert!(rt; store.list(alloc).map_err(|_| Fail::from("no list"))?.len() == 5);
+    let mut host = beside(&rt, alloc, littered(alloc)?)?;
+    host.ask_all(&rt, &SETUP)?;
+    let wanted = host.ask_all(&rt, &QUESTIONS)?;
+    let again = beside(&rt, alloc, host.stop())?;
+    let mut disk = tells(&rt, again, &wanted)?;
+    assert!(rt; disk.files(alloc)? == 5);
     Ok(())
 }

@@ -1,8 +1,9 @@
 // A topic is made, written and read by sarama 1.22 (Debian: golang-go, golang-github-shopify-sarama-dev), and deleted:
 //
-//	GO111MODULE=off GOPATH=/usr/share/gocode go run examples/sarama.go HOST:PORT USER PASSWORD TOPIC
+//	GO111MODULE=off GOPATH=/usr/share/gocode go run examples/sarama.go HOST:PORT USER PASSWORD TOPIC [VERSION]
 //
-// With the version 0.11.0.0 it logs in by SaslHandshake 0, and asks for no version that `kbroker serve --stock-clients` does not serve.
+// With the version 0.11.0.0, and without one, it logs in by SaslHandshake 0; with 1.0.0 by a request, and it asks for Metadata 5. Either way
+// it asks for no version that `kbroker serve --stock-clients` does not serve.
 package main
 
 import (
@@ -20,12 +21,17 @@ func must(err error) {
 }
 
 func main() {
-	if len(os.Args) != 5 {
-		log.Fatalln("usage: sarama HOST:PORT USER PASSWORD TOPIC")
+	if len(os.Args) < 5 || len(os.Args) > 6 {
+		log.Fatalln("usage: sarama HOST:PORT USER PASSWORD TOPIC [VERSION]")
 	}
 	brokers, topic := os.Args[1:2], os.Args[4]
 	config := sarama.NewConfig()
 	config.Version = sarama.V0_11_0_0
+	if len(os.Args) == 6 {
+		version, err := sarama.ParseKafkaVersion(os.Args[5])
+		must(err)
+		config.Version = version
+	}
 	config.Net.SASL.Enable = true
 	config.Net.SASL.User = os.Args[2]
 	config.Net.SASL.Password = os.Args[3]

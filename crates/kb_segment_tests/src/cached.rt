@@ -1,15 +1,13 @@
 //! Logs and files over a store with a cache: the answers are those of the store inside, and what is kept is answered without it.
 ghost use Rattle.std.specs.Prelude.{◌≡◌, [], IfOk};
-ghost use Rattle.kb_log.specs.Apart.{AreApart};
 ghost use Rattle.kb_log.specs.OnShelf.{on, IsSound};
 
-use crate::begun::{is_alone, is_empty};
+use crate::alone::{is_alone, is_empty};
 use crate::folders::{cut, has, remove};
-use crate::logs::{id, random_calls};
-use crate::segments::{Random, random_batch};
+use crate::opened::{batch_of, id};
 use kb_batch::BatchView;
 use kb_cache::{CachedStore, LARGEST_READ};
-use kb_log::{LogId, PartitionLog, Shelf, append_to_first};
+use kb_log::{PartitionLog, Shelf};
 use kb_segment_log::SegmentLog;
 use kb_store::{Fuse, FusedStore, MemoryStore, Store};
 use std::alloc::Global;
@@ -30,35 +28,6 @@ fn cached<S: Store + Drop>(
 {
     let hasher = RandomState::new(rt)?;
     Ok(CachedStore::new(rt.alloc(), hasher, inside, most_entries, most_bytes))
-}
-
-#[test]
-fn calls_over_a_cache_have_the_answers_of_a_list(rt: HostRuntime) -> Result<(), Fail> {
-    for (most_entries, most_bytes) in LIMITS {
-        for seed in 1..4u64 {
-            let inside = MemoryStore::new(rt.alloc());
-            let store = cached(&rt, inside, most_entries, most_bytes)?;
-            let (alike, _) = random_calls(rt.alloc(), store, seed, 200)?;
-            assert!(rt; alike, "{most_entries} entries, seed {seed}");
-        }
-    }
-    Ok(())
-}
-
-/// Each call of the store inside is refused in turn, up to the last one.
-#[test]
-fn refused_calls_below_a_cache_change_no_answer(rt: HostRuntime) -> Result<(), Fail> {
-    for call in 2..100_000u64 {
-        let inside = FusedStore::new(MemoryStore::new(rt.alloc()), Fuse::Once(call), 70);
-        let store = cached(&rt, inside, 3, 2000)?;
-        let (alike, store) = random_calls(rt.alloc(), store, 3, 40)?;
-        assert!(rt; alike, "call {call}");
-        if store.failures() == 0 {
-            assert!(rt; call > 20);
-            break;
-        }
-    }
-    Ok(())
 }
 
 /// Makes the file 0, where there is none.
@@ -113,20 +82,17 @@ fn nothing_old_is_answered_after_a_cut_and_a_removal(rt: HostRuntime) -> Result<
     Ok(())
 }
 
-/// Adds a random batch to a log.
+/// Adds a batch to a log.
 fn append_one<S: Store, L: PartitionLog>(
     alloc: Global,
-    random: &mut Random,
     shelf: &mut Shelf<S>,
     log: &mut L,
 ) -> Result<(), Fail>
     requires { IsSound (on S.disk (L.log log.old) shelf.old) }
     ensures { IsSound (on S.disk (L.log log.new) shelf.new) }
 {
-    let mut rows = Vec::new(alloc);
-    let bytes = random_batch(alloc, random, 0, 0, &mut rows)?;
-    let batch = BatchView::read(&bytes)?;
-    log.append(shelf, &batch)?;
+    let bytes = batch_of(alloc, &[7; 700])?;
+    log.append(shelf, &BatchView::read(&bytes)?)?;
     Ok(())
 }
 
@@ -152,10 +118,9 @@ fn fetched_times<S: Store, L: PartitionLog + Drop>(
     times: u8,
 ) -> Result<Vec<u8>, Fail> {
     let mut log = L::create(alloc, id(alloc)?, 1 << 20);
-    let mut random = Random { state: 9 };
     for turn in 0..20u8 {
         let _ = turn;
-        append_one(alloc, &mut random, shelf, &mut log)?;
+        append_one(alloc, shelf, &mut log)?;
     }
     let mut last = Vec::new(alloc);
     for again in 0..times {
@@ -204,126 +169,5 @@ fn a_fetch_is_refused_where_nothing_is_kept(rt: HostRuntime) -> Result<(), Fail>
     let (twice, _, same) = fetched_until(&rt, 0, u64::MAX, 2)?;
     assert!(rt; once < twice);
     assert!(rt; same.as_slice() == bytes.as_slice());
-    Ok(())
-}
-
-/// Adds a random batch to one of two logs.
-fn append_beside<S: Store, L: PartitionLog>(
-    alloc: Global,
-    random: &mut Random,
-    shelf: &mut Shelf<S>,
-    log: &mut L,
-    other: &L,
-) -> Result<(), Fail>
-    requires log { IsSound (on S.disk (L.log log.old) shelf.old) }
-    requires other { IsSound (on S.disk (L.log other.now) shelf.old) }
-    requires apart { AreApart (L.log log.old).owns (L.log other.now).owns }
-    ensures log { IsSound (on S.disk (L.log log.new) shelf.new) }
-    ensures other { IsSound (on S.disk (L.log other.now) shelf.new) }
-    ensures apart { AreApart (L.log log.new).owns (L.log other.now).owns }
-{
-    let mut rows = Vec::new(alloc);
-    let bytes = random_batch(alloc, random, 0, 0, &mut rows)?;
-    let batch = BatchView::read(&bytes)?;
-    append_to_first(shelf, log, other, &batch)?;
-    Ok(())
-}
-
-/// Adds a random batch to each of two logs.
-fn append_both<S: Store, L: PartitionLog>(
-    alloc: Global,
-    random: &mut Random,
-    shelf: &mut Shelf<S>,
-    log: &mut L,
-    other: &mut L,
-) -> Result<(), Fail>
-    requires log { IsSound (on S.disk (L.log log.old) shelf.old) }
-    requires other { IsSound (on S.disk (L.log other.old) shelf.old) }
-    requires apart { AreApart (L.log log.old).owns (L.log other.old).owns }
-    ensures log { IsSound (on S.disk (L.log log.new) shelf.new) }
-    ensures other { IsSound (on S.disk (L.log other.new) shelf.new) }
-    ensures apart { AreApart (L.log log.new).owns (L.log other.new).owns }
-{
-    append_beside(alloc, random, shelf, log, other)?;
-    append_beside(alloc, random, shelf, other, log)
-}
-
-/// Adds what each of two logs gives at an offset to some bytes.
-#[tactic(auto, using(crate::proofs::StillSound::still_sound))]
-fn add_both<S: Store, L: PartitionLog>(
-    shelf: &mut Shelf<S>,
-    log: &L,
-    other: &L,
-    offset: u8,
-    out: &mut Vec<u8>,
-) -> Result<(), Fail>
-    requires log { IsSound (on S.disk (L.log log.now) shelf.old) }
-    requires other { IsSound (on S.disk (L.log other.now) shelf.old) }
-    ensures log { IsSound (on S.disk (L.log log.now) shelf.new) }
-    ensures other { IsSound (on S.disk (L.log other.now) shelf.new) }
-{
-    log.fetch(shelf, i64::from(offset), 1, true, out)?;
-    other.fetch(shelf, i64::from(offset), 1, true, out)?;
-    Ok(())
-}
-
-/// What two logs give that are written and read in turns.
-fn in_turns<S: Store, L: PartitionLog + Drop>(
-    alloc: Global,
-    shelf: &mut Shelf<S>,
-    mut log: L,
-    mut other: L,
-) -> Result<Vec<u8>, Fail>
-    requires log { IsSound (on S.disk (L.log log) shelf.old) }
-    requires other { IsSound (on S.disk (L.log other) shelf.old) }
-    requires apart { AreApart (L.log log).owns (L.log other).owns }
-{
-    let mut random = Random { state: 5 };
-    for turn in 0..20u8 {
-        let _ = turn;
-        append_both(alloc, &mut random, shelf, &mut log, &mut other)?;
-    }
-    let mut out = Vec::new(alloc);
-    for offset in 0..20u8 {
-        add_both(shelf, &log, &other, offset, &mut out)?;
-    }
-    Ok(out)
-}
-
-/// The same of two partitions' new logs.
-fn new_in_turns<S: Store, L: PartitionLog + Drop>(
-    alloc: Global,
-    shelf: &mut Shelf<S>,
-) -> Result<Vec<u8>, Fail> {
-    let log = L::create(alloc, id(alloc)?, 1 << 20);
-    let other = L::create(alloc, other_id(alloc)?, 1 << 20);
-    in_turns(alloc, shelf, log, other)
-}
-
-/// Another partition's log.
-fn other_id(alloc: Global) -> Result<LogId, Fail> {
-    let mut other = id(alloc)?;
-    other.partition = 6;
-    Ok(other)
-}
-
-#[test]
-fn two_logs_get_their_own_bytes(rt: HostRuntime) -> Result<(), Fail> {
-    let Ok(mut plain) = Shelf::new(rt.alloc(), MemoryStore::new(rt.alloc()), 0) else {
-        return Err("no shelf".into());
-    };
-    let bytes = new_in_turns::<_, SegmentLog>(rt.alloc(), &mut plain)?;
-    assert!(rt; !bytes.is_empty());
-    for (most_entries, most_bytes) in LIMITS {
-        let store = cached(&rt, MemoryStore::new(rt.alloc()), most_entries, most_bytes)?;
-        let Ok(mut shelf) = Shelf::new(rt.alloc(), store, 0) else {
-            return Err("no shelf".into());
-        };
-        let turns = new_in_turns::<_, SegmentLog>(rt.alloc(), &mut shelf)?;
-        assert!(rt;
-            turns.as_slice() == bytes.as_slice(),
-            "{most_entries} entries"
-        );
-    }
     Ok(())
 }

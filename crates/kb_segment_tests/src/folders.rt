@@ -2,7 +2,7 @@
 ghost use Rattle.std.specs.Prelude.{◌≡◌, true, IfOk};
 ghost use Rattle.kb_store.specs.Disk.{IsThere};
 
-use crate::begun::is_alone;
+use crate::alone::is_alone;
 use kb_folder::{Folder, FolderCall, FolderFault, FolderStore, HostFolder, Refusals};
 use kb_log::{LogFault, Shelf};
 use kb_process::soft_limit;
@@ -16,7 +16,7 @@ use std::test::Fail;
 const OTHER: &str = "00000000000000000000.old";
 
 /// The store over a folder of the system's.
-pub fn opened(
+fn opened(
     files: &HostRuntime,
     path: &str,
 ) -> Result<FolderStore<HostFolder<HostRuntime>>, FolderFault> {
@@ -306,7 +306,7 @@ fn a_limit_is_read_as_the_system_writes_it(rt: HostRuntime) {
 }
 
 /// The path of a new folder among the temporary ones.
-pub fn folder_of_its_own(files: &HostRuntime) -> Result<String, Fail> {
+fn folder_of_its_own(files: &HostRuntime) -> Result<String, Fail> {
     let parent = std::env::temp_dir(files)?;
     for number in 0..1000u16 {
         let path = format!(in files.alloc(); "{}/kb-files-{number}", parent.as_str())?;

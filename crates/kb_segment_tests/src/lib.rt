@@ -1,10 +1,10 @@
-//! Worked cases of segment files: their headers as bytes, and what is printed of them.
+//! Worked cases of segment files: their headers as bytes, what is printed of them, logs that are opened from them, and a folder on a disk.
 //!
 //! There is nothing here but tests.
 #![tactic(auto)]
 
 #[cfg(test)]
-mod begun;
+mod alone;
 #[cfg(test)]
 mod cached;
 #[cfg(test)]
@@ -14,8 +14,4 @@ mod folders;
 #[cfg(test)]
 mod headers;
 #[cfg(test)]
-mod logs;
-#[cfg(test)]
 mod opened;
-#[cfg(test)]
-mod segments;

@@ -164,7 +164,7 @@ impl Doors {
 }
 
 /// An edge on a network where so many wait, for a name and a port, or the address that stands in the way.
-fn doors(
+fn listening(
     alloc: Global,
     waiting: u32,
     name: &str,
@@ -186,7 +186,7 @@ fn in_the_way(refused: BindRefused<FusedStore<MemoryStore>, ListLog>) -> Option<
 
 /// How many addresses of a name are listened on, or the one that stands in the way.
 fn listened(alloc: Global, name: &str) -> Result<Result<usize, Option<IpAddr>>, AllocError> {
-    Ok(doors(alloc, 0, name)?.map(|doors| doors.count()))
+    Ok(listening(alloc, 0, name)?.map(|doors| doors.count()))
 }
 
 #[test]
@@ -223,7 +223,7 @@ const ALL_ANSWERED: Turn = Turn {
 
 #[test]
 fn one_too_many_is_let_in_for_the_first(rt: HostRuntime) -> Result<(), Fail> {
-    let Ok(mut doors) = doors(rt.alloc(), 1025, "f:9092")? else {
+    let Ok(mut doors) = listening(rt.alloc(), 1025, "f:9092")? else {
         return Err("nothing stands in the way".into());
     };
     assert!(rt; doors.turn(rt.alloc()) == ALL_ANSWERED);

@@ -165,7 +165,12 @@ fn deleted_in<S: PutsOff + Drop>(
     let mut catalogs = Vec::new(rt.alloc());
     for place in 0..opened.broker.tenants_len() {
         if let Some(view) = opened.broker.tenant(place) {
-            let TenantView { name, parts, .. } = view;
+            let TenantView {
+                name,
+                parts,
+                groups: _,
+                store_refusals: _,
+            } = view;
             catalogs.push(CatalogOf {
                 tenant: name,
                 catalog: parts.catalog(),

@@ -30,8 +30,9 @@ impl<'a, S: Store, L: PartitionLog + Drop> RefusalCounts for CountsOf<'a, S, L> 
             if let Some(view) = self.0.tenant(place) {
                 let TenantView {
                     name: found,
+                    parts: _,
+                    groups: _,
                     store_refusals,
-                    ..
                 } = view;
                 if found == name {
                     return store_refusals;

@@ -15,7 +15,8 @@ use Rattle.kb_loss.specs.Chains.{first_at}
 abbrev pub HoldsSince : (Files → Type 0) → ℕ → Loss → Type 0
 HoldsSince X t l = (found : Files) → l.left_since t found → X found
 
--- Under which numbers files were made since a commit, and to which of its files bytes were added.
+-- Under which numbers files were made since a commit, and to which of its files bytes were added. A file of the commit that had no header
+-- yet, and got one, counts as made.
 pub record Touched : Type 0 where
   pub made : ℕ → Bool
   pub grown : ℕ → Bool
@@ -71,9 +72,9 @@ pub record GoInOrder {files : Files} {numbers : List ℕ} {from : ℕ} {bs : Lis
   pub stay : (n : ℕ) → Contains kept n → has going n ≡ false
   pub below : (gone ≡ []) ⊎ (first_at files c.end kept ≤ start)
 
--- How a log is written. Its chain goes through all its files; since the commit it has grown in the last one alone; and a file that was
--- made since begins at the end of the chain or behind it, if it has the log's header. Removals wait in the order of the files, and a file
--- that may go ends at the start or below it.
+-- How a log is written. Its chain goes through all its files, none of which was made since the commit; it has grown in the last one alone,
+-- and each file that grew had a header that can be read. A file that was made since begins at the end of the chain or behind it, if it has
+-- the log's header. Removals wait in the order of the files, and a file that may go ends at the start or below it.
 pub record IsWritten {files : Files} {numbers : List ℕ} {from : ℕ} {bs : List (List ℕ)} (c : Chain files numbers from bs)
     (test : Header → Bool) (t : Touched) (waiting : List ℕ) (start : ℕ) (found : Files) : Type 0 where
   pub all : (n : ℕ) → Contains numbers n → Contains (numbers_in c) n

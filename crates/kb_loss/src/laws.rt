@@ -67,7 +67,7 @@ pub fn what_is_left_later_is_left()
         → AreLeft synced untouched waiting found → AreLeft files t waiting found }
 {}
 
-/// Nothing that a tenant had at a commit is missing after a loss of power, at any moment since: an opening finds the catalog with all
+/// Nothing that a tenant had at a commit is missing in files that are left as these may be: an opening finds the catalog with all
 /// commands that it had, and of each partition all records from its start on. So it is where the tenant's logs are written in order, and
 /// what is left of the catalog can be read.
 pub fn what_was_acknowledged_is_there()

@@ -18,7 +18,8 @@ use kb_store::{Store, StoreFault};
 /// Commits, as [`Broker::commit`] does. Where the store has put nothing off, its files come to what each tenant has, and they are there
 /// after a loss of power at any moment from then on, but for what calls since then do.
 ///
-/// That what the tenants have is in the files is said by the clauses `in_files` of the broker's calls.
+/// That what the tenants have is in the files is said by the clauses `in_files` of the broker's calls. So here it is where nothing was
+/// refused to any tenant since the start, the strays are known and still are such, and no file is of two tenants.
 pub fn commit_lasts<S: Store>(broker: &mut Broker<S, SegmentLog>) -> Result<(), StoreFault>
     ensures { OnOk result (S.settled broker.new.store → is_honest S.disk broker.new → IsInFiles segment_log S.disk broker.new
         → (strays : List ℕ) → broker.new.strays ≡ Some strays → all_calm broker.new.state.tenants ≡ true
@@ -33,7 +34,7 @@ pub fn commit_lasts<S: Store>(broker: &mut Broker<S, SegmentLog>) -> Result<(), 
     broker.commit()
 }
 
-/// Nothing that a tenant had at a commit is missing in what a loss of power leaves at any moment since: a broker that opens with it has
+/// Nothing that a tenant had at a commit is missing in files that are left as these may be: a broker that opens with them has
 /// each tenant's catalog with all commands that it had, and of each partition all records from its start on. So it is where the logs of
 /// all tenants are written in order, and what is left of their catalogs can be read.
 pub fn every_tenant_has_what_was_acknowledged()

@@ -1,3 +1,5 @@
-mod Begun
 mod Gathered
+mod Named
+mod Noted
 mod Opened
+mod Told

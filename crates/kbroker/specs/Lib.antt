@@ -1,2 +1,4 @@
 pub mod Causes
 pub mod Observed
+pub mod Pages
+pub mod Server

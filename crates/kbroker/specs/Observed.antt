@@ -1,5 +1,5 @@
 -- What pages of metrics tell of a broker.
-use Rattle.std.specs.Prelude.{◌≡◌, ◌++◌, ℕ, List, [], ◌∷◌, map, length, Option, None, Some, option_map, slice_get}
+use Rattle.std.specs.Prelude.{ℕ, List, [], ◌∷◌, length, Option, None, Some, option_map, slice_get}
 use Rattle.std.specs.List.{flat_map, range_with_len}
 use Rattle.kb_isolation_spec.specs.Broker.{BrokerState}
 use Rattle.kb_isolation_spec.specs.Machine.{Line}
@@ -9,7 +9,7 @@ use Rattle.kb_log.specs.OnShelf.{Log}
 use Rattle.kb_settings.specs.Values.{Values, data_of, groups_of}
 use Rattle.kb_settings.specs.declared.tenant_limits.DataLimits.{DataLimits}
 use Rattle.kb_settings.specs.declared.tenant_limits.GroupLimits.{GroupLimits}
-use Rattle.kb_metrics.specs.Gauges.{Observed, tenants_text}
+use Rattle.kb_metrics.specs.Gauges.{Observed}
 use Rattle.kb_metrics.specs.View.{observed}
 use Rattle.kb_metrics.specs.declared.gauges.TenantGauges.{TenantGauges}
 use Rattle.kb_metrics.specs.declared.limits.Limits.{Limits}
@@ -82,12 +82,3 @@ unstored o = record o { stored = None; store_refusals = 0 }
 
 abbrev pub looked_at : {L : Type 0} → (L → Log) → Files → TenantGauges L → Observed
 looked_at log files g = unstored (observed log files g)
-
--- a text that begins with another
-abbrev pub BeginsWith : List ℕ → List ℕ → Type 0
-BeginsWith front text = (rest : List ℕ) × (text ≡ front ++ rest)
-
--- the page of metrics begins with what is said of tenants of which this is observed, whatever is known of the bytes of their batches, and
--- however many of their refusals are the store's
-abbrev pub IsMetrics : List Observed → List ℕ → Type 0
-IsMetrics seen text = (os : List Observed) × (map unstored os ≡ seen) × BeginsWith (tenants_text os) text

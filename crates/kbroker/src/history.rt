@@ -1,9 +1,12 @@
 //! What the pages tell of the time since the broker began to serve.
 
+ghost use Rattle.std.specs.Prelude.{◌≡◌, ◌/◌, ◌<◌, length, max, option_map};
+ghost use Rattle.kbroker.specs.Server.{noted_at, noted_each, rates_by, refused_by, together};
+
 use crate::totals::together;
 use kb_log::PartitionLog;
 use kb_metrics::{PerSecond, Rates};
-use kb_node::{Edge, Store, Turn};
+use kb_node::{Edge, Store, TenantTraffic, Turn};
 use kb_server_log::time_text;
 use std::alloc::{AllocError, Global};
 use std::cell::Cell;
@@ -58,7 +61,9 @@ impl History {
     }
 
     /// When the broker began to serve, in milliseconds since the beginning of 1970.
-    pub fn started(&self) -> u64 {
+    pub fn started(&self) -> u64
+        ensures { result ≡ self.now.started }
+    {
         self.started
     }
 
@@ -69,7 +74,23 @@ impl History {
         turn: &Turn,
         micros: u64,
         now: u64,
-    ) {
+    )
+        ensures turns { self.new.turns ≡ together self.old.turns turn.now }
+        ensures longest { self.new.longest ≡ max self.old.longest micros }
+        ensures failures { self.new.failures ≡ max self.old.failures (S.disk edge.now.host.broker.store).failures }
+        ensures refused { self.new.refused
+            ≡ refused_by (now / 1000) self.old.failures (S.disk edge.now.host.broker.store).failures self.old.refused }
+        ensures rates { self.new.rates.items ≡ rates_by (now / 1000) self.old.second edge.now.traffic.items self.old.rates.items }
+        ensures second { self.new.second ≡ now / 1000 }
+        ensures fixed { self.new ≡ record self.old {
+          turns = self.new.turns;
+          longest = self.new.longest;
+          failures = self.new.failures;
+          refused = self.new.refused;
+          rates = self.new.rates;
+          second = self.new.second;
+        } }
+    {
         self.turns = together(&self.turns, turn);
         self.longest = self.longest.max(micros);
         let second = now / 1000;
@@ -80,21 +101,7 @@ impl History {
         }
         if second != self.second {
             self.second = second;
-            self.note_rates(edge, second);
-        }
-    }
-
-    fn note_rates<R: Net, S: Store, L: PartitionLog + Drop>(
-        &mut self,
-        edge: &Edge<R, S, L>,
-        second: u64,
-    ) {
-        for place in 0..self.rates.len() {
-            if let Some(rates) = self.rates.get_mut(place)
-                && let Some(traffic) = edge.traffic_of(place)
-            {
-                rates.note(second, traffic.request_bytes, traffic.response_bytes);
-            }
+            note_rates(&mut self.rates, edge, second);
         }
     }
 
@@ -103,5 +110,28 @@ impl History {
         if self.is_told.replace(false) {
             self.longest = 0;
         }
+    }
+}
+
+/// Notes what came and went up to a second, of each tenant whose bytes are counted.
+fn note_rates<R: Net, S: Store, L: PartitionLog + Drop>(
+    rates: &mut [Rates],
+    edge: &Edge<R, S, L>,
+    second: u64,
+)
+    ensures { rates.new ≡ noted_each second edge.now.traffic.items rates.old }
+{
+    for place in 0..rates.len() {
+        note_at(rates, place, edge.traffic_of(place), second);
+    }
+}
+
+/// Notes what came and went at a place, where it is counted.
+fn note_at(rates: &mut [Rates], place: usize, traffic: Option<&TenantTraffic>, second: u64)
+    requires { place < length rates.old }
+    ensures { rates.new ≡ noted_at second place (option_map (λ t. t.now) traffic.entry) rates.old }
+{
+    if let Some(traffic) = traffic {
+        rates[place].note(second, traffic.request_bytes, traffic.response_bytes);
     }
 }

@@ -1,11 +1,14 @@
 //! What is on the pages of a broker that serves.
 
-ghost use Rattle.std.specs.Prelude.{◌≡◌, ◌++◌, ◌/◌, [], IfOk, OnOk, map, option_map, slice_get, vec_len};
+ghost use Rattle.std.specs.Prelude.{◌≡◌, ◌++◌, ◌/◌, [], None, IfOk, OnOk, map, option_map, slice_get, string_bytes, vec_len};
 ghost use Rattle.kb_store.specs.Disk.{Files};
-ghost use Rattle.kb_metrics.specs.Gauges.{tenants_text};
+ghost use Rattle.kb_metrics.specs.Gauges.{partitions_text, tenants_text};
+ghost use Rattle.kb_metrics.specs.Server.{process_text, server_text};
 ghost use Rattle.kb_metrics.specs.View.{observed};
 ghost use Rattle.kb_settings.specs.Values.{values_of};
-ghost use Rattle.kbroker.specs.Observed.{BeginsWith, IsMetrics, limits_of, looked_at, observed_at, observed_from, observed_slot};
+ghost use Rattle.kbroker.specs.Observed.{limits_of, looked_at, observed_at, observed_from, observed_slot};
+ghost use Rattle.kbroker.specs.Pages.{IsMetrics, IsPageOf, IsStatus, named, page_in, page_of};
+ghost use Rattle.kbroker.specs.Server.{IsProcess, server_at};
 ghost use Rattle.kbroker.specs.Causes.{causes_text, refused_text, sockets_text};
 ghost use Rattle.kb_metrics.specs.Rates.{in_minute};
 ghost use Rattle.kbroker.specs.Observed.{request_bytes_of, requests_of, response_bytes_of};
@@ -38,24 +41,30 @@ pub struct Shown<'a, R: Net, S: Store, L: PartitionLog + Drop> {
 }
 
 impl<'a, R: Net, S: Store, L: PartitionLog + Drop> Source for Shown<'a, R, S, L> {
-    // Of the other pages nothing is said here: what is written there is `kb_metrics`'s contract.
-    ghost told = { λ shown. record {
-      metrics = IsMetrics
-          (observed_from (values_of shown.settings.now) shown.edge.now.host.broker.state shown.edge.now.traffic.items);
-      causes = λ text. text ≡ causes_text (in_minute (shown.now / 1000) shown.history.now.refused)
-          (vec_len shown.edge.now.sockets) shown.edge.now.limit;
-      status = λ text. Unit {0};
-      partitions = λ name. λ text. Unit {0};
-      tenant = λ name. λ text. Unit {0};
-      is_unknown = λ name. Unit {0};
-    } };
+    ghost told = { λ shown.
+        let edge = shown.edge.now in
+        let past = shown.history.now in
+        let broker = edge.host.broker in
+        let seen = observed_from (values_of shown.settings.now) broker.state edge.traffic.items in
+        let server = server_at broker.state broker.strays (S.disk broker.store).failures (vec_len edge.sockets) edge.limit
+        past.turns past.longest in
+        let IsThis = IsProcess past.started (string_bytes past.start_text) in record {
+          metrics = IsMetrics seen server IsThis;
+          causes = λ text. text ≡ causes_text (in_minute (shown.now / 1000) past.refused) (vec_len edge.sockets) edge.limit;
+          status = IsStatus seen server IsThis past.rates.items;
+          partitions = IsPageOf partitions_text seen;
+          tenant = IsPageOf page_of seen;
+          is_unknown = λ name. named name seen ≡ None;
+        } };
 
     fn push_all(&self, alloc: Global, form: Form, out: &mut Vec<u8>) -> Result<(), AllocError> {
         match form {
             Form::Metrics => {
                 push_metrics(alloc, self.rt, self.edge, self.settings, self.history, out)
             }
-            Form::Status => push_status_page(alloc, self, out),
+            Form::Status => {
+                push_status_page(alloc, self.rt, self.edge, self.settings, self.history, out)
+            }
         }
     }
 
@@ -71,14 +80,14 @@ impl<'a, R: Net, S: Store, L: PartitionLog + Drop> Source for Shown<'a, R, S, L>
         tenant: &[u8],
         out: &mut Vec<u8>,
     ) -> Result<bool, AllocError> {
-        let Some(gauges) = gauges_named(self.edge, self.settings, tenant) else {
-            return Ok(false);
-        };
-        match form {
-            Form::Metrics => push_partitions(alloc, out, &gauges)?,
-            Form::Status => push_tenant_status(alloc, out, &gauges)?,
+        let tenants = tenants_of(alloc, self.edge, self.settings)?;
+        match named(&tenants, tenant) {
+            Some(gauges) => {
+                push_page(alloc, form, gauges, out)?;
+                Ok(true)
+            }
+            None => Ok(false),
         }
-        Ok(true)
     }
 
     fn wake_by(&self, file: RawFd) -> io::Result<()> {
@@ -123,7 +132,10 @@ fn push_metrics<R: Net, S: Store, L: PartitionLog + Drop>(
 ) -> Result<(), AllocError>
     requires { out.old.items ≡ [] }
     ensures { OnOk result (IsMetrics
-        (observed_from (values_of settings.now) edge.now.host.broker.state edge.now.traffic.items) out.new.items) }
+        (observed_from (values_of settings.now) edge.now.host.broker.state edge.now.traffic.items)
+        (server_at edge.now.host.broker.state edge.now.host.broker.strays (S.disk edge.now.host.broker.store).failures
+        (vec_len edge.now.sockets) edge.now.limit history.now.turns history.now.longest)
+        (IsProcess history.now.started (string_bytes history.now.start_text)) out.new.items) }
 {
     let tenants = tenants_of(alloc, edge, settings)?;
     let server = server_of(edge, history);
@@ -135,20 +147,23 @@ fn push_metrics<R: Net, S: Store, L: PartitionLog + Drop>(
 /// Writes the status page.
 fn push_status_page<R: Net, S: Store, L: PartitionLog + Drop>(
     alloc: Global,
-    shown: &Shown<'_, R, S, L>,
+    rt: &HostRuntime,
+    edge: &Edge<R, S, L>,
+    settings: &Settings,
+    history: &History,
     out: &mut Vec<u8>,
-) -> Result<(), AllocError> {
-    let tenants = tenants_of(alloc, shown.edge, shown.settings)?;
-    let server = server_of(shown.edge, shown.history);
-    let process = process_of(shown.rt, shown.history);
-    push_status(
-        alloc,
-        out,
-        &server,
-        &process,
-        &tenants,
-        &shown.history.rates,
-    )
+) -> Result<(), AllocError>
+    requires { out.old.items ≡ [] }
+    ensures { OnOk result (IsStatus
+        (observed_from (values_of settings.now) edge.now.host.broker.state edge.now.traffic.items)
+        (server_at edge.now.host.broker.state edge.now.host.broker.strays (S.disk edge.now.host.broker.store).failures
+        (vec_len edge.now.sockets) edge.now.limit history.now.turns history.now.longest)
+        (IsProcess history.now.started (string_bytes history.now.start_text)) history.now.rates.items out.new.items) }
+{
+    let tenants = tenants_of(alloc, edge, settings)?;
+    let server = server_of(edge, history);
+    let process = process_of(rt, history);
+    push_status(alloc, out, &server, &process, &tenants, &history.rates)
 }
 
 /// Writes the metrics: tenants first.
@@ -159,8 +174,8 @@ fn push_all<L: PartitionLog>(
     server: &ServerGauges,
     process: &ProcessGauges<'_>,
 ) -> Result<(), AllocError>
-    requires { out.old.items ≡ [] }
-    ensures { OnOk result ((files : Files) → BeginsWith (tenants_text (map (observed L.log files) tenants.now)) out.new.items) }
+    ensures { OnOk result ((files : Files) → out.new.items ≡ out.old.items
+        ++ tenants_text (map (observed L.log files) tenants.now) ++ server_text server.now ++ process_text process.now) }
 {
     push_tenants(alloc, out, tenants)?;
     push_server(out, server)?;
@@ -230,20 +245,30 @@ fn gauges_at<'a, R: Net, S: Store, L: PartitionLog + Drop>(
     })
 }
 
-/// What is looked at of the tenant of a name, where there is one.
-fn gauges_named<'a, R: Net, S: Store, L: PartitionLog + Drop>(
-    edge: &'a Edge<R, S, L>,
-    settings: &Settings,
+/// The first tenant of a name, where there is one.
+fn named<'a, 'b, L: PartitionLog>(
+    tenants: &'b [TenantGauges<'a, L>],
     name: &[u8],
-) -> Option<TenantGauges<'a, L>> {
-    for place in 0..edge.broker().tenants_len() {
-        if let Some(gauges) = gauges_at(edge, settings, place)
-            && gauges.name.as_bytes() == name
-        {
-            return Some(gauges);
-        }
+) -> Option<&'b TenantGauges<'a, L>>
+    ensures { (files : Files) → option_map (λ t. looked_at L.log files t.now) result
+        ≡ named name.now (map (looked_at L.log files) tenants.now) }
+{
+    tenants.iter().find(|tenant| tenant.name.as_bytes() == name)
+}
+
+/// Writes the page of a tenant in a form.
+fn push_page<L: PartitionLog>(
+    alloc: Global,
+    form: Form,
+    tenant: &TenantGauges<'_, L>,
+    out: &mut Vec<u8>,
+) -> Result<(), AllocError>
+    ensures { OnOk result ((files : Files) → out.new.items ≡ out.old.items ++ page_in form (observed L.log files tenant.now)) }
+{
+    match form {
+        Form::Metrics => push_partitions(alloc, out, tenant),
+        Form::Status => push_tenant_status(alloc, out, tenant),
     }
-    None
 }
 
 /// What the tenant of a name may have.
@@ -290,7 +315,10 @@ fn traffic_at<'a, R: Net, S: Store, L: PartitionLog + Drop>(
 fn server_of<R: Net, S: Store, L: PartitionLog + Drop>(
     edge: &Edge<R, S, L>,
     history: &History,
-) -> ServerGauges {
+) -> ServerGauges
+    ensures { result ≡ server_at edge.now.host.broker.state edge.now.host.broker.strays
+        (S.disk edge.now.host.broker.store).failures (vec_len edge.now.sockets) edge.now.limit history.now.turns history.now.longest }
+{
     let broker = edge.broker();
     let turns = &history.turns;
     ServerGauges {
@@ -317,7 +345,10 @@ fn server_of<R: Net, S: Store, L: PartitionLog + Drop>(
 }
 
 /// What is looked at of the process.
-fn process_of<'a>(rt: &HostRuntime, history: &'a History) -> ProcessGauges<'a> {
+fn process_of<'a>(rt: &HostRuntime, history: &'a History) -> ProcessGauges<'a>
+    ensures version { result.version.now ≡ VERSION.now }
+    ensures began { IsProcess history.now.started (string_bytes history.now.start_text) result }
+{
     ProcessGauges {
         version: VERSION,
         start_seconds: history.started() / 1000,

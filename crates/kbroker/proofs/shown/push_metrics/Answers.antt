@@ -1,8 +1,10 @@
-use Rattle.std.proofs.Common.{◌≡◌, ◌∙◌, ap, map}
+use Rattle.std.proofs.Common.{◌≡◌, ◌∙◌, ◌++◌, ap, map}
 use Rattle.kb_settings.specs.Values.{values_of}
+use Rattle.kb_metrics.specs.Gauges.{tenants_text}
+use Rattle.kb_metrics.specs.Server.{process_text, server_text}
 use Rattle.kb_metrics.specs.View.{observed}
 use Rattle.kbroker.specs.Observed.{looked_at, observed_from, unstored}
-use Rattle.kbroker.proofs.Begun.{on_ok}
+use Rattle.kbroker.proofs.Told.{on_ok}
 use Rattle.kbroker.proofs.Gathered.{map_both}
 use Rattle.kbroker.proofs.shown.push_metrics.Goals as goal
 
@@ -11,13 +13,18 @@ returns g c =
     let edge = c.args.edge.now in
     let files = (g.S.Store.disk edge.host.broker.store).files in
     let tenants = c.deref.result.now in
+    let os = map (observed g.L.PartitionLog.log files) tenants in
+    let process = c.process_of-process.result in
     let all : map (looked_at g.L.PartitionLog.log files) tenants
     ≡ observed_from (values_of c.args.settings.now) edge.host.broker.state edge.traffic.items =
     ap (map (looked_at g.L.PartitionLog.log files)) c.deref.ensures.value ∙ c.in_ok-tenants.ensures in
     on_ok _ _
     (λ told. (
-      map (observed g.L.PartitionLog.log files) tenants,
+      os,
+      process,
       map_both unstored (observed g.L.PartitionLog.log files) tenants ∙ all,
-      told files,
+      c.process_of-process.ensures.began,
+      told files ∙ ap (λ o. o ++ tenants_text os ++ server_text c.server_of-server.result ++ process_text process) c.requires
+          ∙ ap (λ s. tenants_text os ++ server_text s ++ process_text process) c.server_of-server.ensures,
     ))
     c.push_all.result c.push_all.ensures

@@ -1,7 +1,7 @@
 -- What is counted for tenants beside their refusals, before a call and after it.
-use Rattle.std.proofs.Common.{◌≡◌, ◌∙◌, ◌≤◌, ◌<◌, ◌+◌, ◌-◌, ℕ, List, [], ◌∷◌, zero, suc, Some, length, get_or, slice_set, ap, sym, arith}
+use Rattle.std.proofs.Common.{◌≡◌, ◌∙◌, ◌⊎◌, ⊎_elim, ◌≤◌, ◌<◌, ◌+◌, ℕ, List, [], ◌∷◌, zero, suc, Some, drop, length, get_or, ap, sym, arith}
 use Rattle.std.specs.Prelude.{map, min, slice_get}
-use Rattle.std.proofs.lemmas.List.{map-set, get_or-set_other}
+use Rattle.std.proofs.lemmas.List.{drop_all, map-set, get_or-set_other}
 use Rattle.std.proofs.lemmas.Option.{get_or_from_slice_get}
 use Rattle.std.proofs.Math.Seq.{map-set_same}
 use Rattle.kb_coordinator.specs.Groups.{Groups}
@@ -11,8 +11,9 @@ use Rattle.kb_log.specs.Shelf.{Shelved}
 use Rattle.kb_tenant_state.specs.Parts.{raised, scene}
 use Rattle.kb_tenant_state.specs.Counts.{END}
 use Rattle.kb_tenant_state.specs.declared.parts.Parts.{Parts}
-use Rattle.kb_tenant_api.specs.Hosted.{refusals_of}
-use Rattle.kb_tenants.specs.Counts.{IsCaused, counts_of, no_counts, with_store}
+use Rattle.kb_over_limit.specs.Over.{both}
+use Rattle.kb_over_limit.specs.declared.over.OverLimit.{OverLimit}
+use Rattle.kb_tenants.specs.Counts.{IsCaused, counts_of, no_counts}
 use Rattle.kb_tenants.specs.Tenants.{AreKept, hosted}
 use Rattle.kb_tenants.specs.declared.counts.Counts.{Counts}
 use Rattle.kb_tenants.specs.declared.tenants.Tenant.{Tenant}
@@ -46,7 +47,7 @@ counts_stay {L} log disk old t x p gs shelf lt read u =
 module _ {L S : Type 0} (log : L → Log) (disk : S → Disk) (law : (l : L) → IsLawfulLog (log l)) (old : Tenants L S) (t : ℕ) (x : Tenant L)
     (lt : t < length (hosted log disk old)) (read : x ≡ get_or old.tenants.items t x) (kept : AreKept log disk old)
     (mid p : Parts L) (n : ℕ) (gs : Groups) (cs : Counts) (shelf : Shelved S) (counted : p ≡ raised mid n) (step : IsChange (scene log disk x.parts old.shelf) (scene log disk mid shelf)) where
-  pub caused_called : (m : ℕ) → n ≡ min (x.parts.refusals + m) END → (disk shelf.store).failures ≡ (disk old.shelf.store).failures + m → cs ≡ with_store m x.counts
+  pub caused_called : (m : ℕ) → n ≡ min (x.parts.refusals + m) END → (disk shelf.store).failures ≡ (disk old.shelf.store).failures + m → cs.by_store ≡ min (x.counts.by_store + m) END
       → IsCaused t (hosted log disk old) (hosted log disk (after old t x p gs cs shelf)) (disk old.shelf.store).failures (disk shelf.store).failures (counts_of old) (counts_of (after old t x p gs cs shelf))
   caused_called m count sum noted =
       let new = after old t x p gs cs shelf in
@@ -54,12 +55,33 @@ module _ {L S : Type 0} (log : L → Log) (disk : S → Disk) (law : (l : L) →
       let last = there_after log disk law old t x p gs cs shelf lt read kept (step_called log disk law old t x lt read kept mid p n gs cs shelf counted step) in
       let was = ap (λ (c : Counts). c.by_store) (counts_here old.tenants.items t x first) in
       let is = ap (λ (c : Counts). c.by_store) (counts_here new.tenants.items t (record x { parts = p; groups = gs; counts = cs }) last) in
-      let grown = ap (λ (c : Counts). c.by_store) noted in
       let before = refusals_here log (disk old.shelf.store).files old.tenants.items t x first in
       let now = refusals_here log (disk shelf.store).files new.tenants.items t (record x { parts = p; groups = gs; counts = cs }) last in
       let more = ap (λ (v : Parts L). v.refusals) counted in
       record {
-        store = omega (arith, sum, was, is, grown);
+        store = omega (arith, sum, was, is, noted);
         among = omega (arith, sum, count, more, before, now);
         others = counts_elsewhere log disk old t x p gs cs shelf;
       }
+
+  -- and what was told of limits
+  pub over_called : (told : OverLimit) → cs.over ≡ both x.counts.over told → (counts_of (after old t x p gs cs shelf) t).over ≡ both (counts_of old t).over told
+  over_called told noted =
+      let new = after old t x p gs cs shelf in
+      let first = stands log disk old t x lt read in
+      let last = there_after log disk law old t x p gs cs shelf lt read kept (step_called log disk law old t x lt read kept mid p n gs cs shelf counted step) in
+      ap (λ (c : Counts). c.over) (counts_here new.tenants.items t (record x { parts = p; groups = gs; counts = cs }) last)
+      ∙ noted
+      ∙ ap (λ (c : Counts). both c.over told) (sym (counts_here old.tenants.items t x first))
+
+-- ---- the body of a reply
+
+-- behind its size and its correlation id, where it has so many bytes
+pub body_of : (bytes : List ℕ) (front : ℕ) → front ≡ min (length bytes) 8 → drop front bytes ≡ drop 8 bytes
+body_of bytes front is = ⊎_elim
+    (λ (short : length bytes ≤ 8). drop_all front bytes (omega (arith, is, short)) ∙ sym (drop_all 8 bytes short))
+    (λ (long : 8 ≤ length bytes). ap (λ n. drop n bytes) (omega (arith, is, long)))
+    (either (length bytes))
+  where
+    either : (n : ℕ) → (n ≤ 8) ⊎ (8 ≤ n)
+    either n = grind arith

@@ -6,6 +6,7 @@ use Rattle.kb_tenant.specs.Replies.{IsAnswer}
 use Rattle.kb_tenant.specs.Serve.{looked}
 use Rattle.kb_tenant.specs.Told.{AnswersLook, FailedBy}
 use Rattle.kb_tenants.specs.Counts.{with_store}
+use Rattle.kb_tenants.specs.declared.counts.Counts.{Counts}
 use Rattle.kb_tenants.proofs.Causes.{caused_called}
 use Rattle.kb_tenants.proofs.Ended.{ended_told}
 use Rattle.kb_tenants.specs.Tenants.{hosted}
@@ -129,7 +130,7 @@ returns-then-is_calm-clause-causes g c =
     (min (c.refusals-before.result + (c.failures.result - c.failures-failures.result)) END) x.groups c.add_store.new.self c.look-answer.new.shelf c.count.ensures (called c.look-answer.ensures.step)
     m (ap (λ k. min (k + m) END) c.refusals-before.ensures)
     (omega (arith, c.failures.ensures, c.failures-failures.ensures, c.look-answer.ensures.step.frame.failures))
-    (c.add_store.ensures ∙ ap (λ k. with_store (k - c.failures-failures.result) x.counts) (c.failures-2.ensures ∙ sym c.failures.ensures))
+    (ap (λ (k : Counts). k.by_store) (c.add_store.ensures ∙ ap (λ k. with_store (k - c.failures-failures.result) x.counts) (c.failures-2.ensures ∙ sym c.failures.ensures)))
 
 pub returns-else-is_calm-clause-causes : goal.returns-else-is_calm-clause-causes
 returns-else-is_calm-clause-causes g c =
@@ -140,4 +141,4 @@ returns-else-is_calm-clause-causes g c =
     (min (c.refusals-before.result + (c.failures.result - c.failures-failures.result)) END) x.groups c.add_store.new.self c.look-answer.new.shelf c.count.ensures (called c.look-answer.ensures.step)
     m (ap (λ k. min (k + m) END) c.refusals-before.ensures)
     (omega (arith, c.failures.ensures, c.failures-failures.ensures, c.look-answer.ensures.step.frame.failures))
-    (c.add_store.ensures ∙ ap (λ k. with_store (k - c.failures-failures.result) x.counts) (c.failures-2.ensures ∙ sym c.failures.ensures))
+    (ap (λ (k : Counts). k.by_store) (c.add_store.ensures ∙ ap (λ k. with_store (k - c.failures-failures.result) x.counts) (c.failures-2.ensures ∙ sym c.failures.ensures)))

@@ -4,6 +4,7 @@ use Rattle.std.specs.Prelude.{min}
 use Rattle.kb_tenant_state.specs.Counts.{END}
 use Rattle.kb_tenant_api.specs.Hosted.{kept_in}
 use Rattle.kb_tenants.specs.Counts.{with_store}
+use Rattle.kb_tenants.specs.declared.counts.Counts.{Counts}
 use Rattle.kb_tenants.specs.Tenants.{drops, retained}
 use Rattle.kb_tenants.proofs.Causes.{caused_called}
 use Rattle.kb_tenants.proofs.Change.{called}
@@ -67,4 +68,4 @@ returns-clause-causes g c =
     (min (c.refusals-before.result + (c.failures.result - c.failures-failures.result)) END) c.index_mut-one.result.now.groups c.add_store.new.self c.retain_all-dropped.new.shelf c.count.ensures (called c.retain_all-dropped.ensures.step)
     m (ap (λ k. min (k + m) END) c.refusals-before.ensures)
     (omega (arith, c.failures.ensures, c.failures-failures.ensures, c.retain_all-dropped.ensures.step.frame.failures))
-    (c.add_store.ensures ∙ ap (λ k. with_store (k - c.failures-failures.result) x.counts) (c.failures-2.ensures ∙ sym c.failures.ensures))
+    (ap (λ (k : Counts). k.by_store) (c.add_store.ensures ∙ ap (λ k. with_store (k - c.failures-failures.result) x.counts) (c.failures-2.ensures ∙ sym c.failures.ensures)))

@@ -4,6 +4,7 @@ use Rattle.std.specs.Fmt.{signed_decimal}
 use Rattle.std.specs.List.{flat_map, range_with_len}
 use Rattle.kb_metrics.specs.Causes.{cause_text, each_cause}
 use Rattle.kb_metrics.specs.Limits.{each_limit, limit_text}
+use Rattle.kb_metrics.specs.Over.{each_over, over_text}
 use Rattle.kb_metrics.specs.Rows.{Commit, Group, Lag, Partition, Tenant}
 use Rattle.kb_metrics.specs.Text.{HeadText, behind_text, counter_head, front_text, gauge_head, rows_text, sample_text}
 use Rattle.kb_metrics.specs.declared.families.Family.{Family}
@@ -20,6 +21,7 @@ head_of families.Partitions = gauge_head (codes "kbroker_partitions") (codes "Pa
 head_of families.StoredBytes = gauge_head (codes "kbroker_stored_bytes") (codes "Bytes of the batches in all logs, where they are known.")
 head_of families.CommittedOffsets = gauge_head (codes "kbroker_committed_offsets") (codes "Offsets that groups committed, one for each group and partition.")
 head_of families.Limit = gauge_head (codes "kbroker_limit") (codes "Limits that are set.")
+head_of families.OverLimit = counter_head (codes "kbroker_over_limit_total") (codes "Entries that were told that they are past a limit.")
 head_of families.Members = gauge_head (codes "kbroker_group_members") (codes "Members of each group.")
 head_of families.Lag = gauge_head (codes "kbroker_group_lag") (codes "Records between the committed offsets and the ends of the partitions to which the group committed.")
 head_of families.Requests = counter_head (codes "kbroker_requests_total") (codes "Requests, by API.")
@@ -95,6 +97,7 @@ said_of families.Partitions t = number_text families.Partitions t.name t.partiti
 said_of families.StoredBytes t = known_text families.StoredBytes t.name t.stored
 said_of families.CommittedOffsets t = number_text families.CommittedOffsets t.name t.committed_offsets
 said_of families.Limit t = flat_map (limit_text (front_of families.Limit t.name)) (each_limit t.limits)
+said_of families.OverLimit t = flat_map (over_text (front_of families.OverLimit t.name)) (each_over t.over)
 said_of families.Members t = flat_map (members_text (front_of families.Members t.name)) t.groups
 said_of families.Lag t = flat_map (lag_text (front_of families.Lag t.name)) t.lags
 said_of families.Requests t = requests_text (front_of families.Requests t.name) t.requests
@@ -109,7 +112,7 @@ family_text ts family = rows_text (head_of family) (said_of family) ts
 abbrev pub all_families : List Family
 all_families =
     families.Connections ∷ families.Waiting ∷ families.Topics ∷ families.Partitions ∷ families.StoredBytes ∷ families.CommittedOffsets
-    ∷ families.Limit ∷ families.Members ∷ families.Lag ∷ families.Requests ∷ families.RequestBytes ∷ families.ResponseBytes
+    ∷ families.Limit ∷ families.OverLimit ∷ families.Members ∷ families.Lag ∷ families.Requests ∷ families.RequestBytes ∷ families.ResponseBytes
     ∷ families.Refusals ∷ []
 
 -- all that is said of tenants, a family after another

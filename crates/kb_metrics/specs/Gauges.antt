@@ -12,6 +12,7 @@ use Rattle.kb_tenant_state.specs.World.{World}
 use Rattle.kb_tenant_state.specs.declared.topic_partition.TopicPartition.{TopicPartition}
 use Rattle.kb_metrics.specs.Families.{committed_text, families_text, offsets_text}
 use Rattle.kb_metrics.specs.Rows.{Commit, Group, Lag, Partition, Tenant}
+use Rattle.kb_over_limit.specs.declared.over.OverLimit.{OverLimit}
 use Rattle.kb_metrics.specs.declared.limits.Limits.{Limits}
 
 -- 1. Lag
@@ -92,6 +93,7 @@ pub record Observed : Type 0 where
   pub stored : Option ℕ
   pub groups : List Entry
   pub limits : Limits
+  pub over : OverLimit
   pub connections : ℕ
   pub waiting : ℕ
   pub requests : List ℕ
@@ -122,6 +124,7 @@ tenant_of o = record {
   stored = o.stored;
   committed_offsets = up_to_end (offsets_in o.world.known);
   limits = o.limits;
+  over = o.over;
   groups = map group_of o.groups;
   lags = lags o.world;
   requests = o.requests;

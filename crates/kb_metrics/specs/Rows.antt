@@ -1,5 +1,6 @@
 -- What pages show of a tenant, row by row.
 use Rattle.std.specs.Prelude.{ℕ, ℤ, List, map, Option}
+use Rattle.kb_over_limit.specs.declared.over.OverLimit.{OverLimit}
 use Rattle.kb_metrics.specs.declared.limits.Limits.{Limits}
 use Rattle.kb_metrics.specs.declared.rows.LagRow.{LagRow}
 use Rattle.kb_metrics.specs.declared.rows.GroupRow.{GroupRow}
@@ -44,6 +45,7 @@ pub record Tenant : Type 0 where
   pub stored : Option ℕ
   pub committed_offsets : ℕ
   pub limits : Limits
+  pub over : OverLimit
   pub groups : List Group
   pub lags : List Lag
   pub requests : List ℕ
@@ -76,6 +78,7 @@ tenant_row t = record {
   stored = t.stored;
   committed_offsets = t.committed_offsets;
   limits = t.limits;
+  over = t.over;
   groups = map group_row t.groups.items;
   lags = map lag_row t.lags.items;
   requests = t.requests.now;

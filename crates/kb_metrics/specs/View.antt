@@ -13,6 +13,7 @@ observed log files g = record {
   stored = g.parts.now.stored;
   groups = g.groups.now.groups;
   limits = g.limits;
+  over = g.over;
   connections = g.connections;
   waiting = g.waiting;
   requests = g.traffic.requests.now;

@@ -8,15 +8,18 @@ ghost use Rattle.kb_metrics.specs.Families.{end_text, ends_text, families_text, 
 ghost use Rattle.kb_metrics.specs.Families.{known_text, lag_text, members_text, number_text, offset_text, offsets_text, requests_text};
 ghost use Rattle.kb_metrics.specs.Families.{said_of, start_text, starts_text, tenant_label};
 ghost use Rattle.kb_metrics.specs.Limits.{each_limit, limit_text};
+ghost use Rattle.kb_metrics.specs.Over.{each_over, over_text};
 ghost use Rattle.kb_metrics.specs.Rows.{commit_row, group_row, lag_row, partition_row, tenant_row};
 ghost use Rattle.kb_metrics.specs.Text.{head_seen, label_of};
 
 use crate::causes::cause_rows;
 use crate::limits::{Limits, limit_rows};
+use crate::over::over_rows;
 use crate::row::{Row, push_rows};
 use crate::rows::{CommitRow, GroupRow, LagRow, PartitionRow, TenantRow};
 use crate::text::{Head, Kind, Label, push_behind, push_family, push_front, push_sample};
 use itoa::Buffer;
+use kb_over_limit::OverLimit;
 use std::alloc::AllocError;
 
 /// What is counted of a tenant, or of its partitions.
@@ -29,6 +32,7 @@ pub enum Family {
     StoredBytes,
     CommittedOffsets,
     Limit,
+    OverLimit,
     Members,
     Lag,
     Requests,
@@ -62,6 +66,7 @@ impl Family {
             Family::StoredBytes => "kbroker_stored_bytes",
             Family::CommittedOffsets => "kbroker_committed_offsets",
             Family::Limit => "kbroker_limit",
+            Family::OverLimit => "kbroker_over_limit_total",
             Family::Members => "kbroker_group_members",
             Family::Lag => "kbroker_group_lag",
             Family::Requests => "kbroker_requests_total",
@@ -86,6 +91,7 @@ impl Family {
             Family::CommittedOffsets =>
                 "Offsets that groups committed, one for each group and partition.",
             Family::Limit => "Limits that are set.",
+            Family::OverLimit => "Entries that were told that they are past a limit.",
             Family::Members => "Members of each group.",
             Family::Lag =>
                 "Records between the committed offsets and the ends of the partitions to which the group committed.",
@@ -103,8 +109,11 @@ impl Family {
         ensures { result ≡ (head_of self).kind }
     {
         match self {
-            Family::Requests | Family::RequestBytes | Family::ResponseBytes | Family::Refusals =>
-                Kind::Counter,
+            Family::OverLimit
+            | Family::Requests
+            | Family::RequestBytes
+            | Family::ResponseBytes
+            | Family::Refusals => Kind::Counter,
             _ => Kind::Gauge,
         }
     }
@@ -151,6 +160,7 @@ pub(crate) fn push_families(out: &mut Vec<u8>, tenants: &[TenantRow<'_>]) -> Res
         Family::StoredBytes,
         Family::CommittedOffsets,
         Family::Limit,
+        Family::OverLimit,
         Family::Members,
         Family::Lag,
         Family::Requests,
@@ -224,6 +234,7 @@ impl<'a> Row<Family> for TenantRow<'a> {
             Family::StoredBytes => push_known(out, family, tenant, self.stored),
             Family::CommittedOffsets => push_number(out, family, tenant, self.committed_offsets),
             Family::Limit => push_limits(out, family, tenant, &self.limits),
+            Family::OverLimit => push_over(out, family, tenant, &self.over),
             Family::Members => push_members(out, family, tenant, &self.groups),
             Family::Lag => push_lags(out, family, tenant, &self.lags),
             Family::Requests => push_requests(out, family, tenant, self.requests),
@@ -280,6 +291,20 @@ fn push_limits(
 {
     let front = front(out, family, tenant)?;
     push_rows(out, front.as_slice(), &limit_rows(limits))
+}
+
+/// Writes how many entries were told that they are past each limit.
+fn push_over(
+    out: &mut Vec<u8>,
+    family: Family,
+    tenant: &str,
+    over: &OverLimit,
+) -> Result<(), AllocError>
+    ensures { OnOk result (out.new.items
+        ≡ out.old.items ++ flat_map (over_text (front_of family tenant.now)) (each_over over.now)) }
+{
+    let front = front(out, family, tenant)?;
+    push_rows(out, front.as_slice(), &over_rows(over))
 }
 
 /// Writes how many refusals have each cause.

@@ -53,6 +53,7 @@ pub(crate) fn tenant_row<'a, L: PartitionLog>(
         stored: parts.stored_bytes(),
         committed_offsets: offset_count(parts.catalog()),
         limits: tenant.limits,
+        over: tenant.over,
         groups: group_rows(alloc, tenant.groups.groups())?,
         lags: lag_rows(alloc, parts)?,
         requests: tenant.traffic.requests,

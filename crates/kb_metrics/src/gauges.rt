@@ -10,6 +10,7 @@ use crate::gather::{commit_rows, partition_rows, tenant_rows};
 use crate::limits::Limits;
 use kb_coordinator::Coordinator;
 use kb_log::PartitionLog;
+use kb_over_limit::OverLimit;
 use kb_tenant_state::Parts;
 use std::alloc::{AllocError, Global};
 
@@ -29,6 +30,8 @@ pub struct TenantGauges<'a, L: PartitionLog> {
     pub parts: &'a Parts<L>,
     pub groups: &'a Coordinator,
     pub limits: Limits,
+    /// How many entries of its requests were told that they are past one of them.
+    pub over: OverLimit,
     /// Connections that are bound to it.
     pub connections: u64,
     /// Those of them that wait for the answer to a request.
@@ -39,7 +42,7 @@ pub struct TenantGauges<'a, L: PartitionLog> {
 }
 
 /// Writes what is said of tenants, a family after another: connections, what waits, topics, partitions, stored bytes where they are known,
-/// committed offsets, limits, the members of each group, its lag in each topic, requests by API, bytes, and refusals
+/// committed offsets, limits and what was past them, the members of each group, its lag in each topic, requests by API, bytes, and refusals
 /// by cause.
 ///
 /// What is said of a tenant is a function of what stands in its own gauges. After an `Err`, which is want of memory, some of it may be

@@ -17,6 +17,7 @@ mod lag;
 mod laws;
 mod limits;
 mod markup;
+mod over;
 mod pages;
 mod rates;
 mod row;

@@ -1,6 +1,7 @@
 //! What pages show of a tenant, row by row.
 
 use crate::limits::Limits;
+use kb_over_limit::OverLimit;
 
 /// How far a group is behind in a topic.
 #[derive(Clone, Copy)]
@@ -48,6 +49,7 @@ pub(crate) struct TenantRow<'a> {
     pub(crate) stored: Option<u64>,
     pub(crate) committed_offsets: u64,
     pub(crate) limits: Limits,
+    pub(crate) over: OverLimit,
     pub(crate) groups: Vec<GroupRow<'a>>,
     pub(crate) lags: Vec<LagRow<'a>>,
     /// Each number stands at the place of its API key.

@@ -9,6 +9,7 @@ use Rattle.kb_log.specs.OnShelf.{Log}
 use Rattle.kb_settings.specs.Values.{Values, data_of, groups_of}
 use Rattle.kb_settings.specs.declared.tenant_limits.DataLimits.{DataLimits}
 use Rattle.kb_settings.specs.declared.tenant_limits.GroupLimits.{GroupLimits}
+use Rattle.kb_over_limit.specs.Over.{none}
 use Rattle.kb_metrics.specs.Gauges.{Observed, tenants_text}
 use Rattle.kb_metrics.specs.View.{observed}
 use Rattle.kb_metrics.specs.declared.gauges.TenantGauges.{TenantGauges}
@@ -45,8 +46,8 @@ abbrev pub limits_of : List ℕ → Values → Limits
 limits_of name values = limits_in (data_of name values) (groups_of name values)
 
 -- What is told of the tenant at a place: what it keeps, its limits, how many connections are bound to it and how many of them wait, and what
--- was counted at its place. Two numbers stand apart: the bytes of its batches, which may not be known, and how many of its refusals are
--- the store's.
+-- was counted at its place. What stands apart: the bytes of its batches, which may not be known, what it was told to be past a limit,
+-- and how many of its refusals are the store's.
 abbrev pub observed_at : Values → ℕ → List Line → List TenantTraffic → TenantState → Observed
 observed_at values place lines traffic t = record {
   name = t.name;
@@ -54,6 +55,7 @@ observed_at values place lines traffic t = record {
   stored = None;
   groups = t.kept.groups.groups;
   limits = limits_of t.name values;
+  over = none;
   connections = length (lines_of place lines);
   waiting = length (waiting_lines place lines);
   requests = requests_of (slice_get traffic place);
@@ -78,7 +80,7 @@ observed_from values b traffic = flat_map (observed_slot values b traffic) (rang
 
 -- what is observed of a tenant, but for the bytes of its batches, and how many of its refusals are the store's
 abbrev pub unstored : Observed → Observed
-unstored o = record o { stored = None; store_refusals = 0 }
+unstored o = record o { stored = None; over = none; store_refusals = 0 }
 
 abbrev pub looked_at : {L : Type 0} → (L → Log) → Files → TenantGauges L → Observed
 looked_at log files g = unstored (observed log files g)

@@ -217,12 +217,14 @@ fn gauges_at<'a, R: Net, S: Store, L: PartitionLog + Drop>(
         parts,
         groups,
         store_refusals,
+        over,
     } = broker.tenant(place)?;
     Some(TenantGauges {
         name,
         parts,
         groups,
         limits: limits_of(settings, name),
+        over,
         connections: broker.connections_of(place) as u64,
         waiting: broker.waiting_of(place) as u64,
         traffic: traffic_at(edge, place),

@@ -1,0 +1,17 @@
+-- What a tenant was told to be past one of its limits.
+use Rattle.std.specs.Prelude.{ℕ, List, [], ◌∷◌, codes, decimal}
+use Rattle.kb_over_limit.specs.declared.over.OverLimit.{OverLimit}
+use Rattle.kb_metrics.specs.Text.{behind_text}
+use Rattle.kb_metrics.specs.declared.over.OverRow.{OverRow}
+
+abbrev pub over_row : OverRow → List ℕ × ℕ
+over_row o = (o.what.now, o.count)
+
+-- how many entries were told that they are past a limit, with what is limited
+unfoldable pub each_over : OverLimit → List (List ℕ × ℕ)
+each_over o =
+    (codes "topics", o.topics) ∷ (codes "partitions", o.partitions) ∷ (codes "offsets", o.offsets) ∷ (codes "bytes", o.bytes)
+    ∷ (codes "groups", o.groups) ∷ (codes "group_bytes", o.group_bytes) ∷ []
+
+abbrev pub over_text : List ℕ → List ℕ × ℕ → List ℕ
+over_text front o = behind_text front ((codes "what", o.0) ∷ []) (decimal o.1)

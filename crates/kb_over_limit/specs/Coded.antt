@@ -1,5 +1,7 @@
 -- What is counted of a value that is read.
-use Rattle.std.specs.Prelude.{◌≡◌, ℕ, ℤ, List, Result, Ok, Err, min, if◌then◌else◌}
+use Rattle.std.specs.Prelude.{◌≡◌, ◌-◌, ◌^◌, ℕ, ℤ, List, Result, Ok, Err, min, if◌then◌else◌}
+use Rattle.kb_wire.specs.ErrorCode.{code_of}
+use Rattle.kb_wire.specs.declared.error_code.ErrorCode.{ErrorCode}
 use Rattle.std.specs.List.{sum_by}
 use Rattle.std.specs.Ordering.{int_eq}
 use Rattle.kb_wire.specs.declared.fault.WireFault.{WireFault}
@@ -21,5 +23,6 @@ counted n = min n (2 ^ 64 - 1)
 abbrev pub total : {A : Type 0} → (A → ℕ) → List A → ℕ
 total f xs = counted (sum_by f xs)
 
-abbrev pub one_if : ℤ → ℤ → ℕ
-one_if code other = if int_eq code other then 1 else 0
+-- one where a code is that error's, else none
+abbrev pub one_if : ℤ → ErrorCode → ℕ
+one_if code error = if int_eq code (code_of error) then 1 else 0

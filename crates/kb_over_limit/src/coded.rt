@@ -7,35 +7,36 @@ ghost use Rattle.kb_over_limit.specs.Coded.{Counts, Finds, one_if, total};
 
 use kb_api_data::{CreateTopicReply, CreateTopicReplyV1, ProducePartitionReply, ProduceTopicReply};
 use kb_api_group::{CommitPartitionReply, CommitTopicReply};
-use kb_wire::{Cursor, WireFault};
+use kb_wire::{Cursor, ErrorCode, WireFault};
 
 /// A part of a reply whose entries have error codes.
 pub(crate) trait Coded<'a>: Sized {
     // how it is spelled
     ghost use Rattle.kb_wire.specs.Codec.{Codec};
-    ghost use Rattle.std.specs.Prelude.{ℕ, ℤ};
+    ghost use Rattle.kb_wire.specs.declared.error_code.ErrorCode.{ErrorCode};
+    ghost use Rattle.std.specs.Prelude.{ℕ};
 
     ghost codec: { Codec Self };
 
     // how many entries in it have that code
-    ghost coded: { ℤ → Self → ℕ };
+    ghost coded: { ErrorCode → Self → ℕ };
 
     /// Goes over one at the front of what is left, and counts its entries that have a code. It takes no memory.
-    fn count(cursor: &mut Cursor<'a>, code: i16) -> Result<u64, WireFault>
-        ensures { Counts (codec.read cursor.old) (coded code) result cursor.new };
+    fn count(cursor: &mut Cursor<'a>, error: ErrorCode) -> Result<u64, WireFault>
+        ensures { Counts (codec.read cursor.old) (coded error) result cursor.new };
 }
 
 /// Goes over that many at the front of what is left, and counts their entries that have a code.
 fn count_items<'a, T: Coded<'a>>(
     count: u32,
     cursor: &mut Cursor<'a>,
-    code: i16,
+    error: ErrorCode,
 ) -> Result<u64, WireFault>
-    ensures { Counts ((items T.codec).read count cursor.old) (total (T.coded code)) result cursor.new }
+    ensures { Counts ((items T.codec).read count cursor.old) (total (T.coded error)) result cursor.new }
 {
     let mut counted: u64 = 0;
     for _ in 0..count {
-        let more = T::count(cursor, code)?;
+        let more = T::count(cursor, error)?;
         counted = counted.saturating_add(more);
     }
     Ok(counted)
@@ -45,19 +46,12 @@ fn count_items<'a, T: Coded<'a>>(
 #[tactic(auto, unfolding(kb_wire::specs::Codec::sized))]
 pub(crate) fn count_each<'a, T: Coded<'a>>(
     cursor: &mut Cursor<'a>,
-    code: i16,
+    error: ErrorCode,
 ) -> Result<u64, WireFault>
-    ensures { Counts ((array T.codec).read cursor.old) (total (T.coded code)) result cursor.new }
+    ensures { Counts ((array T.codec).read cursor.old) (total (T.coded error)) result cursor.new }
 {
     let count = cursor.count()?;
-    count_items::<T>(count, cursor, code)
-}
-
-/// The number of entries of which one has that code: one or none.
-fn one_if(found: i16, code: i16) -> u64
-    ensures { result ≡ one_if found code }
-{
-    if found == code { 1 } else { 0 }
+    count_items::<T>(count, cursor, error)
 }
 
 /// A partition, in a reply of Produce.
@@ -84,18 +78,32 @@ fn committed(cursor: &mut Cursor<'_>) -> Result<CommitPartitionReply, WireFault>
     })
 }
 
+/// One where it has that error's code, else none.
+fn is_produced(entry: &ProducePartitionReply, error: ErrorCode) -> u64
+    ensures { result ≡ one_if entry.now.error_code error }
+{
+    u64::from(entry.error_code == error.code())
+}
+
 impl<'a> Coded<'a> for ProducePartitionReply {
     ghost use Rattle.kb_api_data.specs.Layouts.{produce_partition_reply};
     ghost use Rattle.kb_over_limit.specs.Coded.{one_if};
 
     ghost codec = { produce_partition_reply };
 
-    ghost coded = { λ code e. one_if e.error_code code };
+    ghost coded = { λ error e. one_if e.error_code error };
 
-    fn count(cursor: &mut Cursor<'a>, code: i16) -> Result<u64, WireFault> {
+    fn count(cursor: &mut Cursor<'a>, error: ErrorCode) -> Result<u64, WireFault> {
         let entry = produced(cursor)?;
-        Ok(one_if(entry.error_code, code))
+        Ok(is_produced(&entry, error))
     }
+}
+
+/// One where it has that error's code, else none.
+fn is_committed(entry: &CommitPartitionReply, error: ErrorCode) -> u64
+    ensures { result ≡ one_if entry.now.error_code error }
+{
+    u64::from(entry.error_code == error.code())
 }
 
 impl<'a> Coded<'a> for CommitPartitionReply {
@@ -104,11 +112,11 @@ impl<'a> Coded<'a> for CommitPartitionReply {
 
     ghost codec = { commit_partition_reply };
 
-    ghost coded = { λ code e. one_if e.error_code code };
+    ghost coded = { λ error e. one_if e.error_code error };
 
-    fn count(cursor: &mut Cursor<'a>, code: i16) -> Result<u64, WireFault> {
+    fn count(cursor: &mut Cursor<'a>, error: ErrorCode) -> Result<u64, WireFault> {
         let entry = committed(cursor)?;
-        Ok(one_if(entry.error_code, code))
+        Ok(is_committed(&entry, error))
     }
 }
 
@@ -121,9 +129,9 @@ impl<'a> Coded<'a> for ProduceTopicReply<'a> {
 
     ghost coded = { in_produced };
 
-    fn count(cursor: &mut Cursor<'a>, code: i16) -> Result<u64, WireFault> {
+    fn count(cursor: &mut Cursor<'a>, error: ErrorCode) -> Result<u64, WireFault> {
         cursor.string()?;
-        count_each::<ProducePartitionReply>(cursor, code)
+        count_each::<ProducePartitionReply>(cursor, error)
     }
 }
 
@@ -136,9 +144,9 @@ impl<'a> Coded<'a> for CommitTopicReply<'a> {
 
     ghost coded = { in_committed };
 
-    fn count(cursor: &mut Cursor<'a>, code: i16) -> Result<u64, WireFault> {
+    fn count(cursor: &mut Cursor<'a>, error: ErrorCode) -> Result<u64, WireFault> {
         cursor.string()?;
-        count_each::<CommitPartitionReply>(cursor, code)
+        count_each::<CommitPartitionReply>(cursor, error)
     }
 }
 
@@ -165,18 +173,32 @@ fn created_v1<'a>(cursor: &mut Cursor<'a>) -> Result<CreateTopicReplyV1<'a>, Wir
     })
 }
 
+/// One where it has that error's code, else none.
+fn is_created(entry: &CreateTopicReply<'_>, error: ErrorCode) -> u64
+    ensures { result ≡ one_if entry.now.error_code error }
+{
+    u64::from(entry.error_code == error.code())
+}
+
 impl<'a> Coded<'a> for CreateTopicReply<'a> {
     ghost use Rattle.kb_api_data.specs.Layouts.{create_topic_reply};
     ghost use Rattle.kb_over_limit.specs.Coded.{one_if};
 
     ghost codec = { create_topic_reply };
 
-    ghost coded = { λ code e. one_if e.error_code code };
+    ghost coded = { λ error e. one_if e.error_code error };
 
-    fn count(cursor: &mut Cursor<'a>, code: i16) -> Result<u64, WireFault> {
+    fn count(cursor: &mut Cursor<'a>, error: ErrorCode) -> Result<u64, WireFault> {
         let entry = created(cursor)?;
-        Ok(one_if(entry.error_code, code))
+        Ok(is_created(&entry, error))
     }
+}
+
+/// One where it has that error's code, else none.
+fn is_created_v1(entry: &CreateTopicReplyV1<'_>, error: ErrorCode) -> u64
+    ensures { result ≡ one_if entry.now.error_code error }
+{
+    u64::from(entry.error_code == error.code())
 }
 
 impl<'a> Coded<'a> for CreateTopicReplyV1<'a> {
@@ -185,10 +207,10 @@ impl<'a> Coded<'a> for CreateTopicReplyV1<'a> {
 
     ghost codec = { create_topic_reply_v1 };
 
-    ghost coded = { λ code e. one_if e.error_code code };
+    ghost coded = { λ error e. one_if e.error_code error };
 
-    fn count(cursor: &mut Cursor<'a>, code: i16) -> Result<u64, WireFault> {
+    fn count(cursor: &mut Cursor<'a>, error: ErrorCode) -> Result<u64, WireFault> {
         let entry = created_v1(cursor)?;
-        Ok(one_if(entry.error_code, code))
+        Ok(is_created_v1(&entry, error))
     }
 }

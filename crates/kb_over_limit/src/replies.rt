@@ -2,7 +2,6 @@
 
 ghost use Rattle.std.specs.Prelude.{◌≡◌};
 ghost use Rattle.kb_wire.specs.Codec.{array};
-ghost use Rattle.kb_wire.specs.ErrorCode.{code_of};
 ghost use Rattle.kb_over_limit.specs.Coded.{total};
 ghost use Rattle.kb_over_limit.specs.Over.{committed, created, has_code, of_read, produced, told};
 
@@ -14,10 +13,10 @@ use kb_wire::{Cursor, ErrorCode, api_key};
 
 /// How many entries of the array at the front of a body have a code: none where no array is there.
 fn count_in<'a, T: Coded<'a>>(body: &'a [u8], error: ErrorCode) -> u64
-    ensures { result ≡ of_read (total (T.coded (code_of error))) ((array T.codec).read body.now) }
+    ensures { result ≡ of_read (total (T.coded error)) ((array T.codec).read body.now) }
 {
     let mut cursor = Cursor::new(body);
-    match count_each::<T>(&mut cursor, error.code()) {
+    match count_each::<T>(&mut cursor, error) {
         Ok(count) => count,
         Err(_) => 0,
     }

@@ -4,5 +4,6 @@ pub mod Closing
 pub mod Counts
 pub mod Traffic
 pub mod Carries
+pub mod Cores
 pub mod Goes
 pub mod Waiting

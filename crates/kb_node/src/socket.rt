@@ -1,6 +1,6 @@
 //! A socket and the connection that it carries.
 
-ghost use Rattle.std.specs.Prelude.{◌≡◌, ◌≢◌, ◌≤◌, ◌<◌, ◌+◌, ◌-◌, ◌||◌, ◌&&◌, not, true, false, None, vec_len, IfSome};
+ghost use Rattle.std.specs.Prelude.{◌≡◌, ◌≢◌, ◌≤◌, ◌<◌, ◌+◌, ◌-◌, ◌||◌, ◌&&◌, not, true, false, None, drop, [], vec_len, IfSome};
 ghost use Rattle.kb_isolation_spec.specs.Broker.{bound_to};
 ghost use Rattle.kb_node.specs.Sockets.{can_ask, is_denial, is_done, is_held};
 ghost use Rattle.kb_node.specs.SocketShares.{may_bind};
@@ -93,6 +93,8 @@ impl<T: Read + Write + Drop> Socket<T> {
         ensures stream { result.stream ≡ stream }
         ensures open { result.is_ended ≡ false }
         ensures stranger { result.is_known ≡ false }
+        ensures unwritten { drop result.written result.output.items ≡ [] }
+        ensures unhanded { drop result.input.handed result.input.bytes.items ≡ [] }
     {
         Socket {
             connection,
@@ -227,22 +229,24 @@ impl<T: Read + Write + Drop> Socket<T> {
     }
 
     /// A read may find something.
-    pub fn hear_any(&mut self) {
+    pub fn hear_any(&mut self)
+        ensures { self.new ≡ record self.old { can_read = true } }
+    {
         self.can_read = true;
     }
 
     /// What the system tells of it.
-    pub fn hear(&mut self, event: &Event) {
-        if event.is_readable() {
-            self.can_read = true;
-        }
-        if event.is_read_closed() {
-            self.can_read = true;
-            self.is_half_closed = true;
-        }
-        if event.is_error() || event.is_write_closed() {
-            self.is_over = true;
-        }
+    pub fn hear(&mut self, event: &Event)
+        ensures { self.new ≡ record self.old {
+          can_read = self.new.can_read;
+          is_half_closed = self.new.is_half_closed;
+          is_over = self.new.is_over;
+        } }
+    {
+        let is_closed = event.is_read_closed();
+        self.can_read |= event.is_readable() | is_closed;
+        self.is_half_closed |= is_closed;
+        self.is_over |= event.is_error() | event.is_write_closed();
     }
 
     /// Counts the socket for its tenant, where it has logged in now: true. Where the tenant may have no more, or memory is refused, the

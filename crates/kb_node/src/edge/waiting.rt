@@ -6,6 +6,7 @@ ghost use Rattle.kb_shares.specs.Shares.{has_room, own_of, piece_for, used_by};
 ghost use Rattle.kb_broker.specs.Deadline.{IsQuietBefore};
 ghost use Rattle.kb_broker.specs.Hosts.{is_honest};
 ghost use Rattle.kb_node.specs.declared.edge.Accepts.TheVariants.{Ready};
+ghost use Rattle.kb_node.specs.Cores.{seen};
 ghost use Rattle.kb_node.specs.Commits.{next_commit};
 ghost use Rattle.kb_node.specs.Deadlines.{first_deadline, first_end};
 ghost use Rattle.kb_node.specs.Replies.{place_of};
@@ -32,7 +33,7 @@ impl<R: Net, S: Store, L: PartitionLog + Drop> Edge<R, S, L> {
     /// a second at most; and no time where a socket can go on as it is. What was refused is tried again within 100 ms. An edge that was
     /// bound without a watch does not wait.
     pub fn wait(&mut self)
-        ensures { self.new.host ≡ self.old.host }
+        ensures { seen self.new.host self.new.sockets.items ≡ seen self.old.host self.old.sockets.items }
     {
         let longest = if self.is_busy() {
             Duration::ZERO
@@ -44,7 +45,7 @@ impl<R: Net, S: Store, L: PartitionLog + Drop> Edge<R, S, L> {
 
     /// What the system tells within so long, of sockets and of listeners.
     pub(super) fn listen(&mut self, longest: Duration)
-        ensures { self.new.host ≡ self.old.host }
+        ensures { seen self.new.host self.new.sockets.items ≡ seen self.old.host self.old.sockets.items }
     {
         let Some(mut watch) = self.watch.take() else {
             return;
@@ -163,7 +164,7 @@ impl<R: Net, S: Store, L: PartitionLog + Drop> Edge<R, S, L> {
 
     /// What the system tells of a socket or of a listener.
     fn hear(&mut self, event: &Event)
-        ensures { self.new.host ≡ self.old.host }
+        ensures { seen self.new.host self.new.sockets.items ≡ seen self.old.host self.old.sockets.items }
     {
         let number = event.token().0 as u64;
         if number == DOOR {

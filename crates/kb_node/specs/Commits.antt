@@ -40,10 +40,11 @@ is_due now c = is_at_times c.sync && not c.is_committed && nat_le (min (c.last +
 
 -- 3. What a commit is good for
 
--- A broker, and what is known of its commits.
+-- A broker, what is known of its commits, and the greatest number that a connection had, those among them that could not be kept.
 pub record Host (S : Type 0) : Type 0 where
   pub broker : OnStore S
   pub commits : Commits
+  pub tried : ℕ
 
 -- A loss of power leaves the files of a store as they are, and nothing else, where it has told the truth and put nothing off.
 abbrev pub Lasts : {S : Type 0} → (S → Type 0) → (S → Disk) → (S → Loss) → S → Type 0

@@ -4,7 +4,7 @@ use Rattle.std.specs.List.{AllByRecursion}
 use Rattle.std.specs.Io.KnownBytes.{Appends, Consumes}
 use Rattle.kb_store.specs.Disk.{Disk}
 use Rattle.kb_isolation_spec.specs.Machine.{Happening, Opens, Comes, Closes, Moment, Sent}
-use Rattle.kb_isolation_spec.specs.Broker.{IsRun}
+use Rattle.kb_isolation_spec.specs.Broker.{IsRun, last_after}
 use Rattle.kb_isolation_spec.specs.Calls.{taken, output_of}
 use Rattle.kb_broker.specs.Hosts.{OnStore, is_honest, StepsTo}
 use Rattle.kb_broker.specs.Runs.{Leads}
@@ -46,9 +46,9 @@ IsDone disk Commit old new = IsCommitted disk old new
 abbrev pub AreDone : {S : Type 0} → (S → Disk) → List Deed → OnStore S → OnStore S → Type 0
 AreDone disk deeds old new = Along (IsDone disk) deeds old new
 
--- the connection of an event
+-- the connection that an event is about, which is open before it
 abbrev pub connection_in : Happening → Option ℕ
-connection_in (Opens n) = Some n
+connection_in (Opens n) = None
 connection_in (Comes n piece) = Some n
 connection_in (Closes n) = Some n
 connection_in (Moment now) = None
@@ -82,6 +82,18 @@ handed_by (Event e) = piece_in e
 handed_by (Take n bytes) = []
 handed_by Commit = []
 
+-- the events among them, in order
+abbrev pub events_of : List Deed → List Happening
+events_of [] = []
+events_of (Event e ∷ ds) = e ∷ events_of ds
+events_of (Take n bytes ∷ ds) = events_of ds
+events_of (Commit ∷ ds) = events_of ds
+
+-- the greatest number that a connection had, after events
+abbrev pub tried_after : ℕ → List Happening → ℕ
+tried_after tried [] = tried
+tried_after tried (e ∷ es) = tried_after (last_after e tried) es
+
 -- whether it is a moment
 abbrev pub is_moment : Deed → Bool
 is_moment (Event (Opens n)) = false
@@ -90,6 +102,16 @@ is_moment (Event (Closes n)) = false
 is_moment (Event (Moment now)) = true
 is_moment (Take n bytes) = false
 is_moment Commit = false
+
+-- the moments among them, in order
+abbrev pub moments_of : List Deed → List ℕ
+moments_of [] = []
+moments_of (Event (Opens n) ∷ ds) = moments_of ds
+moments_of (Event (Comes n piece) ∷ ds) = moments_of ds
+moments_of (Event (Closes n) ∷ ds) = moments_of ds
+moments_of (Event (Moment now) ∷ ds) = now ∷ moments_of ds
+moments_of (Take n bytes ∷ ds) = moments_of ds
+moments_of (Commit ∷ ds) = moments_of ds
 
 -- 3. What is done to a stream
 

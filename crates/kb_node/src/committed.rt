@@ -1,6 +1,6 @@
 //! A broker whose replies may wait until what was done lasts.
 
-ghost use Rattle.std.specs.Prelude.{◌≡◌, ◌≤◌, ◌<◌, ◌^◌, true, false, max, None, Some, Err, IfSome, IfErr, OnErr, OnOk};
+ghost use Rattle.std.specs.Prelude.{◌≡◌, ◌≤◌, ◌<◌, ◌+◌, ◌-◌, ◌^◌, true, false, max, None, Some, Err, IfSome, IfErr, OnErr, OnOk};
 ghost use Rattle.kb_isolation_spec.specs.Machine.{Opens, Comes, Closes, Moment};
 ghost use Rattle.kb_isolation_spec.specs.Calls.{closed, taken, output_of, opened, IsRefused};
 ghost use Rattle.kb_broker.specs.Places.{numbers};
@@ -23,6 +23,8 @@ use std::marker::Model;
 pub struct Committed<S: Store, L: PartitionLog = ListLog> {
     broker: Broker<S, L>,
     commits: Commits,
+    /// The greatest number that a connection had, those among them that could not be kept.
+    tried: u64,
 }
 
 impl<S: Store, L: PartitionLog> Model for Committed<S, L> {
@@ -31,7 +33,7 @@ impl<S: Store, L: PartitionLog> Model for Committed<S, L> {
 
     ghost Value = { Host S };
 
-    ghost view = { λ h. record { broker = h.broker; commits = h.commits } };
+    ghost view = { λ h. record { broker = h.broker; commits = h.commits; tried = h.tried } };
 
     ghost invariant = { λ h. h.commits.is_committed ≡ true → Lasts S.settled S.disk S.loss h.broker.store };
 }
@@ -42,8 +44,14 @@ impl<S: Store, L: PartitionLog + Drop> Committed<S, L> {
         requires { commits.is_committed ≡ false }
         ensures broker { result.broker ≡ broker }
         ensures commits { result.commits ≡ commits }
+        ensures tried { result.tried ≡ broker.state.last }
     {
-        Committed { broker, commits }
+        let tried = broker.last_connection();
+        Committed {
+            broker,
+            commits,
+            tried,
+        }
     }
 
     /// The broker, to look at.
@@ -60,14 +68,26 @@ impl<S: Store, L: PartitionLog + Drop> Committed<S, L> {
         &self.commits
     }
 
-    /// A new connection, whose number is above that of each earlier one.
+    /// The number of the next connection, above all before, also those that could not be kept: none is left where the greatest was tried.
+    pub fn next_number(&self) -> Option<u64>
+        ensures above { IfSome result (λ n. (self.now.tried < n) × (self.now.broker.state.last < n)) }
+        ensures next { IfSome result (λ n. n ≡ max self.now.tried self.now.broker.state.last + 1) }
+        ensures none { result ≡ None → max self.now.tried self.now.broker.state.last ≡ 2 ^ 64 - 1 }
+    {
+        self.tried.max(self.broker.last_connection()).checked_add(1)
+    }
+
+    /// A new connection, whose number is above that of each earlier one. It is tried no more where it cannot be kept.
     pub fn connect(&mut self, alloc: Global, number: u64) -> Result<(), AllocError>
-        requires { self.old.broker.state.last < number }
+        requires last { self.old.broker.state.last < number }
+        requires new { self.old.tried < number }
         ensures happens { Happens S.disk (Opens number) self.old.broker self.new.broker }
         ensures commits { self.new.commits ≡ self.old.commits }
+        ensures tried { self.new.tried ≡ number }
         ensures ok { OnOk result (self.new.broker.state ≡ opened self.old.broker.state number) }
         ensures err { OnErr result (IsRefused self.old.broker.state self.new.broker.state) }
     {
+        self.tried = number;
         self.broker.connect(alloc, number)
     }
 
@@ -77,6 +97,7 @@ impl<S: Store, L: PartitionLog + Drop> Committed<S, L> {
         ensures commits { self.new.commits ≡ record self.old.commits { is_committed = self.new.commits.is_committed } }
         ensures lasts { self.new.commits.is_committed ≡ true → Lasts S.settled S.disk S.loss self.new.broker.store }
         ensures numbers { numbers self.new.broker.state ≡ numbers self.old.broker.state }
+        ensures tried { self.new.tried ≡ self.old.tried }
     {
         self.broker.input(alloc, number, piece);
         self.commits.note(self.broker.is_synced());
@@ -90,6 +111,7 @@ impl<S: Store, L: PartitionLog + Drop> Committed<S, L> {
         ensures lasts { self.new.commits.is_committed ≡ true → Lasts S.settled S.disk S.loss self.new.broker.store }
         ensures clock { self.new.broker.state.clock ≡ max self.old.broker.state.clock now }
         ensures numbers { numbers self.new.broker.state ≡ numbers self.old.broker.state }
+        ensures tried { self.new.tried ≡ self.old.tried }
     {
         self.broker.moment(alloc, now);
         self.commits.note(self.broker.is_synced());
@@ -100,6 +122,7 @@ impl<S: Store, L: PartitionLog + Drop> Committed<S, L> {
         ensures happens { Happens S.disk (Closes number) self.old.broker self.new.broker }
         ensures commits { self.new.commits ≡ self.old.commits }
         ensures broker { self.new.broker ≡ record self.old.broker { state = closed self.old.broker.state number } }
+        ensures tried { self.new.tried ≡ self.old.tried }
     {
         self.broker.disconnect(alloc, number);
     }
@@ -110,6 +133,7 @@ impl<S: Store, L: PartitionLog + Drop> Committed<S, L> {
         ensures commits { self.new.commits ≡ self.old.commits }
         ensures broker { self.new.broker ≡ record self.old.broker { state = taken self.old.broker.state number } }
         ensures output { result.items ≡ output_of number self.old.broker.state }
+        ensures tried { self.new.tried ≡ self.old.tried }
         // Where replies wait for it, all that was done lasts.
         ensures lasts { holds_back self.old.commits.sync ≡ true → Lasts S.settled S.disk S.loss self.new.broker.store }
     {
@@ -130,6 +154,7 @@ impl<S: Store, L: PartitionLog + Drop> Committed<S, L> {
         ensures refused { IfErr result (λ fault. self.new.commits.fault ≡ Some fault) }
         ensures dead { IfSome self.old.commits.fault (λ fault. (result ≡ Err fault) × (self.new ≡ self.old)) }
         ensures known { self.old.commits.is_committed ≡ true → self.new ≡ self.old }
+        ensures tried { self.new.tried ≡ self.old.tried }
         ensures state { is_honest S.disk self.new.broker → self.new.broker.state ≡ self.old.broker.state }
     {
         if let Some(fault) = self.commits.fault() {
@@ -156,6 +181,7 @@ impl<S: Store, L: PartitionLog + Drop> Committed<S, L> {
         ensures sync { OnOk result (self.new.commits.sync ≡ self.old.commits.sync) }
         ensures well { OnOk result (self.new.commits.fault ≡ None) }
         ensures due { OnOk result (is_due now self.new.commits ≡ false) }
+        ensures tried { self.new.tried ≡ self.old.tried }
         ensures refused { IfErr result (λ fault. self.new.commits.fault ≡ Some fault) }
         ensures dead { IfSome self.old.commits.fault (λ fault. (result ≡ Err fault) × (self.new ≡ self.old)) }
         ensures state { is_honest S.disk self.new.broker → self.new.broker.state ≡ self.old.broker.state }

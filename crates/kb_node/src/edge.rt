@@ -3,7 +3,7 @@
 ghost use Rattle.std.specs.Prelude.{◌≡◌, ◌≤◌, ◌<◌, ◌*◌, ◌^◌, Err, None, Some, IfOk, IfErr, IfSome, OnErr, OnOk};
 ghost use Rattle.std.specs.Prelude.{option_map, replicate, slice_get, vec_len};
 ghost use Rattle.kb_isolation_spec.specs.Machine.{Moment};
-ghost use Rattle.kb_node.specs.Moves.{Goes, IsRunOf, IsTurn};
+ghost use Rattle.kb_node.specs.Moves.{Goes, IsJoined, IsRunOf, IsTurn};
 ghost use Rattle.kb_node.specs.Traffic.{Happens};
 
 mod beside;
@@ -147,6 +147,7 @@ impl<R: Net, S: Store, L: PartitionLog + Drop> Edge<R, S, L> {
     ) -> Result<Self, BindRefused<S, L>>
         ensures err { IfErr result (λ refused. refused.broker ≡ broker) }
         ensures empty { IfOk result (λ edge. vec_len edge.sockets ≡ 0) }
+        ensures host { IfOk result (λ edge. (edge.host.broker ≡ broker) × (edge.host.tried ≡ broker.state.last)) }
     {
         Edge::open(net, alloc, broker, address, limits, None)
     }
@@ -161,6 +162,7 @@ impl<R: Net, S: Store, L: PartitionLog + Drop> Edge<R, S, L> {
     ) -> Result<Self, BindRefused<S, L>>
         ensures err { IfErr result (λ refused. refused.broker ≡ broker) }
         ensures empty { IfOk result (λ edge. vec_len edge.sockets ≡ 0) }
+        ensures host { IfOk result (λ edge. (edge.host.broker ≡ broker) × (edge.host.tried ≡ broker.state.last)) }
     {
         match Watch::new(net, alloc) {
             Ok(watch) => Edge::open(net, alloc, broker, address, limits, Some(watch)),
@@ -186,6 +188,7 @@ impl<R: Net, S: Store, L: PartitionLog + Drop> Edge<R, S, L> {
     ) -> Result<Self, BindRefused<S, L>>
         ensures err { IfErr result (λ refused. refused.broker ≡ broker) }
         ensures empty { IfOk result (λ edge. vec_len edge.sockets ≡ 0) }
+        ensures host { IfOk result (λ edge. (edge.host.broker ≡ broker) × (edge.host.tried ≡ broker.state.last)) }
         ensures login { IfOk result (λ edge. edge.strangers.millis ≡ limits.login_seconds * 1000) }
         ensures reply { IfOk result (λ edge. edge.reply_millis ≡ limits.reply_seconds * 1000) }
         ensures strangers { IfOk result (λ edge. edge.stranger_limit ≡ limits.strangers) }
@@ -321,8 +324,8 @@ impl<R: Net, S: Store, L: PartitionLog + Drop> Edge<R, S, L> {
         ensures refused { IfErr result (λ fault. self.new.host.commits.fault ≡ Some fault) }
         ensures dead { IfSome self.old.host.commits.fault (λ fault. (result ≡ Err fault) × (self.new ≡ self.old)) }
         ensures turn { self.old.host.commits.fault ≡ None → IsTurn S.disk R.Stream.contents R.Stream.remaining now
-            self.old.host.broker self.new.host.broker }
-        ensures run { self.old.host.commits.fault ≡ None → IsRunOf S.disk now self.old.host.broker self.new.host.broker }
+            self.old.host self.new.host }
+        ensures run { self.old.host.commits.fault ≡ None → IsRunOf S.disk now self.old.host self.new.host }
     {
         if let Some(fault) = self.host.commits().fault() {
             return Err(fault);
@@ -339,7 +342,8 @@ impl<R: Net, S: Store, L: PartitionLog + Drop> Edge<R, S, L> {
     /// The moment of a turn. Those whom the broker told something then can go on, and failed logins that have waited for long enough.
     fn begin(&mut self, alloc: Global, now: u64)
         requires { now ≤ 2 ^ 62 }
-        ensures { Happens S.disk (Moment now) self.old.host.broker self.new.host.broker }
+        ensures moment { Happens S.disk (Moment now) self.old.host.broker self.new.host.broker }
+        ensures tried { self.new.host.tried ≡ self.old.host.tried }
     {
         self.news.clear();
         self.clock = now;
@@ -380,7 +384,7 @@ impl<R: Net, S: Store, L: PartitionLog + Drop> Edge<R, S, L> {
     #[tactic(auto, using(crate::proofs::Goes::goes_then, crate::proofs::Goes::goes_none, crate::proofs::Goes::goes_committed))]
     fn answer(&mut self, alloc: Global, now: u64, turn: &mut Turn) -> Result<(), StoreFault>
         ensures refused { IfErr result (λ fault. self.new.host.commits.fault ≡ Some fault) }
-        ensures goes { Goes S.disk R.Stream.contents R.Stream.remaining self.old.host.broker self.new.host.broker }
+        ensures goes { Goes S.disk R.Stream.contents R.Stream.remaining self.old.host self.new.host }
     {
         if self.host.commits().holds_back() {
             return self.serve_together(alloc, turn);
@@ -409,7 +413,7 @@ impl<R: Net, S: Store, L: PartitionLog + Drop> Edge<R, S, L> {
     /// Accepts the sockets that wait, at most as many as there may be.
     #[tactic(auto, using(crate::proofs::Goes::goes_then, crate::proofs::Goes::goes_none))]
     fn accept(&mut self, alloc: Global, turn: &mut Turn)
-        ensures { Goes S.disk R.Stream.contents R.Stream.remaining self.old.host.broker self.new.host.broker }
+        ensures { Goes S.disk R.Stream.contents R.Stream.remaining self.old.host self.new.host }
     {
         for _ in 0..ACCEPTS {
             if !self.accept_one(alloc, turn) {
@@ -421,7 +425,7 @@ impl<R: Net, S: Store, L: PartitionLog + Drop> Edge<R, S, L> {
     /// Accepts a socket that waits: false where there is none, or none can be accepted now.
     #[tactic(auto, using(crate::proofs::Goes::goes_then, crate::proofs::Goes::goes_none))]
     fn accept_one(&mut self, alloc: Global, turn: &mut Turn) -> bool
-        ensures { Goes S.disk R.Stream.contents R.Stream.remaining self.old.host.broker self.new.host.broker }
+        ensures { Goes S.disk R.Stream.contents R.Stream.remaining self.old.host self.new.host }
     {
         if self.accepts == Accepts::Waiting {
             return false;
@@ -455,7 +459,7 @@ impl<R: Net, S: Store, L: PartitionLog + Drop> Edge<R, S, L> {
 
     /// Takes in a socket where there is room for it. Else it is closed.
     fn admit(&mut self, alloc: Global, stream: R::Stream, peer: SocketAddr, turn: &mut Turn)
-        ensures { Goes S.disk R.Stream.contents R.Stream.remaining self.old.host.broker self.new.host.broker }
+        ensures { Goes S.disk R.Stream.contents R.Stream.remaining self.old.host self.new.host }
     {
         turn.count_accepted();
         if !self.make_room(alloc, turn) {
@@ -472,9 +476,12 @@ impl<R: Net, S: Store, L: PartitionLog + Drop> Edge<R, S, L> {
     #[tactic(auto, using(crate::proofs::Goes::goes_then, crate::proofs::Goes::goes_none))]
     fn take_in(&mut self, alloc: Global, stream: R::Stream, peer: SocketAddr) -> io::Result<()>
         requires { vec_len self.now.sockets < self.now.limit }
-        ensures { Goes S.disk R.Stream.contents R.Stream.remaining self.old.host.broker self.new.host.broker }
+        ensures goes { Goes S.disk R.Stream.contents R.Stream.remaining self.old.host self.new.host }
+        // It carries that stream for the connection that was opened now, and the others stay.
+        ensures socket { OnOk result (IsJoined stream self.new.host.tried self.old.sockets.items self.new.sockets.items) }
+        ensures others { OnErr result (self.new.sockets.items ≡ self.old.sockets.items) }
     {
-        let Some(connection) = self.host.broker().last_connection().checked_add(1) else {
+        let Some(connection) = self.host.next_number() else {
             return Err(io::Error::from(ErrorKind::QuotaExceeded));
         };
         stream.set_nonblocking(true)?;
@@ -487,18 +494,20 @@ impl<R: Net, S: Store, L: PartitionLog + Drop> Edge<R, S, L> {
         if self.keep(alloc, connection).is_err() {
             return Err(self.refuse(connection));
         }
-        let place = self.sockets.len();
-        self.sockets
-            .push(Socket::new(alloc, connection, peer, stream))?;
-        self.queue(place);
+        let mut socket = Socket::new(alloc, connection, peer, stream);
+        // there is room for each socket once
+        socket.is_queued = self.ready.push(connection).is_ok();
+        self.sockets.push_reserved(socket);
         Ok(())
     }
 
     /// Opens a connection, and counts its socket.
     #[tactic(auto, using(crate::proofs::Goes::goes_then, crate::proofs::Goes::goes_none))]
     fn keep(&mut self, alloc: Global, connection: u64) -> Result<(), AllocError>
-        requires { self.old.host.broker.state.last < connection }
-        ensures goes { Goes S.disk R.Stream.contents R.Stream.remaining self.old.host.broker self.new.host.broker }
+        requires last { self.old.host.broker.state.last < connection }
+        requires new { self.old.host.tried < connection }
+        ensures tried { OnOk result (self.new.host.tried ≡ connection) }
+        ensures goes { Goes S.disk R.Stream.contents R.Stream.remaining self.old.host self.new.host }
         ensures sockets { self.new.sockets ≡ self.old.sockets }
         ensures limit { self.new.limit ≡ self.old.limit }
     {
@@ -510,7 +519,8 @@ impl<R: Net, S: Store, L: PartitionLog + Drop> Edge<R, S, L> {
 
     /// A connection could not be kept for want of memory.
     fn refuse(&mut self, connection: u64) -> io::Error
-        ensures { self.new.host ≡ self.old.host }
+        ensures host { self.new.host ≡ self.old.host }
+        ensures sockets { self.new.sockets ≡ self.old.sockets }
     {
         self.strangers.forget(connection);
         self.shares.release(connection);

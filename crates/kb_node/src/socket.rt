@@ -90,6 +90,7 @@ impl<T: Read + Write + Drop> Socket<T> {
     /// A socket whose connection is open.
     pub fn new(alloc: Global, connection: u64, peer: SocketAddr, stream: T) -> Self
         ensures connection { result.connection ≡ connection }
+        ensures stream { result.stream ≡ stream }
         ensures open { result.is_ended ≡ false }
         ensures stranger { result.is_known ≡ false }
     {
@@ -257,6 +258,7 @@ impl<T: Read + Write + Drop> Socket<T> {
         ensures over { self.old.is_over ≡ true → self.new.is_over ≡ true }
         ensures rest { self.new ≡ record self.old { is_bound = self.new.is_bound; is_over = self.new.is_over } }
         ensures refused { result ≡ false → self.new.is_over ≡ true }
+        ensures stays { result ≡ true → self.new.is_over ≡ self.old.is_over }
         ensures unbound { bound_to self.old.connection broker.now.state ≡ None → (result ≡ true) × (shares.new ≡ shares.old) }
         // It is counted as over a limit only where the tenant may not have it.
         ensures limit { turn.new ≢ turn.old

@@ -25,7 +25,7 @@ impl<R: Net, S: Store, L: PartitionLog + Drop> Edge<R, S, L> {
     /// Closes the sockets that have not logged in in time, and those that do not read.
     #[tactic(auto, using(crate::proofs::Goes::goes_then, crate::proofs::Goes::goes_none))]
     pub(super) fn close_silent(&mut self, alloc: Global, turn: &mut Turn)
-        ensures { Goes S.disk R.Stream.contents R.Stream.remaining self.old.host.broker self.new.host.broker }
+        ensures { Goes S.disk R.Stream.contents R.Stream.remaining self.old.host self.new.host }
     {
         self.close_strangers(alloc, turn);
         self.try_again(alloc, turn);
@@ -37,7 +37,7 @@ impl<R: Net, S: Store, L: PartitionLog + Drop> Edge<R, S, L> {
     /// Closes the sockets that have not logged in in time.
     #[tactic(auto, using(crate::proofs::Goes::goes_then, crate::proofs::Goes::goes_none))]
     fn close_strangers(&mut self, alloc: Global, turn: &mut Turn)
-        ensures { Goes S.disk R.Stream.contents R.Stream.remaining self.old.host.broker self.new.host.broker }
+        ensures { Goes S.disk R.Stream.contents R.Stream.remaining self.old.host self.new.host }
     {
         for _ in 0..self.limit {
             let Some(number) = self.strangers.due(self.clock) else {
@@ -51,7 +51,7 @@ impl<R: Net, S: Store, L: PartitionLog + Drop> Edge<R, S, L> {
     /// Tries the sockets once more that took something of their replies some time ago.
     #[tactic(auto, using(crate::proofs::Goes::goes_then, crate::proofs::Goes::goes_none))]
     fn try_again(&mut self, alloc: Global, turn: &mut Turn)
-        ensures { Goes S.disk R.Stream.contents R.Stream.remaining self.old.host.broker self.new.host.broker }
+        ensures { Goes S.disk R.Stream.contents R.Stream.remaining self.old.host self.new.host }
     {
         for _ in 0..self.limit {
             let Some(number) = self.silences.take_untried(self.clock) else {
@@ -64,7 +64,7 @@ impl<R: Net, S: Store, L: PartitionLog + Drop> Edge<R, S, L> {
     /// Closes the sockets that take nothing of their replies. The system tells late of a little room, so each is tried once more before.
     #[tactic(auto, using(crate::proofs::Goes::goes_then, crate::proofs::Goes::goes_none))]
     fn close_unread(&mut self, alloc: Global, turn: &mut Turn)
-        ensures { Goes S.disk R.Stream.contents R.Stream.remaining self.old.host.broker self.new.host.broker }
+        ensures { Goes S.disk R.Stream.contents R.Stream.remaining self.old.host self.new.host }
     {
         for _ in 0..self.limit {
             let Some(number) = self.silences.silent(self.clock, self.reply_millis) else {
@@ -77,7 +77,7 @@ impl<R: Net, S: Store, L: PartitionLog + Drop> Edge<R, S, L> {
     /// Closes the socket of a connection, unless it takes something of its reply now.
     #[tactic(auto, using(crate::proofs::Goes::goes_then, crate::proofs::Goes::goes_none))]
     fn close_unless_written(&mut self, alloc: Global, number: u64, turn: &mut Turn)
-        ensures { Goes S.disk R.Stream.contents R.Stream.remaining self.old.host.broker self.new.host.broker }
+        ensures { Goes S.disk R.Stream.contents R.Stream.remaining self.old.host self.new.host }
     {
         if self.write_again(alloc, number, turn) {
             return;
@@ -90,7 +90,7 @@ impl<R: Net, S: Store, L: PartitionLog + Drop> Edge<R, S, L> {
     /// way. Those of other holders stay.
     #[tactic(auto, using(crate::proofs::Goes::goes_then, crate::proofs::Goes::goes_none))]
     fn close_stalled(&mut self, alloc: Global, turn: &mut Turn)
-        ensures { Goes S.disk R.Stream.contents R.Stream.remaining self.old.host.broker self.new.host.broker }
+        ensures { Goes S.disk R.Stream.contents R.Stream.remaining self.old.host self.new.host }
     {
         for at in 0..self.ready.len() {
             self.make_way_for(alloc, at, turn);
@@ -100,7 +100,7 @@ impl<R: Net, S: Store, L: PartitionLog + Drop> Edge<R, S, L> {
     /// The same for the one of these sockets at a place, where it may not be asked.
     #[tactic(auto, using(crate::proofs::Goes::goes_then, crate::proofs::Goes::goes_none))]
     fn make_way_for(&mut self, alloc: Global, at: usize, turn: &mut Turn)
-        ensures { Goes S.disk R.Stream.contents R.Stream.remaining self.old.host.broker self.new.host.broker }
+        ensures { Goes S.disk R.Stream.contents R.Stream.remaining self.old.host self.new.host }
     {
         let Some(number) = self.ready.get(at).copied() else {
             return;
@@ -115,7 +115,7 @@ impl<R: Net, S: Store, L: PartitionLog + Drop> Edge<R, S, L> {
     /// Closes those sockets of a holder that take nothing of their replies for longest, until it may ask for more.
     #[tactic(auto, using(crate::proofs::Goes::goes_then, crate::proofs::Goes::goes_none))]
     fn make_way(&mut self, alloc: Global, holder: usize, turn: &mut Turn)
-        ensures { Goes S.disk R.Stream.contents R.Stream.remaining self.old.host.broker self.new.host.broker }
+        ensures { Goes S.disk R.Stream.contents R.Stream.remaining self.old.host self.new.host }
     {
         for _ in 0..self.limit {
             let millis = patience(self.replies.is_open(holder), self.reply_millis);
@@ -129,7 +129,7 @@ impl<R: Net, S: Store, L: PartitionLog + Drop> Edge<R, S, L> {
     /// Closes the socket of a connection that makes others wait, unless it takes something of its reply now.
     #[tactic(auto, using(crate::proofs::Goes::goes_then, crate::proofs::Goes::goes_none))]
     fn close_stalling(&mut self, alloc: Global, number: u64, turn: &mut Turn)
-        ensures { Goes S.disk R.Stream.contents R.Stream.remaining self.old.host.broker self.new.host.broker }
+        ensures { Goes S.disk R.Stream.contents R.Stream.remaining self.old.host self.new.host }
     {
         if self.write_again(alloc, number, turn) {
             return;
@@ -143,7 +143,7 @@ impl<R: Net, S: Store, L: PartitionLog + Drop> Edge<R, S, L> {
     /// before.
     #[tactic(auto, using(crate::proofs::Goes::goes_then, crate::proofs::Goes::goes_none))]
     pub(super) fn close_late(&mut self, alloc: Global, turn: &mut Turn)
-        ensures { Goes S.disk R.Stream.contents R.Stream.remaining self.old.host.broker self.new.host.broker }
+        ensures { Goes S.disk R.Stream.contents R.Stream.remaining self.old.host self.new.host }
     {
         self.close_slow(alloc, turn);
         self.close_idle(alloc, turn);
@@ -154,7 +154,7 @@ impl<R: Net, S: Store, L: PartitionLog + Drop> Edge<R, S, L> {
     /// their time begins anew.
     #[tactic(auto, using(crate::proofs::Goes::goes_then, crate::proofs::Goes::goes_none))]
     fn close_slow(&mut self, alloc: Global, turn: &mut Turn)
-        ensures { Goes S.disk R.Stream.contents R.Stream.remaining self.old.host.broker self.new.host.broker }
+        ensures { Goes S.disk R.Stream.contents R.Stream.remaining self.old.host self.new.host }
     {
         for _ in 0..self.limit {
             let Some(number) = self.times.slow(self.clock) else {
@@ -167,7 +167,7 @@ impl<R: Net, S: Store, L: PartitionLog + Drop> Edge<R, S, L> {
     /// Closes the socket of a connection, unless its holder has too much unread and its time can begin anew.
     #[tactic(auto, using(crate::proofs::Goes::goes_then, crate::proofs::Goes::goes_none))]
     fn close_unless_put_off(&mut self, alloc: Global, number: u64, turn: &mut Turn)
-        ensures { Goes S.disk R.Stream.contents R.Stream.remaining self.old.host.broker self.new.host.broker }
+        ensures { Goes S.disk R.Stream.contents R.Stream.remaining self.old.host self.new.host }
     {
         if !self.may_ask(number) && self.put_off(number) {
             return;
@@ -192,7 +192,7 @@ impl<R: Net, S: Store, L: PartitionLog + Drop> Edge<R, S, L> {
     /// Closes the sockets that are idle for too long.
     #[tactic(auto, using(crate::proofs::Goes::goes_then, crate::proofs::Goes::goes_none))]
     fn close_idle(&mut self, alloc: Global, turn: &mut Turn)
-        ensures { Goes S.disk R.Stream.contents R.Stream.remaining self.old.host.broker self.new.host.broker }
+        ensures { Goes S.disk R.Stream.contents R.Stream.remaining self.old.host self.new.host }
     {
         for _ in 0..self.limit {
             let Some(number) = self.times.take_looked(self.clock) else {
@@ -205,7 +205,7 @@ impl<R: Net, S: Store, L: PartitionLog + Drop> Edge<R, S, L> {
     /// Closes the socket of a connection, unless it was used of late.
     #[tactic(auto, using(crate::proofs::Goes::goes_then, crate::proofs::Goes::goes_none))]
     fn close_unless_used(&mut self, alloc: Global, number: u64, turn: &mut Turn)
-        ensures { Goes S.disk R.Stream.contents R.Stream.remaining self.old.host.broker self.new.host.broker }
+        ensures { Goes S.disk R.Stream.contents R.Stream.remaining self.old.host self.new.host }
     {
         if self.is_used(number) {
             return;
@@ -246,7 +246,7 @@ impl<R: Net, S: Store, L: PartitionLog + Drop> Edge<R, S, L> {
     /// noted, it is closed.
     #[tactic(auto, using(crate::proofs::Goes::goes_then, crate::proofs::Goes::goes_none))]
     fn write_again(&mut self, alloc: Global, number: u64, turn: &mut Turn) -> bool
-        ensures { Goes S.disk R.Stream.contents R.Stream.remaining self.old.host.broker self.new.host.broker }
+        ensures { Goes S.disk R.Stream.contents R.Stream.remaining self.old.host self.new.host }
     {
         let Some(place) = self.place_of(number) else {
             return false;
@@ -329,10 +329,11 @@ impl<R: Net, S: Store, L: PartitionLog + Drop> Edge<R, S, L> {
     #[tactic(auto, using(crate::proofs::Goes::goes_then, crate::proofs::Goes::goes_none))]
     pub(super) fn close(&mut self, alloc: Global, number: u64, turn: &mut Turn)
         ensures commits { self.new.host.commits ≡ self.old.host.commits }
+        ensures store { self.new.host.broker.store ≡ self.old.host.broker.store }
         ensures released { holder_of number self.new.shares.sockets ≡ None }
         ensures replies { self.new.replies ≡ let_go number self.old.replies }
         ensures inputs { self.new.inputs ≡ let_go number self.old.inputs }
-        ensures goes { Goes S.disk R.Stream.contents R.Stream.remaining self.old.host.broker self.new.host.broker }
+        ensures goes { Goes S.disk R.Stream.contents R.Stream.remaining self.old.host self.new.host }
     {
         self.strangers.forget(number);
         self.shares.release(number);
@@ -364,7 +365,7 @@ impl<R: Net, S: Store, L: PartitionLog + Drop> Edge<R, S, L> {
     pub(super) fn make_room(&mut self, alloc: Global, turn: &mut Turn) -> bool
         ensures sockets { OnTrue result (vec_len self.new.sockets < self.new.limit) }
         ensures strangers { OnTrue result (count_of self.new.shares.tenants self.new.shares.sockets < self.new.stranger_limit) }
-        ensures goes { Goes S.disk R.Stream.contents R.Stream.remaining self.old.host.broker self.new.host.broker }
+        ensures goes { Goes S.disk R.Stream.contents R.Stream.remaining self.old.host self.new.host }
     {
         if self.has_room() {
             return true;

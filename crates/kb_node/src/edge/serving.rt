@@ -4,6 +4,7 @@ ghost use Rattle.std.specs.Prelude.{◌≡◌, ◌≢◌, ◌-◌, min, true, fa
 ghost use Rattle.kb_node.specs.Moves.{Goes};
 ghost use Rattle.kb_node.specs.Commits.{may_tell, tells_at_once};
 ghost use Rattle.kb_shares.specs.Ledger.{set_to};
+ghost use Rattle.kb_shares.specs.Shares.{has_room};
 ghost use Rattle.kb_shares.specs.Turns.{joined};
 ghost use Rattle.kb_node.specs.TenantTraffic.{with_traffic};
 ghost use Rattle.kb_node.specs.Replies.{kept_for, place_of};
@@ -64,7 +65,7 @@ impl<R: Net, S: Store, L: PartitionLog + Drop> Edge<R, S, L> {
     #[tactic(auto, using(crate::proofs::Goes::goes_then, crate::proofs::Goes::goes_none))]
     pub(super) fn serve_at_once(&mut self, alloc: Global, turn: &mut Turn)
         requires { tells_at_once self.old.host.commits ≡ true }
-        ensures { Goes S.disk R.Stream.contents R.Stream.remaining self.old.host.broker self.new.host.broker }
+        ensures { Goes S.disk R.Stream.contents R.Stream.remaining self.old.host self.new.host }
     {
         self.line_up(alloc, true);
         for _ in 0..ROUNDS {
@@ -80,7 +81,7 @@ impl<R: Net, S: Store, L: PartitionLog + Drop> Edge<R, S, L> {
     fn serve_round(&mut self, alloc: Global, turn: &mut Turn)
         requires { tells_at_once self.old.host.commits ≡ true }
         ensures commits { tells_at_once self.new.host.commits ≡ true }
-        ensures goes { Goes S.disk R.Stream.contents R.Stream.remaining self.old.host.broker self.new.host.broker }
+        ensures goes { Goes S.disk R.Stream.contents R.Stream.remaining self.old.host self.new.host }
     {
         self.serve(alloc, turn);
         self.hear_speakers();
@@ -126,7 +127,7 @@ impl<R: Net, S: Store, L: PartitionLog + Drop> Edge<R, S, L> {
         turn: &mut Turn,
     ) -> Result<(), StoreFault>
         ensures refused { IfErr result (λ fault. self.new.host.commits.fault ≡ Some fault) }
-        ensures goes { Goes S.disk R.Stream.contents R.Stream.remaining self.old.host.broker self.new.host.broker }
+        ensures goes { Goes S.disk R.Stream.contents R.Stream.remaining self.old.host self.new.host }
     {
         self.hand_on(alloc, turn);
         self.hear_speakers();
@@ -142,7 +143,7 @@ impl<R: Net, S: Store, L: PartitionLog + Drop> Edge<R, S, L> {
     fn serve(&mut self, alloc: Global, turn: &mut Turn)
         requires { tells_at_once self.old.host.commits ≡ true }
         ensures commits { tells_at_once self.new.host.commits ≡ true }
-        ensures goes { Goes S.disk R.Stream.contents R.Stream.remaining self.old.host.broker self.new.host.broker }
+        ensures goes { Goes S.disk R.Stream.contents R.Stream.remaining self.old.host self.new.host }
     {
         for _ in 0..ROUND {
             let Some(number) = self.line.next() else {
@@ -174,7 +175,10 @@ impl<R: Net, S: Store, L: PartitionLog + Drop> Edge<R, S, L> {
     fn serve_one(&mut self, alloc: Global, number: u64, turn: &mut Turn)
         requires { tells_at_once self.old.host.commits ≡ true }
         ensures commits { tells_at_once self.new.host.commits ≡ true }
-        ensures goes { Goes S.disk R.Stream.contents R.Stream.remaining self.old.host.broker self.new.host.broker }
+        // Nothing is handed on where its holder has too much that is unread.
+        ensures unasked { has_room (place_of number self.old.shares) 1 self.old.replies.pool ≡ false
+            → self.new.host.broker.store ≡ self.old.host.broker.store }
+        ensures goes { Goes S.disk R.Stream.contents R.Stream.remaining self.old.host self.new.host }
     {
         let may_ask = self.may_ask(number);
         let most = self.longest_request(number);
@@ -206,17 +210,28 @@ impl<R: Net, S: Store, L: PartitionLog + Drop> Edge<R, S, L> {
     /// and those that were not asked come first in the next turn.
     #[tactic(auto, using(crate::proofs::Goes::goes_then, crate::proofs::Goes::goes_none))]
     fn hand_on(&mut self, alloc: Global, turn: &mut Turn)
-        ensures { Goes S.disk R.Stream.contents R.Stream.remaining self.old.host.broker self.new.host.broker }
+        ensures { Goes S.disk R.Stream.contents R.Stream.remaining self.old.host self.new.host }
     {
         self.line_up(alloc, true);
         for _ in 0..TOGETHER {
             let Some(number) = self.line.next() else {
                 break;
             };
-            let may_ask = self.may_ask(number);
-            self.hand_on_one(alloc, number, may_ask, turn);
-            self.put_in_line(number, may_ask);
+            self.hand_on_next(alloc, number, turn);
         }
+    }
+
+    /// The same for the one whose turn it is.
+    #[tactic(auto, using(crate::proofs::Goes::goes_then, crate::proofs::Goes::goes_none))]
+    fn hand_on_next(&mut self, alloc: Global, number: u64, turn: &mut Turn)
+        // Nothing is handed on where its holder has too much that is unread.
+        ensures unasked { has_room (place_of number self.old.shares) 1 self.old.replies.pool ≡ false
+            → self.new.host.broker.store ≡ self.old.host.broker.store }
+        ensures goes { Goes S.disk R.Stream.contents R.Stream.remaining self.old.host self.new.host }
+    {
+        let may_ask = self.may_ask(number);
+        self.hand_on_one(alloc, number, may_ask, turn);
+        self.put_in_line(number, may_ask);
     }
 
     /// A socket that was asked comes behind all that were not.
@@ -236,7 +251,8 @@ impl<R: Net, S: Store, L: PartitionLog + Drop> Edge<R, S, L> {
     /// Hands on a request of the socket of a connection, where it may ask.
     #[tactic(auto, using(crate::proofs::Goes::goes_then, crate::proofs::Goes::goes_none, crate::proofs::Goes::goes_carried))]
     fn hand_on_one(&mut self, alloc: Global, number: u64, may_ask: bool, turn: &mut Turn)
-        ensures { Goes S.disk R.Stream.contents R.Stream.remaining self.old.host.broker self.new.host.broker }
+        ensures unasked { may_ask ≡ false → self.new.host.broker.store ≡ self.old.host.broker.store }
+        ensures goes { Goes S.disk R.Stream.contents R.Stream.remaining self.old.host self.new.host }
     {
         let most = self.longest_request(number);
         let Some(place) = self.place_of(number) else {
@@ -270,7 +286,7 @@ impl<R: Net, S: Store, L: PartitionLog + Drop> Edge<R, S, L> {
     fn tell(&mut self, alloc: Global, turn: &mut Turn)
         requires { may_tell self.old.host.commits ≡ true }
         ensures commits { self.new.host.commits ≡ self.old.host.commits }
-        ensures goes { Goes S.disk R.Stream.contents R.Stream.remaining self.old.host.broker self.new.host.broker }
+        ensures goes { Goes S.disk R.Stream.contents R.Stream.remaining self.old.host self.new.host }
     {
         let spare = mem::replace(&mut self.spare, Vec::new(alloc));
         let mut round = mem::replace(&mut self.ready, spare);
@@ -285,7 +301,7 @@ impl<R: Net, S: Store, L: PartitionLog + Drop> Edge<R, S, L> {
     #[tactic(auto, using(crate::proofs::Goes::goes_then, crate::proofs::Goes::goes_none))]
     fn tell_asked(&mut self, alloc: Global, turn: &mut Turn)
         requires { may_tell self.old.host.commits ≡ true }
-        ensures { Goes S.disk R.Stream.contents R.Stream.remaining self.old.host.broker self.new.host.broker }
+        ensures { Goes S.disk R.Stream.contents R.Stream.remaining self.old.host self.new.host }
     {
         let mut round = mem::replace(&mut self.asked, Vec::new(alloc));
         for number in &round {
@@ -300,7 +316,7 @@ impl<R: Net, S: Store, L: PartitionLog + Drop> Edge<R, S, L> {
     fn tell_one(&mut self, alloc: Global, number: u64, turn: &mut Turn)
         requires { may_tell self.old.host.commits ≡ true }
         ensures commits { self.new.host.commits ≡ self.old.host.commits }
-        ensures goes { Goes S.disk R.Stream.contents R.Stream.remaining self.old.host.broker self.new.host.broker }
+        ensures goes { Goes S.disk R.Stream.contents R.Stream.remaining self.old.host self.new.host }
     {
         let Some(place) = self.place_of(number) else {
             return;
@@ -350,7 +366,8 @@ impl<R: Net, S: Store, L: PartitionLog + Drop> Edge<R, S, L> {
     #[tactic(auto, using(crate::proofs::Goes::goes_then, crate::proofs::Goes::goes_none))]
     fn note(&mut self, alloc: Global, place: usize, before: Before, next: Next, turn: &mut Turn)
         ensures commits { self.new.host.commits ≡ self.old.host.commits }
-        ensures goes { Goes S.disk R.Stream.contents R.Stream.remaining self.old.host.broker self.new.host.broker }
+        ensures store { self.new.host.broker.store ≡ self.old.host.broker.store }
+        ensures goes { Goes S.disk R.Stream.contents R.Stream.remaining self.old.host self.new.host }
     {
         self.note_served(place, before);
         if !self.note_denied(alloc, place, turn) {
@@ -402,7 +419,8 @@ impl<R: Net, S: Store, L: PartitionLog + Drop> Edge<R, S, L> {
     #[tactic(auto, using(crate::proofs::Goes::goes_then, crate::proofs::Goes::goes_none))]
     fn note_denied(&mut self, alloc: Global, place: usize, turn: &mut Turn) -> bool
         ensures commits { self.new.host.commits ≡ self.old.host.commits }
-        ensures goes { Goes S.disk R.Stream.contents R.Stream.remaining self.old.host.broker self.new.host.broker }
+        ensures store { self.new.host.broker.store ≡ self.old.host.broker.store }
+        ensures goes { Goes S.disk R.Stream.contents R.Stream.remaining self.old.host self.new.host }
     {
         let Some(socket) = self.sockets.get_mut(place) else {
             return false;
@@ -424,10 +442,11 @@ impl<R: Net, S: Store, L: PartitionLog + Drop> Edge<R, S, L> {
     #[tactic(auto, using(crate::proofs::Goes::goes_then, crate::proofs::Goes::goes_none))]
     fn note_written(&mut self, alloc: Global, place: usize, before: Before, turn: &mut Turn) -> bool
         ensures commits { self.new.host.commits ≡ self.old.host.commits }
+        ensures store { self.new.host.broker.store ≡ self.old.host.broker.store }
         ensures booked { result ≡ true → IfSome (slice_get self.old.sockets.items place) (λ s. self.new.replies
             ≡ set_to s.connection (place_of s.connection self.old.shares)
             (kept_for (vec_len s.output - s.written) before.promised) self.old.replies) }
-        ensures goes { Goes S.disk R.Stream.contents R.Stream.remaining self.old.host.broker self.new.host.broker }
+        ensures goes { Goes S.disk R.Stream.contents R.Stream.remaining self.old.host self.new.host }
     {
         let Some(socket) = self.sockets.get_mut(place) else {
             return false;
@@ -456,9 +475,10 @@ impl<R: Net, S: Store, L: PartitionLog + Drop> Edge<R, S, L> {
     #[tactic(auto, using(crate::proofs::Goes::goes_then, crate::proofs::Goes::goes_none))]
     fn note_input(&mut self, alloc: Global, place: usize, before: Before, turn: &mut Turn) -> bool
         ensures commits { self.new.host.commits ≡ self.old.host.commits }
+        ensures store { self.new.host.broker.store ≡ self.old.host.broker.store }
         ensures booked { result ≡ true → IfSome (slice_get self.old.sockets.items place) (λ s. self.new.inputs
             ≡ set_to s.connection (place_of s.connection self.old.shares) s.input.progress.size self.old.inputs) }
-        ensures goes { Goes S.disk R.Stream.contents R.Stream.remaining self.old.host.broker self.new.host.broker }
+        ensures goes { Goes S.disk R.Stream.contents R.Stream.remaining self.old.host self.new.host }
     {
         let Some(socket) = self.sockets.get_mut(place) else {
             return false;

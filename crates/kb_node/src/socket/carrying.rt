@@ -47,6 +47,9 @@ impl<T: Read + Write + Drop> Socket<T> {
         requires at_once { tells_at_once host.old.commits ≡ true }
         ensures carries { Carries S.disk T.contents T.remaining self.old self.new host.old.broker host.new.broker }
         ensures connection { self.new.connection ≡ self.old.connection }
+        ensures tried { host.new.tried ≡ host.old.tried }
+        // With nothing to be asked nothing is done but to tell what was said, and to close.
+        ensures unasked { may_ask ≡ false → host.new.broker.store ≡ host.old.broker.store }
         ensures at_once { tells_at_once host.new.commits ≡ true }
         // Where it has ended the broker was told, and its connection is not open.
         ensures ended { self.new.is_ended ≡ true → is_open self.old.connection host.new.broker.state ≡ false }
@@ -84,6 +87,7 @@ impl<T: Read + Write + Drop> Socket<T> {
         requires { self.now.is_ended ≡ false }
         ensures carries { Carries S.disk T.contents T.remaining self.old self.new host.old.broker host.new.broker }
         ensures connection { self.new.connection ≡ self.old.connection }
+        ensures tried { host.new.tried ≡ host.old.tried }
         ensures ended { self.new.is_ended ≡ self.old.is_ended }
         ensures numbers { numbers host.new.broker.state ≡ numbers host.old.broker.state }
         // With nothing to be asked the broker is not called.
@@ -113,6 +117,8 @@ impl<T: Read + Write + Drop> Socket<T> {
         requires may_tell { may_tell host.old.commits ≡ true }
         ensures carries { Carries S.disk T.contents T.remaining self.old self.new host.old.broker host.new.broker }
         ensures connection { self.new.connection ≡ self.old.connection }
+        ensures tried { host.new.tried ≡ host.old.tried }
+        ensures store { host.new.broker.store ≡ host.old.broker.store }
         ensures commits { host.new.commits ≡ host.old.commits }
         // Where it has ended the broker was told, and its connection is not open.
         ensures ended { self.new.is_ended ≡ true → is_open self.old.connection host.new.broker.state ≡ false }
@@ -139,6 +145,8 @@ impl<T: Read + Write + Drop> Socket<T> {
         requires { self.now.is_ended ≡ false }
         ensures carries { Carries S.disk T.contents T.remaining self.old self.new host.old.broker host.new.broker }
         ensures connection { self.new.connection ≡ self.old.connection }
+        ensures tried { host.new.tried ≡ host.old.tried }
+        ensures store { host.new.broker.store ≡ host.old.broker.store }
         ensures commits { host.new.commits ≡ host.old.commits }
         ensures ended { self.new.is_ended ≡ true → is_open self.old.connection host.new.broker.state ≡ false }
         ensures over { result ≡ End → self.new.is_ended ≡ true }
@@ -241,6 +249,8 @@ impl<T: Read + Write + Drop> Socket<T> {
     )
         ensures carries { Carries S.disk T.contents T.remaining self.old self.new host.old.broker host.new.broker }
         ensures connection { self.new.connection ≡ self.old.connection }
+        ensures tried { host.new.tried ≡ host.old.tried }
+        ensures store { host.new.broker.store ≡ host.old.broker.store }
         ensures commits { host.new.commits ≡ host.old.commits }
         ensures ended { self.new.is_ended ≡ true }
         ensures closed { is_open self.old.connection host.new.broker.state ≡ false }
@@ -261,6 +271,8 @@ impl<T: Read + Write + Drop> Socket<T> {
             (vec_len self.now.output - self.now.written) self.now.connection host.now.broker.state ≡ true }
         ensures carries { Carries S.disk T.contents T.remaining self.old self.new host.old.broker host.new.broker }
         ensures connection { self.new.connection ≡ self.old.connection }
+        ensures tried { host.new.tried ≡ host.old.tried }
+        ensures store { host.new.broker.store ≡ host.old.broker.store }
         ensures commits { host.new.commits ≡ host.old.commits }
         ensures ended { self.new.is_ended ≡ true }
         ensures closed { is_open self.old.connection host.new.broker.state ≡ false }
@@ -285,6 +297,8 @@ impl<T: Read + Write + Drop> Socket<T> {
         requires may_tell { may_tell host.old.commits ≡ true }
         ensures carries { Carries S.disk T.contents T.remaining self.old self.new host.old.broker host.new.broker }
         ensures connection { self.new.connection ≡ self.old.connection }
+        ensures tried { host.new.tried ≡ host.old.tried }
+        ensures store { host.new.broker.store ≡ host.old.broker.store }
         ensures commits { host.new.commits ≡ host.old.commits }
         ensures ended { self.new.is_ended ≡ self.old.is_ended }
         ensures numbers { numbers host.new.broker.state ≡ numbers host.old.broker.state }
@@ -311,6 +325,8 @@ impl<T: Read + Write + Drop> Socket<T> {
         requires may_answer { is_held self.now.may_answer self.now.connection host.now.broker.state ≡ false }
         ensures carries { Carries S.disk T.contents T.remaining self.old self.new host.old.broker host.new.broker }
         ensures connection { self.new.connection ≡ self.old.connection }
+        ensures tried { host.new.tried ≡ host.old.tried }
+        ensures store { host.new.broker.store ≡ host.old.broker.store }
         ensures commits { host.new.commits ≡ host.old.commits }
         ensures ended { self.new.is_ended ≡ self.old.is_ended }
         ensures unwritten { self.new.written ≡ 0 }

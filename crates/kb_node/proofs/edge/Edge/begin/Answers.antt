@@ -1,6 +1,10 @@
-use Rattle.std.proofs.Common.{◌∙◌}
+use Rattle.std.proofs.Common.{◌∙◌, ap}
 use Rattle.kb_node.proofs.Goes.{happens_same}
 use Rattle.kb_node.proofs.edge.Edge.begin.Goals as goal
 
-pub returns : goal.returns
-returns g c = happens_same (c.hear_all.ensures ∙ c.answer_denied.ensures ∙ c.hear_speakers.ensures) c.moment.ensures.happens
+pub returns-clause-moment : goal.returns-clause-moment
+returns-clause-moment g c = happens_same (c.hear_all.ensures ∙ c.answer_denied.ensures ∙ c.hear_speakers.ensures) c.moment.ensures.happens
+
+pub returns-clause-tried : goal.returns-clause-tried
+returns-clause-tried g c =
+    ap (λ h. h.tried) (c.hear_all.ensures ∙ c.answer_denied.ensures ∙ c.hear_speakers.ensures) ∙ c.moment.ensures.tried

@@ -3,4 +3,4 @@ use Rattle.kb_node.proofs.edge.Edge.close_unread.Given as goal
 
 -- deeds without a moment lead here
 abbrev pub invariant-loop : goal.invariant-loop
-invariant-loop g l = Goes g.S.Store.disk g.R.Stream.Write.contents g.R.Stream.Read.remaining l.fn.self.host.broker l.self.host.broker
+invariant-loop g l = Goes g.S.Store.disk g.R.Stream.Write.contents g.R.Stream.Read.remaining l.fn.self.host l.self.host

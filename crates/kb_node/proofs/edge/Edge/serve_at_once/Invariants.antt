@@ -5,4 +5,4 @@ use Rattle.kb_node.proofs.edge.Edge.serve_at_once.Given as goal
 
 -- replies may go out whatever is handed on, and deeds without a moment lead here
 abbrev pub invariant-loop : goal.invariant-loop
-invariant-loop g l = (tells_at_once l.self.host.commits ≡ true) × Goes g.S.Store.disk g.R.Stream.Write.contents g.R.Stream.Read.remaining l.fn.self.host.broker l.self.host.broker
+invariant-loop g l = (tells_at_once l.self.host.commits ≡ true) × Goes g.S.Store.disk g.R.Stream.Write.contents g.R.Stream.Read.remaining l.fn.self.host l.self.host

@@ -5,4 +5,4 @@ use Rattle.kb_node.proofs.edge.Edge.tell_asked.Given as goal
 
 -- replies may go out, and deeds without a moment lead here
 abbrev pub invariant-loop-number : goal.invariant-loop-number
-invariant-loop-number g l = (may_tell l.self.host.commits ≡ true) × Goes g.S.Store.disk g.R.Stream.Write.contents g.R.Stream.Read.remaining l.fn.self.host.broker l.self.host.broker
+invariant-loop-number g l = (may_tell l.self.host.commits ≡ true) × Goes g.S.Store.disk g.R.Stream.Write.contents g.R.Stream.Read.remaining l.fn.self.host l.self.host

@@ -15,6 +15,9 @@ use Rattle.kb_api_data.specs.Layouts.{delete_records_reply, fetch_partition_v5, 
 use Rattle.kb_api_data.specs.Layouts.{fetch_topic_reply_v5, fetch_reply_v5, metadata_request_v0, metadata_request_v4, metadata_broker_v0}
 use Rattle.kb_api_data.specs.Layouts.{metadata_topic_v0, metadata_reply_v0, metadata_reply_v2, metadata_reply_v3, create_topics_request_v1}
 use Rattle.kb_api_data.specs.Layouts.{create_topic_reply_v1, create_topics_reply_v1, delete_topics_reply_v1}
+use Rattle.kb_api_data.specs.Layouts.{config_resource, describe_configs_request, described_config, described_resource, describe_configs_reply}
+use Rattle.kb_api_data.specs.Layouts.{describe_configs_request_v1, config_synonym, described_config_v1, described_resource_v1}
+use Rattle.kb_api_data.specs.Layouts.{describe_configs_reply_v1}
 
 pub produce_partition_lawful : IsLawful produce_partition
 unfolding produce_partition
@@ -288,3 +291,54 @@ create_topics_reply_v1_lawful = via_lawful _ _ (array_lawful _ create_topic_repl
 pub delete_topics_reply_v1_lawful : IsLawful delete_topics_reply_v1
 unfolding delete_topics_reply_v1
 delete_topics_reply_v1_lawful = via_lawful _ _ (pair_lawful int32_lawful (array_lawful _ delete_topic_reply_lawful)) (λ _. refl) (λ _. refl)
+
+pub config_resource_lawful : IsLawful config_resource
+unfolding config_resource
+config_resource_lawful = via_lawful _ _
+    (pair_lawful int8_lawful (pair_lawful string_lawful (nullable_array_lawful _ string_lawful))) (λ _. refl) (λ _. refl)
+
+pub describe_configs_request_lawful : IsLawful describe_configs_request
+unfolding describe_configs_request
+describe_configs_request_lawful = via_lawful _ _ (array_lawful _ config_resource_lawful) (λ _. refl) (λ _. refl)
+
+pub described_config_lawful : IsLawful described_config
+unfolding described_config
+described_config_lawful = via_lawful _ _
+    (pair_lawful string_lawful (pair_lawful nullable_string_lawful (pair_lawful boolean_lawful
+    (pair_lawful boolean_lawful boolean_lawful)))) (λ _. refl) (λ _. refl)
+
+pub described_resource_lawful : IsLawful described_resource
+unfolding described_resource
+described_resource_lawful = via_lawful _ _
+    (pair_lawful int16_lawful (pair_lawful nullable_string_lawful (pair_lawful int8_lawful
+    (pair_lawful string_lawful (array_lawful _ described_config_lawful))))) (λ _. refl) (λ _. refl)
+
+pub describe_configs_reply_lawful : IsLawful describe_configs_reply
+unfolding describe_configs_reply
+describe_configs_reply_lawful = via_lawful _ _ (pair_lawful int32_lawful (array_lawful _ described_resource_lawful)) (λ _. refl) (λ _. refl)
+
+pub describe_configs_request_v1_lawful : IsLawful describe_configs_request_v1
+unfolding describe_configs_request_v1
+describe_configs_request_v1_lawful = via_lawful _ _
+    (pair_lawful (array_lawful _ config_resource_lawful) boolean_lawful) (λ _. refl) (λ _. refl)
+
+pub config_synonym_lawful : IsLawful config_synonym
+unfolding config_synonym
+config_synonym_lawful = via_lawful _ _ (pair_lawful string_lawful (pair_lawful nullable_string_lawful int8_lawful)) (λ _. refl) (λ _. refl)
+
+pub described_config_v1_lawful : IsLawful described_config_v1
+unfolding described_config_v1
+described_config_v1_lawful = via_lawful _ _
+    (pair_lawful string_lawful (pair_lawful nullable_string_lawful (pair_lawful boolean_lawful
+    (pair_lawful int8_lawful (pair_lawful boolean_lawful (array_lawful _ config_synonym_lawful)))))) (λ _. refl) (λ _. refl)
+
+pub described_resource_v1_lawful : IsLawful described_resource_v1
+unfolding described_resource_v1
+described_resource_v1_lawful = via_lawful _ _
+    (pair_lawful int16_lawful (pair_lawful nullable_string_lawful (pair_lawful int8_lawful
+    (pair_lawful string_lawful (array_lawful _ described_config_v1_lawful))))) (λ _. refl) (λ _. refl)
+
+pub describe_configs_reply_v1_lawful : IsLawful describe_configs_reply_v1
+unfolding describe_configs_reply_v1
+describe_configs_reply_v1_lawful = via_lawful _ _
+    (pair_lawful int32_lawful (array_lawful _ described_resource_v1_lawful)) (λ _. refl) (λ _. refl)

@@ -59,6 +59,16 @@ use Rattle.kb_api_data.specs.declared.create_topics_v1.CreateTopicsRequestV1.{Cr
 use Rattle.kb_api_data.specs.declared.create_topics_v1.CreateTopicReplyV1.{CreateTopicReplyV1}
 use Rattle.kb_api_data.specs.declared.create_topics_v1.CreateTopicsReplyV1.{CreateTopicsReplyV1}
 use Rattle.kb_api_data.specs.declared.delete_topics_v1.DeleteTopicsReplyV1.{DeleteTopicsReplyV1}
+use Rattle.kb_api_data.specs.declared.describe_configs.ConfigResource.{ConfigResource}
+use Rattle.kb_api_data.specs.declared.describe_configs.DescribeConfigsRequest.{DescribeConfigsRequest}
+use Rattle.kb_api_data.specs.declared.describe_configs.DescribedConfig.{DescribedConfig}
+use Rattle.kb_api_data.specs.declared.describe_configs.DescribedResource.{DescribedResource}
+use Rattle.kb_api_data.specs.declared.describe_configs.DescribeConfigsReply.{DescribeConfigsReply}
+use Rattle.kb_api_data.specs.declared.describe_configs_v1.DescribeConfigsRequestV1.{DescribeConfigsRequestV1}
+use Rattle.kb_api_data.specs.declared.describe_configs_v1.ConfigSynonym.{ConfigSynonym}
+use Rattle.kb_api_data.specs.declared.describe_configs_v1.DescribedConfigV1.{DescribedConfigV1}
+use Rattle.kb_api_data.specs.declared.describe_configs_v1.DescribedResourceV1.{DescribedResourceV1}
+use Rattle.kb_api_data.specs.declared.describe_configs_v1.DescribeConfigsReplyV1.{DescribeConfigsReplyV1}
 
 -- A partition, in a request of Produce.
 unfoldable pub produce_partition : Codec ProducePartition
@@ -375,3 +385,77 @@ create_topics_reply_v1 = via (λ p. record { topics = p }) (λ v. v.topics) (arr
 unfoldable pub delete_topics_reply_v1 : Codec DeleteTopicsReplyV1
 delete_topics_reply_v1 =
     via (λ p. record { throttle_time_ms = p.0; topics = p.1 }) (λ v. (v.throttle_time_ms, v.topics)) (int32 ⊗ array delete_topic_reply)
+
+-- A resource, in a request of DescribeConfigs.
+unfoldable pub config_resource : Codec ConfigResource
+config_resource = via (λ p. record { resource_type = p.0; resource_name = p.1.0; configuration_keys = p.1.1 }) (λ v.
+    (v.resource_type, (v.resource_name, v.configuration_keys))) (int8 ⊗ string ⊗ nullable_array string)
+
+-- A request of DescribeConfigs, version 0.
+unfoldable pub describe_configs_request : Codec DescribeConfigsRequest
+describe_configs_request = via (λ p. record { resources = p }) (λ v. v.resources) (array config_resource)
+
+-- A setting, in the reply of DescribeConfigs.
+unfoldable pub described_config : Codec DescribedConfig
+described_config = via (λ p. record {
+  name = p.0;
+  value = p.1.0;
+  read_only = p.1.1.0;
+  is_default = p.1.1.1.0;
+  is_sensitive = p.1.1.1.1;
+}) (λ v. (v.name, (v.value, (v.read_only, (v.is_default, v.is_sensitive)))))
+    (string ⊗ nullable_string ⊗ boolean ⊗ boolean ⊗ boolean)
+
+-- A resource, in the reply of DescribeConfigs.
+unfoldable pub described_resource : Codec DescribedResource
+described_resource = via (λ p. record {
+  error_code = p.0;
+  error_message = p.1.0;
+  resource_type = p.1.1.0;
+  resource_name = p.1.1.1.0;
+  configs = p.1.1.1.1;
+}) (λ v. (v.error_code, (v.error_message, (v.resource_type, (v.resource_name, v.configs)))))
+    (int16 ⊗ nullable_string ⊗ int8 ⊗ string ⊗ array described_config)
+
+-- The reply of DescribeConfigs, version 0.
+unfoldable pub describe_configs_reply : Codec DescribeConfigsReply
+describe_configs_reply =
+    via (λ p. record { throttle_time_ms = p.0; results = p.1 }) (λ v. (v.throttle_time_ms, v.results)) (int32 ⊗ array described_resource)
+
+-- A request of DescribeConfigs, versions 1 and 2.
+unfoldable pub describe_configs_request_v1 : Codec DescribeConfigsRequestV1
+describe_configs_request_v1 =
+    via (λ p. record { resources = p.0; include_synonyms = p.1 }) (λ v. (v.resources, v.include_synonyms)) (array config_resource ⊗ boolean)
+
+-- Another setting that a setting may have its value from, in the reply of DescribeConfigs, versions 1 and 2.
+unfoldable pub config_synonym : Codec ConfigSynonym
+config_synonym =
+    via (λ p. record { name = p.0; value = p.1.0; source = p.1.1 }) (λ v. (v.name, (v.value, v.source))) (string ⊗ nullable_string ⊗ int8)
+
+-- A setting, in the reply of DescribeConfigs, versions 1 and 2.
+unfoldable pub described_config_v1 : Codec DescribedConfigV1
+described_config_v1 = via (λ p. record {
+  name = p.0;
+  value = p.1.0;
+  read_only = p.1.1.0;
+  config_source = p.1.1.1.0;
+  is_sensitive = p.1.1.1.1.0;
+  synonyms = p.1.1.1.1.1;
+}) (λ v. (v.name, (v.value, (v.read_only, (v.config_source, (v.is_sensitive, v.synonyms))))))
+    (string ⊗ nullable_string ⊗ boolean ⊗ int8 ⊗ boolean ⊗ array config_synonym)
+
+-- A resource, in the reply of DescribeConfigs, versions 1 and 2.
+unfoldable pub described_resource_v1 : Codec DescribedResourceV1
+described_resource_v1 = via (λ p. record {
+  error_code = p.0;
+  error_message = p.1.0;
+  resource_type = p.1.1.0;
+  resource_name = p.1.1.1.0;
+  configs = p.1.1.1.1;
+}) (λ v. (v.error_code, (v.error_message, (v.resource_type, (v.resource_name, v.configs)))))
+    (int16 ⊗ nullable_string ⊗ int8 ⊗ string ⊗ array described_config_v1)
+
+-- The reply of DescribeConfigs, versions 1 and 2.
+unfoldable pub describe_configs_reply_v1 : Codec DescribeConfigsReplyV1
+describe_configs_reply_v1 =
+    via (λ p. record { throttle_time_ms = p.0; results = p.1 }) (λ v. (v.throttle_time_ms, v.results)) (int32 ⊗ array described_resource_v1)

@@ -1,4 +1,6 @@
 pub mod Both
 pub mod FetchRecords
+pub mod FetchSession
 pub mod Layouts
 pub mod Lawful
+pub mod ProduceV5

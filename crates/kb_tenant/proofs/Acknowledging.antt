@@ -5,13 +5,13 @@ use Rattle.std.specs.List.{flat_map}
 use Rattle.std.proofs.lemmas.List.{take_all, take_more}
 use Rattle.std.proofs.lemmas.Grind.{flat_map-append}
 use Rattle.kb_wire.specs.Codec.{count, int32, string, whole}
-use Rattle.kb_api_data.specs.Layouts.{produce_partition_reply, produce_topic_reply, produce_reply, produce_request}
-use Rattle.kb_api_data.specs.declared.produce.ProduceReply.{ProduceReply}
+use Rattle.kb_api_data.specs.Layouts.{produce_request}
+use Rattle.kb_api_data.specs.declared.produce_v5.ProduceReplyV5.{ProduceReplyV5}
 use Rattle.kb_api_data.specs.declared.produce.ProduceRequest.{ProduceRequest}
 use Rattle.kb_api_data.specs.declared.produce.ProduceTopic.{ProduceTopic}
-use Rattle.kb_api_data.specs.declared.produce.ProduceTopicReply.{ProduceTopicReply}
+use Rattle.kb_api_data.specs.declared.produce_v5.ProduceTopicReplyV5.{ProduceTopicReplyV5}
 use Rattle.kb_api_data.specs.declared.produce.ProducePartition.{ProducePartition}
-use Rattle.kb_api_data.specs.declared.produce.ProducePartitionReply.{ProducePartitionReply}
+use Rattle.kb_api_data.specs.declared.produce_v5.ProducePartitionReplyV5.{ProducePartitionReplyV5}
 use Rattle.kb_store.specs.Disk.{Grew}
 use Rattle.kb_tenant_state.specs.Scene.{Scene, WhereHonest}
 use Rattle.kb_tenant_state.specs.Parts.{Seen}
@@ -21,6 +21,7 @@ use Rattle.kb_tenant_state.specs.World.{World}
 use Rattle.kb_tenant_state.specs.declared.topic_partition.TopicPartition.{TopicPartition}
 use Rattle.kb_topics.specs.Known.{named}
 use Rattle.kb_tenant.specs.Produce.{Progress, answer, is_due, progress, refusal_of, reply_bytes, entry_served, where_due}
+use Rattle.kb_tenant.specs.Produce.{entry_written, produced_in, reply_written, tells_starts, topic_written}
 use Rattle.kb_tenant.specs.Replies.{begun, IsAnswer, Replies}
 use Rattle.kb_tenant.specs.Room.{length_due, reply_length, IsLonger}
 use Rattle.kb_tenant.specs.Told.{FailedBy, HasFailed, IsAcknowledged, IsAppendWant, IsEntryTold, IsProduceTold, IsReplied, IsSpared, IsTold, IsTopicTold, IsWanting}
@@ -90,12 +91,12 @@ failed_in before now next first last early since until later failed = ⊎_elim (
 
 -- ---- one entry
 
-wanting : (failed : Type 0) (a b : Scene Seen) (old new : List TopicPartition) (e : ProducePartition) (x : ProducePartitionReply)
+wanting : (failed : Type 0) (a b : Scene Seen) (old new : List TopicPartition) (e : ProducePartition) (x : ProducePartitionReplyV5)
     → (WhereHonest a b (HasFailed a b) → failed) → IsAppendWant a b old new x.error_code × (x ≡ answer e.index (Err x.error_code)) → IsWanting failed e x
 wanting failed a b old new e x cause want =
     ⊎_elim (λ store. inl (want.1 ∙ ap (λ code. answer e.index (Err code)) store.0, cause store.1)) (λ memory. inr (want.1 ∙ ap (λ code. answer e.index (Err code)) memory)) want.0.0
 
-pub entry_told_so : (before now next : ℕ) (a b : Scene Seen) (old new : List TopicPartition) (limit : Option ℕ) (refusal : Option ℤ) (topic : Option ℕ) (e : ProducePartition) (x : ProducePartitionReply)
+pub entry_told_so : (before now next : ℕ) (a b : Scene Seen) (old new : List TopicPartition) (limit : Option ℕ) (refusal : Option ℤ) (topic : Option ℕ) (e : ProducePartition) (x : ProducePartitionReplyV5)
     → IsStep a b → before ≤ a.disk.failures → b.disk.failures ≤ now → b.next ≤ next
     → IsTold a b ((progress b.state.world new, x) ≡ entry_served limit refusal topic (progress a.state.world old) e) (IsAppendWant a b old new x.error_code × (x ≡ answer e.index (Err x.error_code)))
     → WhereHonest a b (IsEntryTold (FailedBy before now next) limit refusal topic (progress a.state.world old) e (progress b.state.world new) x)
@@ -107,39 +108,39 @@ entry_told_so before now next a b old new limit refusal topic e x step since unt
 -- ---- a topic, and the whole
 
 -- a topic's name, the count of its entries and what they were answered
-pub topic_told_so : (failed : Type 0) (due : Bool) (limit : Option ℕ) (refusal : Option ℤ) (topic : Option ℕ) (p q : Progress) (t : ProduceTopic) (name : List ℕ) (entries : List ProducePartition) (n : ℕ) (out out1 out2 out3 : List ℕ)
+pub topic_told_so : (failed : Type 0) (starts due : Bool) (limit : Option ℕ) (refusal : Option ℤ) (topic : Option ℕ) (p q : Progress) (t : ProduceTopic) (name : List ℕ) (entries : List ProducePartition) (n : ℕ) (out out1 out2 out3 : List ℕ)
     → name ≡ t.name → entries ≡ t.partitions → n ≡ length t.partitions → topic ≡ named t.name p.world.known.topics
     → out1 ≡ out ++ where_due due (string.written name) → out2 ≡ out1 ++ where_due due ((count w32).written n)
-    → (replies : List ProducePartitionReply) × ((out3 ≡ out2 ++ flat_map (λ x. where_due due (produce_partition_reply.written x)) replies) × AreServed (IsEntryTold failed limit refusal topic) p entries q replies)
-    → (reply : ProduceTopicReply) × ((out3 ≡ out ++ where_due due (produce_topic_reply.written reply)) × IsTopicTold failed limit refusal p t q reply)
-topic_told_so failed due limit refusal topic p q t name entries n out out1 out2 out3 nis eis lis tis first second told =
+    → (replies : List ProducePartitionReplyV5) × ((out3 ≡ out2 ++ flat_map (λ x. where_due due (entry_written starts x)) replies) × AreServed (IsEntryTold failed limit refusal topic) p entries q replies)
+    → (reply : ProduceTopicReplyV5) × ((out3 ≡ out ++ where_due due (topic_written starts reply)) × IsTopicTold failed limit refusal p t q reply)
+topic_told_so failed starts due limit refusal topic p q t name entries n out out1 out2 out3 nis eis lis tis first second told =
     let instance = named t.name p.world.known.topics in
-    let replies : List ProducePartitionReply = told.0 in
-    let write : ProducePartitionReply → List ℕ = λ x. where_due due (produce_partition_reply.written x) in
+    let replies : List ProducePartitionReplyV5 = told.0 in
+    let write : ProducePartitionReplyV5 → List ℕ = λ x. where_due due (entry_written starts x) in
     let told_of : AreServed (IsEntryTold failed limit refusal instance) p t.partitions q replies =
     subst (λ es. AreServed (IsEntryTold failed limit refusal instance) p es q replies) eis (subst (λ i. AreServed (IsEntryTold failed limit refusal i) p entries q replies) tis told.1.1) in
     let many : n ≡ length replies = lis ∙ sym (served_length (IsEntryTold failed limit refusal instance) p q t.partitions replies told_of) in
     let before : out2 ≡ (out ++ where_due due (string.written t.name)) ++ where_due due ((count w32).written n) =
     second ∙ ap (λ l. l ++ where_due due ((count w32).written n)) (first ∙ ap (λ m. out ++ where_due due (string.written m)) nis) in
-    (record { name = t.name; partitions = replies }, (told.1.0 ∙ ap (λ l. l ++ flat_map write replies) before ∙ topic_bytes due t.name n replies out many, (refl, told_of)))
+    (record { name = t.name; partitions = replies }, (told.1.0 ∙ ap (λ l. l ++ flat_map write replies) before ∙ topic_bytes starts due t.name n replies out many, (refl, told_of)))
 
 -- the count of the topics, what they were answered, and the throttle time
-pub produce_told_so : (failed : Type 0) (limit : Option ℕ) (terms : Terms) (request : ProduceRequest) (p q : Progress) (n : ℕ) (out out1 out2 out3 : List ℕ)
-    → terms.refusal ≡ refusal_of request.transactional_id request.acks → terms.due ≡ is_due request.acks → n ≡ length request.topics
+pub produce_told_so : (failed : Type 0) (starts : Bool) (limit : Option ℕ) (terms : Terms) (request : ProduceRequest) (p q : Progress) (n : ℕ) (out out1 out2 out3 : List ℕ)
+    → terms.refusal ≡ refusal_of request.transactional_id request.acks → terms.due ≡ is_due request.acks → terms.has_starts ≡ starts → n ≡ length request.topics
     → out1 ≡ out ++ where_due terms.due ((count w32).written n)
-    → (replies : List ProduceTopicReply) × ((out2 ≡ out1 ++ flat_map (λ x. where_due terms.due (produce_topic_reply.written x)) replies) × AreServed (IsTopicTold failed limit terms.refusal) p request.topics q replies)
+    → (replies : List ProduceTopicReplyV5) × ((out2 ≡ out1 ++ flat_map (λ x. where_due terms.due (topic_written terms.has_starts x)) replies) × AreServed (IsTopicTold failed limit terms.refusal) p request.topics q replies)
     → out3 ≡ out2 ++ where_due terms.due (int32.written (pos 0))
-    → (reply : ProduceReply) × ((out3 ≡ out ++ reply_bytes request.acks reply) × IsProduceTold failed limit p request q reply)
-produce_told_so failed limit terms request p q n out out1 out2 out3 ris dis lis first told last =
+    → (reply : ProduceReplyV5) × ((out3 ≡ out ++ reply_bytes starts request.acks reply) × IsProduceTold failed limit p request q reply)
+produce_told_so failed starts limit terms request p q n out out1 out2 out3 ris dis sis lis first told last =
     let due : Bool = terms.due in
-    let replies : List ProduceTopicReply = told.0 in
-    let write : ProduceTopicReply → List ℕ = λ x. where_due due (produce_topic_reply.written x) in
+    let replies : List ProduceTopicReplyV5 = told.0 in
+    let write : ProduceTopicReplyV5 → List ℕ = λ x. where_due due (topic_written terms.has_starts x) in
     let told_of : AreServed (IsTopicTold failed limit (refusal_of request.transactional_id request.acks)) p request.topics q replies = subst (λ r. AreServed (IsTopicTold failed limit r) p request.topics q replies) ris told.1.1 in
     let many : n ≡ length replies = lis ∙ sym (served_length (IsTopicTold failed limit terms.refusal) p q request.topics replies told.1.1) in
-    let reply : ProduceReply = record { topics = replies; throttle_time_ms = pos 0 } in (
+    let reply : ProduceReplyV5 = record { topics = replies; throttle_time_ms = pos 0 } in (
       reply,
       (
-        last ∙ ap (λ l. l ++ where_due due (int32.written (pos 0))) (told.1.0 ∙ ap (λ l. l ++ flat_map write replies) first) ∙ reply_bytes_are due n replies out many ∙ ap (λ d. out ++ where_due d (produce_reply.written reply)) dis,
+        last ∙ ap (λ l. l ++ where_due due (int32.written (pos 0))) (told.1.0 ∙ ap (λ l. l ++ flat_map write replies) first) ∙ reply_bytes_are terms.has_starts due n replies out many ∙ ap (λ s. out ++ where_due due (reply_written s reply)) sis ∙ ap (λ d. out ++ where_due d (reply_written starts reply)) dis,
         (told_of, refl),
       ),
     )
@@ -153,19 +154,19 @@ honest_then a b d P Q p q first second honest agree =
 -- ---- the answer
 
 -- the reply is sent as it stands behind what was begun
-pub acknowledged_by : (failed : Type 0) (limit : Option ℕ) (id : ℤ) (w : World) (r : ProduceRequest) (v : World) (old new : List TopicPartition) (s t : List ℕ) (answer : Answer) → s ≡ begun id → is_due r.acks ≡ true → old ≡ []
-    → (reply : ProduceReply) × ((t ≡ s ++ reply_bytes r.acks reply) × IsProduceTold failed limit (progress w old) r (progress v new) reply)
-    → ((id : ℤ) (body : List ℕ) → t ≡ begun id ++ body → IsAnswer id (Replies body) answer) → IsAcknowledged failed limit id w r v new answer
-acknowledged_by failed limit id w r v old new s t answer from due none told made =
-    by answer (made id (produce_reply.written reply) (told.1.0 ∙ ap (λ d. s ++ where_due d (produce_reply.written reply)) due ∙ ap (λ b. b ++ produce_reply.written reply) from))
+pub acknowledged_by : (failed : Type 0) (limit : Option ℕ) (starts : Bool) (id version : ℤ) (w : World) (r : ProduceRequest) (v : World) (old new : List TopicPartition) (s t : List ℕ) (answer : Answer) → s ≡ begun id → is_due r.acks ≡ true → old ≡ [] → starts ≡ tells_starts version
+    → (reply : ProduceReplyV5) × ((t ≡ s ++ reply_bytes starts r.acks reply) × IsProduceTold failed limit (progress w old) r (progress v new) reply)
+    → ((id : ℤ) (body : List ℕ) → t ≡ begun id ++ body → IsAnswer id (Replies body) answer) → IsAcknowledged failed limit id version w r v new answer
+acknowledged_by failed limit starts id version w r v old new s t answer from due none form told made =
+    by answer (made id (produced_in version reply) (told.1.0 ∙ ap (λ d. s ++ where_due d (reply_written starts reply)) due ∙ ap (λ f. s ++ reply_written f reply) form ∙ ap (λ b. b ++ produced_in version reply) from))
   where
-    reply : ProduceReply
+    reply : ProduceReplyV5
     reply = told.0
 
     so : IsProduceTold failed limit (progress w []) r (progress v new) reply
     so = subst (λ places. IsProduceTold failed limit (progress w places) r (progress v new) reply) none told.1.1
 
-    by : (x : Answer) → IsAnswer id (Replies (produce_reply.written reply)) x → IsAcknowledged failed limit id w r v new x
+    by : (x : Answer) → IsAnswer id (Replies (produced_in version reply)) x → IsAcknowledged failed limit id version w r v new x
     by (answers.Reply bytes) h = (reply, (h.1, so))
     by (answers.Wait deadline kept keys) h = absurd h
     by answers.NoReply h = absurd h
@@ -183,14 +184,14 @@ replied_by id Told s t body answer from more told made = by answer (made id body
     by answers.Shut h = tt
 
 -- where the reply is not sent it is too long
-pub spared_by : (id : ℤ) (w : World) (body : List ℕ) (r : ProduceRequest) (v : World) (s t : List ℕ) (answer : Answer) → s ≡ begun id → is_due r.acks ≡ true → whole produce_request body ≡ Ok r
-    → IsLonger (length_due (is_due r.acks) (reply_length r)) s t → ((id : ℤ) (body : List ℕ) → t ≡ begun id ++ body → IsAnswer id (Replies body) answer) → IsSpared w body v answer
-spared_by id w body r v s t answer from due read longer made = by answer (made id longer.more (longer.is ∙ ap (λ b. b ++ longer.more) from))
+pub spared_by : (starts : Bool) (id version : ℤ) (w : World) (body : List ℕ) (r : ProduceRequest) (v : World) (s t : List ℕ) (answer : Answer) → s ≡ begun id → is_due r.acks ≡ true → whole produce_request body ≡ Ok r → starts ≡ tells_starts version
+    → IsLonger (length_due (is_due r.acks) (reply_length starts r)) s t → ((id : ℤ) (body : List ℕ) → t ≡ begun id ++ body → IsAnswer id (Replies body) answer) → IsSpared version w body v answer
+spared_by starts id version w body r v s t answer from due read form longer made = by answer (made id longer.more (longer.is ∙ ap (λ b. b ++ longer.more) from))
   where
-    long : length longer.more ≡ reply_length r
-    long = longer.many ∙ ap (λ d. length_due d (reply_length r)) due
+    long : length longer.more ≡ reply_length (tells_starts version) r
+    long = longer.many ∙ ap (λ d. length_due d (reply_length starts r)) due ∙ ap (λ f. reply_length f r) form
 
-    by : (x : Answer) → IsAnswer id (Replies longer.more) x → IsSpared w body v x
+    by : (x : Answer) → IsAnswer id (Replies longer.more) x → IsSpared version w body v x
     by (answers.Reply bytes) h = tt
     by (answers.Wait deadline kept keys) h = tt
     by answers.NoReply h = tt

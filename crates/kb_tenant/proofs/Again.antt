@@ -73,7 +73,7 @@ pub served_again : (node : Node) (w : World) (clock n : ℕ) (key version : ℤ)
     → fetch_answer (plainly_served node w clock n key version body).world clock r deadline ≡ None → places_of (plainly_served node w clock n key version body).world r ≡ places_of w r
 served_again node w clock n key version body r deadline tied own waits =
     by_request (λ (o : Outcome). fetch_answer o.world clock r deadline ≡ None → places_of o.world r ≡ places_of w r) node w clock n key version body (record {
-      produce = λ q read after. places_back w (of_produce node.limits.bytes w q).world ((produce_loses node.limits.bytes w q).before own) clock r deadline after;
+      produce = λ q read after. places_back w (of_produce version node.limits.bytes w q).world ((produce_loses node.limits.bytes w q).before own) clock r deadline after;
       fetch = λ q read after. refl;
       list_offsets = λ q read after. refl;
       metadata = λ q read after. refl;

@@ -1,22 +1,22 @@
 -- All that a group committed: what is counted, and what is written, one after another.
 use Rattle.std.proofs.Common.{◌≡◌, ◌∙◌, sym, ap, refl, ℕ, ◌+◌, List, [], ◌∷◌, ◌++◌, ◌≤◌, length, map, arith, w32}
-use Rattle.std.specs.Prelude.{ℤ, pos, Option}
+use Rattle.std.specs.Prelude.{ℤ, pos, Bool, Option}
 use Rattle.std.specs.List.{flat_map, range_with_len}
 use Rattle.std.proofs.lemmas.Grind.{flat_map-append}
 use Rattle.std.proofs.lemmas.List.{append-nil, length-append}
 use Rattle.std.proofs.lemmas.List.Folds.{flat_map-map}
 use Rattle.std.proofs.lemmas.List.FromFn.{map-range_with_len_more}
 use Rattle.kb_wire.specs.Codec.{array, count, string}
-use Rattle.kb_api_group.specs.Layouts.{offset_fetch_partition_reply, offset_fetch_topic_reply}
 use Rattle.kb_api_group.specs.declared.offset_fetch.OffsetFetchPartitionReply.{OffsetFetchPartitionReply}
 use Rattle.kb_api_group.specs.declared.offset_fetch.OffsetFetchTopicReply.{OffsetFetchTopicReply}
 use Rattle.kb_topics.specs.Known.{CommittedOffset, TopicState}
 use Rattle.kb_tenant_state.specs.Calls.{committed}
 use Rattle.kb_tenant_state.specs.World.{World}
 use Rattle.kb_tenant.specs.DeleteTopics.{place_at}
-use Rattle.kb_tenant.specs.OffsetFetch.{told_at, told_if, told_in, topic_if, topic_told}
+use Rattle.kb_tenant.specs.OffsetFetch.{partition_reply, told_at, told_if, told_in, topic_if, topic_reply, topic_told}
 use Rattle.kb_tenant.specs.Replies.{written_until}
 use Rattle.kb_tenant.proofs.Fitting.{array_written, written_both}
+use Rattle.kb_tenant.proofs.OffsetsKept.{topic_spelled}
 use Rattle.kb_tenant.proofs.Until.{until_first}
 
 -- what is told of the first numbers, and of one more
@@ -39,11 +39,11 @@ counted_more w group instance n k count o is one before =
     let all : length (told_in w group instance (n + 1)) ≡ length so_far + length here = ap length (more (told_at w group instance) n) ∙ length-append so_far here in
     ap (λ x. x + k) before ∙ ap (λ x. length so_far + x) (one ∙ ap (λ (x : Option CommittedOffset). length (told_if (pos n) x)) is) ∙ sym all
 
-pub in_more : (w : World) (group : List ℕ) (instance n : ℕ) (z : ℤ) (o : Option CommittedOffset) (old s t : List ℕ) → z ≡ pos n → o ≡ committed w (place_at instance n) group
-    → s ≡ old ++ flat_map offset_fetch_partition_reply.written (told_in w group instance n) → t ≡ s ++ flat_map offset_fetch_partition_reply.written (told_if z o)
-    → t ≡ old ++ flat_map offset_fetch_partition_reply.written (told_in w group instance (n + 1))
-in_more w group instance n z o old s t z_is o_is a b =
-    let write = offset_fetch_partition_reply.written in
+pub in_more : (epochs : Bool) (w : World) (group : List ℕ) (instance n : ℕ) (z : ℤ) (o : Option CommittedOffset) (old s t : List ℕ) → z ≡ pos n → o ≡ committed w (place_at instance n) group
+    → s ≡ old ++ flat_map (partition_reply epochs).written (told_in w group instance n) → t ≡ s ++ flat_map (partition_reply epochs).written (told_if z o)
+    → t ≡ old ++ flat_map (partition_reply epochs).written (told_in w group instance (n + 1))
+in_more epochs w group instance n z o old s t z_is o_is a b =
+    let write = (partition_reply epochs).written in
     let so_far = told_in w group instance n in
     let here : told_if z o ≡ told_at w group instance n = ap (λ y. told_if y o) z_is ∙ ap (told_if (pos n)) o_is in
     written_both old s t (flat_map write so_far) (flat_map write (told_if z o)) a b
@@ -60,18 +60,18 @@ pub topic_some : (name : List ℕ) (xs : List OffsetFetchPartitionReply) → (le
 topic_some name [] some = absurd (some refl)
 topic_some name (x ∷ xs) some = refl
 
-pub topic_written : (name : List ℕ) (xs : List OffsetFetchPartitionReply) (n : ℕ) (old s1 s2 s3 : List ℕ) → n ≡ length xs → (n ≡ 0 → ⊥)
-    → s1 ≡ old ++ string.written name → s2 ≡ s1 ++ (count w32).written n → s3 ≡ s2 ++ flat_map offset_fetch_partition_reply.written xs
-    → s3 ≡ old ++ flat_map offset_fetch_topic_reply.written (topic_if name xs)
-unfolding offset_fetch_topic_reply
-topic_written name xs n old s1 s2 s3 n_is some p q r =
-    let array_is = array_written offset_fetch_partition_reply xs n n_is in
-    let all = flat_map offset_fetch_partition_reply.written xs in
-    let parts = (array offset_fetch_partition_reply).written xs in
+pub topic_written : (epochs : Bool) (name : List ℕ) (xs : List OffsetFetchPartitionReply) (n : ℕ) (old s1 s2 s3 : List ℕ) → n ≡ length xs → (n ≡ 0 → ⊥)
+    → s1 ≡ old ++ string.written name → s2 ≡ s1 ++ (count w32).written n → s3 ≡ s2 ++ flat_map (partition_reply epochs).written xs
+    → s3 ≡ old ++ flat_map (topic_reply epochs).written (topic_if name xs)
+topic_written epochs name xs n old s1 s2 s3 n_is some p q r =
+    let array_is = array_written (partition_reply epochs) xs n n_is in
+    let all = flat_map (partition_reply epochs).written xs in
+    let parts = (array (partition_reply epochs)).written xs in
     let tail : s3 ≡ s1 ++ parts = written_both s1 s2 s3 ((count w32).written n) all q r ∙ ap (λ x. s1 ++ x) array_is in
     let one = topic_some name xs (λ none. some (n_is ∙ none)) in
     written_both old s1 s3 (string.written name) parts p tail
-    ∙ ap (λ x. old ++ x) (sym (ap (flat_map offset_fetch_topic_reply.written) one ∙ append-nil (string.written name ++ parts)))
+    ∙ ap (λ x. old ++ x) (sym (ap (flat_map (topic_reply epochs).written) one ∙ append-nil ((topic_reply epochs).written (record { name = name; partitions = xs }))
+    ∙ topic_spelled epochs (record { name = name; partitions = xs })))
 
 pub topic_counted_none : (name : List ℕ) (xs : List OffsetFetchPartitionReply) → length xs ≡ 0 → 0 ≡ length (topic_if name xs)
 topic_counted_none name xs none = sym (ap length (topic_none name xs none))
@@ -92,17 +92,17 @@ topics_counted w group e rest k count total one before =
     regrouped ∙ ap (λ x. count + (x + length others)) one ∙ ap (λ x. count + x) (sym both) ∙ before
 
 -- A topic is told in one entry, or in none.
-told_first : (most : ℕ) (name : List ℕ) (xs : List OffsetFetchPartitionReply) (others : List OffsetFetchTopicReply) (s t : List ℕ) → length s ≤ most
-    → t ≡ s ++ flat_map offset_fetch_topic_reply.written (topic_if name xs)
-    → written_until most offset_fetch_topic_reply.written t others ≡ written_until most offset_fetch_topic_reply.written s (topic_if name xs ++ others)
-told_first most name [] others s t few wrote = ap (λ x. written_until most offset_fetch_topic_reply.written x others) (wrote ∙ append-nil s)
-told_first most name (p ∷ ps) others s t few wrote =
-    let write = offset_fetch_topic_reply.written in
+told_first : (epochs : Bool) (most : ℕ) (name : List ℕ) (xs : List OffsetFetchPartitionReply) (others : List OffsetFetchTopicReply) (s t : List ℕ) → length s ≤ most
+    → t ≡ s ++ flat_map (topic_reply epochs).written (topic_if name xs)
+    → written_until most (topic_reply epochs).written t others ≡ written_until most (topic_reply epochs).written s (topic_if name xs ++ others)
+told_first epochs most name [] others s t few wrote = ap (λ x. written_until most (topic_reply epochs).written x others) (wrote ∙ append-nil s)
+told_first epochs most name (p ∷ ps) others s t few wrote =
+    let write = (topic_reply epochs).written in
     let one : OffsetFetchTopicReply = record { name = name; partitions = p ∷ ps } in
     ap (λ x. written_until most write x others) (wrote ∙ ap (λ x. s ++ x) (append-nil (write one))) ∙ sym (until_first most write s one others few)
 
-pub topics_more : (most : ℕ) (w : World) (group : List ℕ) (e : ℕ × TopicState) (rest : List (ℕ × TopicState)) (s t : List ℕ) → length s ≤ most
-    → t ≡ s ++ flat_map offset_fetch_topic_reply.written (topic_told w group e)
-    → written_until most offset_fetch_topic_reply.written t (flat_map (topic_told w group) rest) ≡ written_until most offset_fetch_topic_reply.written s (flat_map (topic_told w group) (e ∷ rest))
-topics_more most w group e rest s t few wrote =
-    told_first most e.1.name (told_in w group e.0 (length e.1.partitions)) (flat_map (topic_told w group) rest) s t few wrote
+pub topics_more : (epochs : Bool) (most : ℕ) (w : World) (group : List ℕ) (e : ℕ × TopicState) (rest : List (ℕ × TopicState)) (s t : List ℕ) → length s ≤ most
+    → t ≡ s ++ flat_map (topic_reply epochs).written (topic_told w group e)
+    → written_until most (topic_reply epochs).written t (flat_map (topic_told w group) rest) ≡ written_until most (topic_reply epochs).written s (flat_map (topic_told w group) (e ∷ rest))
+topics_more epochs most w group e rest s t few wrote =
+    told_first epochs most e.1.name (told_in w group e.0 (length e.1.partitions)) (flat_map (topic_told w group) rest) s t few wrote

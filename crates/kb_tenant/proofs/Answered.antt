@@ -53,9 +53,9 @@ IsToldOf a b node clock request touched answer =
 -- Each API's function tells what its part of that says; the other parts are of other keys.
 module _ (a b : Scene Seen) (node : Node) (clock : ℕ) (request : Request) (touched : List TopicPartition) where
   pub produce_told : (r : Result Answer ReadFault) → request.api_key ≡ PRODUCE
-      → IfOk r (λ answer. WhereHonest a b (Acknowledges (HasFailed a b) node.limits.bytes request.correlation_id a.state.world request.body.now
+      → IfOk r (λ answer. WhereHonest a b (Acknowledges (HasFailed a b) node.limits.bytes request.correlation_id request.api_version a.state.world request.body.now
       b.state.world touched answer))
-      → IfOk r (λ answer. IsSpared a.state.world request.body.now b.state.world answer)
+      → IfOk r (λ answer. IsSpared request.api_version a.state.world request.body.now b.state.world answer)
       → IfOk r (λ answer. WhereHonest a b (IsToldOf a b node clock request touched answer))
   produce_told (Ok answer) is told shut = λ honest agree. record {
     produced = λ also. told honest agree;

@@ -36,9 +36,9 @@ use Rattle.kb_tenant.specs.declared.node.Node.{Node}
 
 -- It holds of what each API's request comes to, where the body is one, and of a connection that is shut.
 pub record Cases (P : Outcome → Type 0) (node : Node) (w : World) (clock : ℕ) (version : ℤ) (body : List ℕ) : Type 0 where
-  pub produce : (r : ProduceRequest) → whole produce_request body ≡ Ok r → P (of_produce node.limits.bytes w r)
+  pub produce : (r : ProduceRequest) → whole produce_request body ≡ Ok r → P (of_produce version node.limits.bytes w r)
   pub fetch : (r : FetchRequest) → asked_fetch version body ≡ Ok r → P (of_fetch version node.limits.fetch_bytes w clock r)
-  pub list_offsets : (r : ListOffsetsRequest) → asked_listing version body ≡ Ok r → P (of_list_offsets w r)
+  pub list_offsets : (r : ListOffsetsRequest) → asked_listing version body ≡ Ok r → P (of_list_offsets version w r)
   pub metadata : (r : MetadataRequest) → asked_metadata version body ≡ Ok r → P (of_metadata node version w r)
   pub offset_commit : (r : OffsetCommitRequest) → asked_commit version body ≡ Ok r → P (of_offset_commit node.limits w r)
   pub offset_fetch : (r : OffsetFetchRequestV2) → asked_offsets version body ≡ Ok r → P (of_offset_fetch node.limits.reply_bytes version w r)
@@ -87,9 +87,9 @@ by_request P node w clock n key version body c =
     let asks : Outcome = if_read w (within limit offset_fetch_entries (asked_offsets version body)) (of_offset_fetch node.limits.reply_bytes version w) in
     let commits : Outcome = if_read w (within limit commit_entries (asked_commit version body)) (of_offset_commit node.limits w) in
     let tells : Outcome = if_read w (within limit metadata_entries (asked_metadata version body)) (of_metadata node version w) in
-    let lists : Outcome = if_read w (within limit list_offsets_entries (asked_listing version body)) (of_list_offsets w) in
+    let lists : Outcome = if_read w (within limit list_offsets_entries (asked_listing version body)) (of_list_offsets version w) in
     let fetches : Outcome = if_read w (within limit fetch_entries (asked_fetch version body)) (of_fetch version node.limits.fetch_bytes w clock) in
-    let produces : Outcome = if_read w (within limit produce_entries (whole produce_request body)) (of_produce node.limits.bytes w) in
+    let produces : Outcome = if_read w (within limit produce_entries (whole produce_request body)) (of_produce version node.limits.bytes w) in
     let from_inits : Outcome = if int_eq key INIT_PRODUCER_ID then inits else shut in
     let from_trims : Outcome = if int_eq key DELETE_RECORDS then trims else from_inits in
     let from_deletes : Outcome = if int_eq key DELETE_TOPICS then deletes else from_trims in
@@ -100,9 +100,9 @@ by_request P node w clock n key version body c =
     let from_tells : Outcome = if int_eq key METADATA then tells else from_commits in
     let from_lists : Outcome = if int_eq key LIST_OFFSETS then lists else from_tells in
     let from_fetches : Outcome = if int_eq key FETCH then fetches else from_lists in
-    either P (int_eq key PRODUCE) produces from_fetches (read_within P w limit produce_entries (whole produce_request body) (of_produce node.limits.bytes w) c.produce c.shut)
+    either P (int_eq key PRODUCE) produces from_fetches (read_within P w limit produce_entries (whole produce_request body) (of_produce version node.limits.bytes w) c.produce c.shut)
     (either P (int_eq key FETCH) fetches from_lists (read_within P w limit fetch_entries (asked_fetch version body) (of_fetch version node.limits.fetch_bytes w clock) c.fetch c.shut)
-    (either P (int_eq key LIST_OFFSETS) lists from_tells (read_within P w limit list_offsets_entries (asked_listing version body) (of_list_offsets w) c.list_offsets c.shut)
+    (either P (int_eq key LIST_OFFSETS) lists from_tells (read_within P w limit list_offsets_entries (asked_listing version body) (of_list_offsets version w) c.list_offsets c.shut)
     (either P (int_eq key METADATA) tells from_commits (read_within P w limit metadata_entries (asked_metadata version body) (of_metadata node version w) c.metadata c.shut)
     (either P (int_eq key OFFSET_COMMIT) commits from_asks (read_within P w limit commit_entries (asked_commit version body) (of_offset_commit node.limits w) c.offset_commit c.shut)
     (either P (int_eq key OFFSET_FETCH) asks from_finds (read_within P w limit offset_fetch_entries (asked_offsets version body) (of_offset_fetch node.limits.reply_bytes version w) c.offset_fetch c.shut)

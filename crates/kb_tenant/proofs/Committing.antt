@@ -1,10 +1,10 @@
 -- The steps of an OffsetCommit.
-use Rattle.std.proofs.Common.{◌≡◌, ◌∙◌, sym, ap, refl, inl, inr, ⊎_elim, ℕ, ℤ, pos, negsuc, Bool, Bor, true, false, List, ◌++◌, length, Option, Some, None, Result, Ok, Err}
+use Rattle.std.proofs.Common.{◌≡◌, ◌∙◌, sym, ap, refl, inl, inr, ⊎_elim, ℕ, ℤ, pos, negsuc, Bool, Bor, true, false, List, ◌++◌, length, map, Option, Some, None, Result, Ok, Err}
 use Rattle.std.specs.Int.{w32}
 use Rattle.std.specs.Option.{option_copied}
 use Rattle.std.specs.Prelude.{◌&&◌, ◌+◌, is_some, nat_lt, not}
 use Rattle.std.specs.List.{flat_map}
-use Rattle.kb_wire.specs.Codec.{array, count, int32, string, int}
+use Rattle.kb_wire.specs.Codec.{Codec, array, count, int32, int64, items, sized, string, int}
 use Rattle.kb_api_data.specs.Both.{both}
 use Rattle.kb_api_data.specs.declared.both.Both.{Both}
 use Rattle.kb_wire.specs.ErrorCode.{code_of}
@@ -27,12 +27,12 @@ use Rattle.kb_tenant_state.specs.World.{World, place_in}
 use Rattle.kb_tenant_state.specs.declared.topic_partition.TopicPartition.{TopicPartition}
 use Rattle.kb_tenant.specs.CreateTopics.{code_in}
 use Rattle.kb_tenant.specs.Limits.{is_past}
-use Rattle.kb_tenant.specs.OffsetCommit.{committed, committed_all, committed_at, committed_entry, committed_topic, committed_unless_full, is_one_too_many, is_takeable, metadata_in}
+use Rattle.kb_tenant.specs.OffsetCommit.{committed, committed_all, committed_at, committed_entry, committed_topic, committed_unless_full, entry_with, is_one_too_many, is_takeable, metadata_in, plain, plain_entry, plain_topic, request_with, topic_with}
 use Rattle.kb_tenant.specs.Produce.{written_next}
 use Rattle.kb_tenant.specs.Told.{IsFaultOf, IsTold}
 use Rattle.kb_tenant.specs.Turns.{in_turn, written_behind}
 use Rattle.kb_tenant.specs.declared.limits.DataLimits.{DataLimits}
-use Rattle.kb_tenant.proofs.Fitting.{array_written, written_both}
+use Rattle.kb_tenant.proofs.Fitting.{array_written, each_fits, many_fit, written_both}
 use Rattle.kb_tenant.proofs.Turning.{turn_length}
 
 -- ---- one entry
@@ -160,6 +160,31 @@ pub commit_fits : (q : Both (List ℕ) (Both ℤ (Both (List ℕ) (List CommitTo
     → offset_commit_request.Fits (record { group_id = q.first; generation_id = q.second.first; member_id = q.second.second.first; retention_time_ms = negsuc 0; topics = q.second.second.second })
 unfolding offset_commit_request both int
 commit_fits q fits = (fits.0, (fits.1.0, (fits.1.1.0, (tt, fits.1.1.1))))
+
+-- a topic's entry, and a topic, without a field behind the offset
+entry_fits : {X : Type 0} (field : Codec X) (e : Both ℤ (Both ℤ (Both X (Option (List ℕ))))) → (entry_with field).Fits e → commit_partition.Fits (plain_entry e)
+unfolding commit_partition both int
+entry_fits field e fits = (tt, (tt, fits.1.1.1))
+
+topic_fits : {X : Type 0} (field : Codec X) (t : Both (List ℕ) (List (Both ℤ (Both ℤ (Both X (Option (List ℕ))))))) → (topic_with field).Fits t → commit_topic.Fits (plain_topic t)
+unfolding commit_topic both sized items
+topic_fits field t fits =
+    (fits.0, many_fit commit_partition plain_entry t.second fits.1.0 (each_fits (entry_with field).Fits commit_partition.Fits plain_entry (entry_fits field) t.second fits.1.1))
+
+-- what was read with such a field fits without it
+plain_fits : {X : Type 0} (field : Codec X) (q : Both (List ℕ) (Both ℤ (Both (List ℕ) (List (Both (List ℕ) (List (Both ℤ (Both ℤ (Both X (Option (List ℕ)))))))))))
+    → (request_with field).Fits q → offset_commit_request.Fits (plain q)
+unfolding offset_commit_request both sized items int
+plain_fits field q fits =
+    let topics = q.second.second.second in
+    let each = each_fits (topic_with field).Fits commit_topic.Fits plain_topic (topic_fits field) topics fits.1.1.1.1 in
+    (fits.0, (fits.1.0, (fits.1.1.0, (tt, many_fit commit_topic plain_topic topics fits.1.1.1.0 each))))
+
+pub timestamps_fit : (q : Both (List ℕ) (Both ℤ (Both (List ℕ) (List (Both (List ℕ) (List (Both ℤ (Both ℤ (Both ℤ (Option (List ℕ))))))))))) → (request_with int64).Fits q → offset_commit_request.Fits (plain q)
+timestamps_fit q fits = plain_fits int64 q fits
+
+pub epochs_fit : (q : Both (List ℕ) (Both ℤ (Both (List ℕ) (List (Both (List ℕ) (List (Both ℤ (Both ℤ (Both ℤ (Option (List ℕ))))))))))) → (request_with int32).Fits q → offset_commit_request.Fits (plain q)
+epochs_fit q fits = plain_fits int32 q fits
 
 pub group_fits : (q : OffsetCommitRequest) → offset_commit_request.Fits q → string.Fits q.group_id
 unfolding offset_commit_request

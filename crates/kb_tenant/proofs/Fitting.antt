@@ -1,10 +1,10 @@
 -- Arrays: what fits, and what is written.
-use Rattle.std.proofs.Common.{◌≡◌, ◌∙◌, sym, ap, refl, subst, ℕ, ◌<◌, ◌^◌, List, [], ◌∷◌, ◌++◌, length, get_or, append_assoc, w32}
-use Rattle.std.proofs.lemmas.List.{append-nil}
+use Rattle.std.proofs.Common.{◌≡◌, ◌∙◌, sym, ap, refl, subst, ℕ, ◌<◌, ◌^◌, List, [], ◌∷◌, ◌++◌, length, map, get_or, append_assoc, w32}
+use Rattle.std.proofs.lemmas.List.{append-nil, length-map}
 use Rattle.std.specs.List.{flat_map}
-use Rattle.std.proofs.lemmas.List.Elements.{All-get_or}
+use Rattle.std.proofs.lemmas.List.Elements.{All-cons, All-get_or, All-head, All-nil, All-tail}
 use Rattle.kb_wire.specs.Codec.{Codec, count, counted, nullable_counted, int, sized, nullable, items, array, nullable_array}
-use Rattle.std.specs.Prelude.{Option, Some}
+use Rattle.std.specs.Prelude.{All, Option, Some}
 
 -- the count of an array that fits
 pub count_fits : {A : Type 0} (c : Codec A) (vs : List A) (n : ℕ) → (array c).Fits vs → n ≡ length vs → (count w32).Fits n
@@ -19,6 +19,16 @@ item_fits c vs i e fits lt is = subst c.Fits (sym is) (All-get_or c.Fits vs i e 
 pub array_written : {A : Type 0} (c : Codec A) (vs : List A) (n : ℕ) → n ≡ length vs → (count w32).written n ++ flat_map c.written vs ≡ (array c).written vs
 unfolding sized items
 array_written c vs n is = ap (λ m. (count w32).written m ++ flat_map c.written vs) is
+
+-- each of others, where each of those has what it is made of
+pub each_fits : {A B : Type 0} (P : A → Type 0) (Q : B → Type 0) (f : A → B) → ((v : A) → P v → Q (f v)) → (vs : List A) → All P vs → All Q (map f vs)
+each_fits P Q f so [] all = All-nil Q
+each_fits P Q f so (v ∷ vs) all = All-cons Q (f v) (map f vs) (so v (All-head P v vs all)) (each_fits P Q f so vs (All-tail P v vs all))
+
+-- as many others, each of which fits
+pub many_fit : {A B : Type 0} (c : Codec B) (f : A → B) (vs : List A) → (count w32).Fits (length vs) → All c.Fits (map f vs) → (array c).Fits (map f vs)
+unfolding sized items
+many_fit c f vs few each = (subst (count w32).Fits (sym (length-map vs f)) few, each)
 
 -- one after another
 pub written_both : (old s1 s2 x y : List ℕ) → s1 ≡ old ++ x → s2 ≡ s1 ++ y → s2 ≡ old ++ (x ++ y)

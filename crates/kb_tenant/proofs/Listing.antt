@@ -1,10 +1,10 @@
 -- What an entry of ListOffsets is answered, whatever memory and the store refuse.
 use Rattle.std.proofs.Common.{◌≡◌, ◌∙◌, ◌⊎◌, ◌++◌, ◌+◌, ◌<◌, ◌≤◌, [], ◌∷◌, inl, inr, ⊎_elim, ℕ, List, Option, ap, refl, subst, sym, w32, length, take, get_or}
 use Rattle.std.specs.List.{AllZip, flat_map}
+use Rattle.std.specs.Prelude.{Bool}
 use Rattle.std.proofs.lemmas.List.{take_all, take_more}
 use Rattle.std.proofs.lemmas.Slice.Zip.{AllZip-long}
 use Rattle.kb_wire.specs.Codec.{array, count, string}
-use Rattle.kb_api_data.specs.Layouts.{list_offsets_partition_reply, list_offsets_topic_reply, list_offsets_reply}
 use Rattle.kb_api_data.specs.declared.list_offsets.ListOffsetsPartition.{ListOffsetsPartition}
 use Rattle.kb_api_data.specs.declared.list_offsets.ListOffsetsPartitionReply.{ListOffsetsPartitionReply}
 use Rattle.kb_api_data.specs.declared.list_offsets.ListOffsetsReply.{ListOffsetsReply}
@@ -19,7 +19,9 @@ use Rattle.kb_tenant_state.specs.World.{World}
 use Rattle.kb_tenant.specs.Told.{HasFailed, IsListingTold, IsListingTopicTold}
 use Rattle.kb_tenant.proofs.Acknowledging.{honest_then, written_more}
 use Rattle.kb_tenant.proofs.Fetched.{failed_later, failed_since}
+use Rattle.kb_tenant.specs.ListOffsets.{partition_reply, topic_reply, listing_reply}
 use Rattle.kb_tenant.proofs.Fitting.{array_written, written_both}
+use Rattle.kb_tenant.proofs.Offsets.{listing_spelled, topic_spelled}
 
 -- ---- one more
 
@@ -80,47 +82,46 @@ listed_over R es xs i le h = subst (λ l. AllZip R l xs) (take_all i es le) h
 -- ---- a topic, and the whole
 
 -- a topic's name, the count of its entries and what they were answered
-pub topic_listing : (failed : Type 0) (w : World) (t : ListOffsetsTopic) (name : List ℕ) (n : ℕ) (instance : Option ℕ)
+pub topic_listing : (epochs : Bool) (failed : Type 0) (w : World) (t : ListOffsetsTopic) (name : List ℕ) (n : ℕ) (instance : Option ℕ)
     (entries : List ListOffsetsPartition) (s0 s1 s2 s3 : List ℕ)
     → name ≡ t.name → n ≡ length t.partitions → instance ≡ named t.name w.known.topics → entries ≡ t.partitions
     → s1 ≡ s0 ++ string.written name → s2 ≡ s1 ++ (count w32).written n
     → (replies : List ListOffsetsPartitionReply)
-    × ((s3 ≡ s2 ++ flat_map list_offsets_partition_reply.written replies) × AllZip (IsListingTold failed w instance) entries replies)
-    → (reply : ListOffsetsTopicReply) × ((s3 ≡ s0 ++ list_offsets_topic_reply.written reply) × IsListingTopicTold failed w t reply)
-unfolding list_offsets_topic_reply
-topic_listing failed w t name n instance entries s0 s1 s2 s3 same len at list first second told =
+    × ((s3 ≡ s2 ++ flat_map (partition_reply epochs).written replies) × AllZip (IsListingTold failed w instance) entries replies)
+    → (reply : ListOffsetsTopicReply) × ((s3 ≡ s0 ++ (topic_reply epochs).written reply) × IsListingTopicTold failed w t reply)
+topic_listing epochs failed w t name n instance entries s0 s1 s2 s3 same len at list first second told =
     let here = named t.name w.known.topics in
     let replies : List ListOffsetsPartitionReply = told.0 in
-    let all = flat_map list_offsets_partition_reply.written replies in
+    let all = flat_map (partition_reply epochs).written replies in
     let answered : AllZip (IsListingTold failed w here) t.partitions replies =
     subst (λ es. AllZip (IsListingTold failed w here) es replies) list
     (subst (λ i. AllZip (IsListingTold failed w i) entries replies) at told.1.1) in
     let many : n ≡ length replies = len ∙ sym (AllZip-long (IsListingTold failed w here) t.partitions replies answered) in
     let tail : s3 ≡ s1 ++ ((count w32).written n ++ all) = written_both s1 s2 s3 ((count w32).written n) all second told.1.0 in
-    let array_is = array_written list_offsets_partition_reply replies n many in (
+    let array_is = array_written (partition_reply epochs) replies n many in (
       record { name = t.name; partitions = replies },
       (
-        written_both s0 s1 s3 (string.written t.name) ((array list_offsets_partition_reply).written replies)
-            (first ∙ ap (λ m. s0 ++ string.written m) same) (tail ∙ ap (λ x. s1 ++ x) array_is),
+        written_both s0 s1 s3 (string.written t.name) ((array (partition_reply epochs)).written replies)
+            (first ∙ ap (λ m. s0 ++ string.written m) same) (tail ∙ ap (λ x. s1 ++ x) array_is)
+            ∙ ap (λ x. s0 ++ x) (sym (topic_spelled epochs (record { name = t.name; partitions = replies }))),
         (refl, answered),
       ),
     )
 
 -- the count of the topics and what they were answered
-pub all_listing : (failed : Type 0) (w : World) (q : ListOffsetsRequest) (n : ℕ) (s0 s1 s2 : List ℕ) → n ≡ length q.topics
+pub all_listing : (epochs : Bool) (failed : Type 0) (w : World) (q : ListOffsetsRequest) (n : ℕ) (s0 s1 s2 : List ℕ) → n ≡ length q.topics
     → s1 ≡ s0 ++ (count w32).written n
     → (replies : List ListOffsetsTopicReply)
-    × ((s2 ≡ s1 ++ flat_map list_offsets_topic_reply.written replies) × AllZip (IsListingTopicTold failed w) q.topics replies)
+    × ((s2 ≡ s1 ++ flat_map (topic_reply epochs).written replies) × AllZip (IsListingTopicTold failed w) q.topics replies)
     → (reply : ListOffsetsReply)
-    × ((s2 ≡ s0 ++ list_offsets_reply.written reply) × AllZip (IsListingTopicTold failed w) q.topics reply.topics)
-unfolding list_offsets_reply
-all_listing failed w q n s0 s1 s2 len first told =
+    × ((s2 ≡ s0 ++ (listing_reply epochs).written reply) × AllZip (IsListingTopicTold failed w) q.topics reply.topics)
+all_listing epochs failed w q n s0 s1 s2 len first told =
     let replies : List ListOffsetsTopicReply = told.0 in
     let many : n ≡ length replies = len ∙ sym (AllZip-long (IsListingTopicTold failed w) q.topics replies told.1.1) in (
       record { topics = replies },
       (
-        written_both s0 s1 s2 ((count w32).written n) (flat_map list_offsets_topic_reply.written replies) first told.1.0
-            ∙ ap (λ x. s0 ++ x) (array_written list_offsets_topic_reply replies n many),
+        written_both s0 s1 s2 ((count w32).written n) (flat_map (topic_reply epochs).written replies) first told.1.0
+            ∙ ap (λ x. s0 ++ x) (array_written (topic_reply epochs) replies n many ∙ sym (listing_spelled epochs (record { topics = replies }))),
         told.1.1,
       ),
     )

@@ -1,5 +1,5 @@
 -- How long the parts of a produce's reply are, and what is put within the room for it.
-use Rattle.std.proofs.Common.{◌≡◌, ◌∙◌, sym, ap, refl, subst, ℕ, ◌+◌, ◌<◌, ◌≤◌, ◌^◌, Bool, true, false, List, [], ◌∷◌, ◌++◌, length, take, drop, get_or, Result, Ok, Err, IsErr, IsOk, OnErr, OnOk, arith, append_assoc, length-append, w32}
+use Rattle.std.proofs.Common.{◌≡◌, ◌∙◌, sym, ap, refl, subst, ℕ, ◌+◌, ◌*◌, ◌<◌, ◌≤◌, ◌^◌, Bool, true, false, List, [], ◌∷◌, ◌++◌, length, take, drop, get_or, Result, Ok, Err, IsErr, IsOk, OnErr, OnOk, arith, append_assoc, length-append, w32}
 use Rattle.std.specs.List.{sum_by}
 use Rattle.std.specs.declared.alloc.AllocError.{AllocError}
 use Rattle.std.proofs.lemmas.List.{append-nil, take-append-drop, take_all, take_more}
@@ -7,11 +7,13 @@ use Rattle.std.proofs.lemmas.List.Sums.{sum_by-append, sum_by_more}
 use Rattle.kb_wire.specs.Codec.{count, counted, int, int32, items, sized, string, utf8}
 use Rattle.kb_wire.specs.Sunk.{Puts, Sunk}
 use Rattle.kb_api_data.specs.Layouts.{produce_partition_reply, produce_topic}
+use Rattle.kb_api_data.specs.ProduceV5.{produce_partition_reply_v5}
 use Rattle.kb_api_data.specs.declared.produce.ProducePartition.{ProducePartition}
 use Rattle.kb_api_data.specs.declared.produce.ProducePartitionReply.{ProducePartitionReply}
+use Rattle.kb_api_data.specs.declared.produce_v5.ProducePartitionReplyV5.{ProducePartitionReplyV5}
 use Rattle.kb_api_data.specs.declared.produce.ProduceRequest.{ProduceRequest}
 use Rattle.kb_api_data.specs.declared.produce.ProduceTopic.{ProduceTopic}
-use Rattle.kb_tenant.specs.Room.{entries_length, length_due, reply_length, topic_length, IsLonger, IsPut}
+use Rattle.kb_tenant.specs.Room.{entries_length, entry_length, length_due, reply_length, topic_length, IsLonger, IsPut}
 
 -- ---- lengths
 
@@ -30,6 +32,19 @@ number_length z = refl
 pub answer_length : (x : ProducePartitionReply) → length (produce_partition_reply.written x) ≡ 22
 unfolding produce_partition_reply int
 answer_length x = refl
+
+pub answer_v5_length : (x : ProducePartitionReplyV5) → length (produce_partition_reply_v5.written x) ≡ 30
+unfolding produce_partition_reply_v5 int
+answer_v5_length x = refl
+
+-- one entry more, and no more entries
+entry_more : (starts : Bool) (m n : ℕ) → n ≡ m + 1 → entry_length starts * m + entry_length starts ≡ entry_length starts * n
+entry_more true m n is = omega (arith, is)
+entry_more false m n is = omega (arith, is)
+
+entry_most : (starts : Bool) (m n : ℕ) → m ≤ n → entry_length starts * m ≤ entry_length starts * n
+entry_most true m n le = omega (arith, le)
+entry_most false m n le = omega (arith, le)
 
 -- the name of a topic that fits, and its entries
 pub short_name : (t : ProduceTopic) → produce_topic.Fits t → length t.name < 2 ^ 15
@@ -110,61 +125,61 @@ within_room due m n k a b c e le room p q = never (Err e) e refl (q.succeeds (om
 -- ---- a produce
 
 -- the answer of one entry more
-pub entry_put : (due : Bool) (es : List ProducePartition) (i : ℕ) (e : ProducePartition) (x : ProducePartitionReply) (a b c : Sunk) (r : Result (Unit {0}) AllocError) → i < length es
-    → IsPut (length_due due (entries_length (take i es))) a (Ok tt) b → IsPut (length_due due (length (produce_partition_reply.written x))) b r c → IsPut (length_due due (entries_length (take (i + 1) es))) a r c
-entry_put due es i e x a b c r lt p q =
-    due_then due (entries_length (take i es)) 22 (entries_length (take (i + 1) es)) a b c r
-    (omega (arith, ap length (take_more es i e lt), length-append (take i es) (get_or es i e ∷ [])))
-    p (subst (λ n. IsPut (length_due due n) b r c) (answer_length x) q)
+pub entry_put : (starts due : Bool) (es : List ProducePartition) (i : ℕ) (e : ProducePartition) (a b c : Sunk) (r : Result (Unit {0}) AllocError) → i < length es
+    → IsPut (length_due due (entries_length starts (take i es))) a (Ok tt) b → IsPut (length_due due (entry_length starts)) b r c → IsPut (length_due due (entries_length starts (take (i + 1) es))) a r c
+entry_put starts due es i e a b c r lt p q =
+    due_then due (entries_length starts (take i es)) (entry_length starts) (entries_length starts (take (i + 1) es)) a b c r
+    (entry_more starts (length (take i es)) (length (take (i + 1) es)) (omega (arith, ap length (take_more es i e lt), length-append (take i es) (get_or es i e ∷ []))))
+    p q
 
 few_taken : {X : Type 0} (i : ℕ) (xs : List X) → length (take i xs) ≤ length xs
 few_taken i xs = omega (arith, sym (length-append (take i xs) (drop i xs)) ∙ ap length (take-append-drop i xs))
 
-pub entry_refused : (due : Bool) (es : List ProducePartition) (i : ℕ) (e : ProducePartition) (x : ProducePartitionReply) (a b c d : Sunk) (f : AllocError) → i < length es
-    → IsPut (length_due due (entries_length (take i es))) a (Ok tt) b → IsPut (length_due due (length (produce_partition_reply.written x))) b (Err f) c → IsPut (length_due due (entries_length es)) a (Err f) d
-entry_refused due es i e x a b c d f lt p q =
-    refused_of (length_due due (entries_length (take (i + 1) es))) (length_due due (entries_length es)) a c d f
-    (less_due due (entries_length (take (i + 1) es)) (entries_length es) (omega (arith, few_taken (i + 1) es))) (entry_put due es i e x a b c (Err f) lt p q)
+pub entry_refused : (starts due : Bool) (es : List ProducePartition) (i : ℕ) (e : ProducePartition) (a b c d : Sunk) (f : AllocError) → i < length es
+    → IsPut (length_due due (entries_length starts (take i es))) a (Ok tt) b → IsPut (length_due due (entry_length starts)) b (Err f) c → IsPut (length_due due (entries_length starts es)) a (Err f) d
+entry_refused starts due es i e a b c d f lt p q =
+    refused_of (length_due due (entries_length starts (take (i + 1) es))) (length_due due (entries_length starts es)) a c d f
+    (less_due due (entries_length starts (take (i + 1) es)) (entries_length starts es) (entry_most starts (length (take (i + 1) es)) (length es) (few_taken (i + 1) es))) (entry_put starts due es i e a b c (Err f) lt p q)
 
-pub entries_put : (due : Bool) (es : List ProducePartition) (i : ℕ) (a b : Sunk) → length es ≤ i → IsPut (length_due due (entries_length (take i es))) a (Ok tt) b → IsPut (length_due due (entries_length es)) a (Ok tt) b
-entries_put due es i a b le p = subst (λ xs. IsPut (length_due due (entries_length xs)) a (Ok tt) b) (take_all i es le) p
+pub entries_put : (starts due : Bool) (es : List ProducePartition) (i : ℕ) (a b : Sunk) → length es ≤ i → IsPut (length_due due (entries_length starts (take i es))) a (Ok tt) b → IsPut (length_due due (entries_length starts es)) a (Ok tt) b
+entries_put starts due es i a b le p = subst (λ xs. IsPut (length_due due (entries_length starts xs)) a (Ok tt) b) (take_all i es le) p
 
 -- the name and the count of a topic, and the answers of its entries
-pub topic_put : (due : Bool) (t : ProduceTopic) (name : List ℕ) (es : List ProducePartition) (a b c d : Sunk) (r : Result (Unit {0}) AllocError) → name ≡ t.name → es ≡ t.partitions
-    → IsPut (length_due due (2 + length name)) a (Ok tt) b → IsPut (length_due due 4) b (Ok tt) c → IsPut (length_due due (entries_length es)) c r d → IsPut (length_due due (topic_length t)) a r d
-topic_put due t name es a b c d r nis eis p q s =
-    due_then due (2 + length name + 4) (entries_length es) (topic_length t) a c d r (omega (arith, ap length nis, ap length eis))
+pub topic_put : (starts due : Bool) (t : ProduceTopic) (name : List ℕ) (es : List ProducePartition) (a b c d : Sunk) (r : Result (Unit {0}) AllocError) → name ≡ t.name → es ≡ t.partitions
+    → IsPut (length_due due (2 + length name)) a (Ok tt) b → IsPut (length_due due 4) b (Ok tt) c → IsPut (length_due due (entries_length starts es)) c r d → IsPut (length_due due (topic_length starts t)) a r d
+topic_put starts due t name es a b c d r nis eis p q s =
+    due_then due (2 + length name + 4) (entries_length starts es) (topic_length starts t) a c d r (ap (λ xs. 2 + length xs + 4 + entries_length starts es) nis ∙ ap (λ xs. 2 + length t.name + 4 + entries_length starts xs) eis)
     (due_then due (2 + length name) 4 (2 + length name + 4) a b c (Ok tt) refl p q) s
 
-pub name_refused : (due : Bool) (t : ProduceTopic) (name : List ℕ) (a b : Sunk) (e : AllocError) → name ≡ t.name → IsPut (length_due due (2 + length name)) a (Err e) b → IsPut (length_due due (topic_length t)) a (Err e) b
-name_refused due t name a b e nis p = refused_of (length_due due (2 + length name)) (length_due due (topic_length t)) a b b e (less_due due (2 + length name) (topic_length t) (omega (arith, ap length nis))) p
+pub name_refused : (starts due : Bool) (t : ProduceTopic) (name : List ℕ) (a b : Sunk) (e : AllocError) → name ≡ t.name → IsPut (length_due due (2 + length name)) a (Err e) b → IsPut (length_due due (topic_length starts t)) a (Err e) b
+name_refused starts due t name a b e nis p = refused_of (length_due due (2 + length name)) (length_due due (topic_length starts t)) a b b e (less_due due (2 + length name) (topic_length starts t) (omega (arith, ap length nis))) p
 
-pub count_refused : (due : Bool) (t : ProduceTopic) (name : List ℕ) (a b c : Sunk) (e : AllocError) → name ≡ t.name
-    → IsPut (length_due due (2 + length name)) a (Ok tt) b → IsPut (length_due due 4) b (Err e) c → IsPut (length_due due (topic_length t)) a (Err e) c
-count_refused due t name a b c e nis p q =
-    refused_of (length_due due (2 + length name + 4)) (length_due due (topic_length t)) a c c e (less_due due (2 + length name + 4) (topic_length t) (omega (arith, ap length nis)))
+pub count_refused : (starts due : Bool) (t : ProduceTopic) (name : List ℕ) (a b c : Sunk) (e : AllocError) → name ≡ t.name
+    → IsPut (length_due due (2 + length name)) a (Ok tt) b → IsPut (length_due due 4) b (Err e) c → IsPut (length_due due (topic_length starts t)) a (Err e) c
+count_refused starts due t name a b c e nis p q =
+    refused_of (length_due due (2 + length name + 4)) (length_due due (topic_length starts t)) a c c e (less_due due (2 + length name + 4) (topic_length starts t) (omega (arith, ap length nis)))
     (due_then due (2 + length name) 4 (2 + length name + 4) a b c (Err e) refl p q)
 
 -- the answers of one topic more
-pub topics_put : (due : Bool) (ts : List ProduceTopic) (i : ℕ) (t : ProduceTopic) (a b c : Sunk) (r : Result (Unit {0}) AllocError) → i < length ts → t ≡ get_or ts i t
-    → IsPut (length_due due (sum_by topic_length (take i ts))) a (Ok tt) b → IsPut (length_due due (topic_length t)) b r c → IsPut (length_due due (sum_by topic_length (take (i + 1) ts))) a r c
-topics_put due ts i t a b c r lt is p q = due_then due (sum_by topic_length (take i ts)) (topic_length t) (sum_by topic_length (take (i + 1) ts)) a b c r (sym (next_sum topic_length ts i t lt is)) p q
+pub topics_put : (starts due : Bool) (ts : List ProduceTopic) (i : ℕ) (t : ProduceTopic) (a b c : Sunk) (r : Result (Unit {0}) AllocError) → i < length ts → t ≡ get_or ts i t
+    → IsPut (length_due due (sum_by (topic_length starts) (take i ts))) a (Ok tt) b → IsPut (length_due due (topic_length starts t)) b r c → IsPut (length_due due (sum_by (topic_length starts) (take (i + 1) ts))) a r c
+topics_put starts due ts i t a b c r lt is p q = due_then due (sum_by (topic_length starts) (take i ts)) (topic_length starts t) (sum_by (topic_length starts) (take (i + 1) ts)) a b c r (sym (next_sum (topic_length starts) ts i t lt is)) p q
 
 -- within the room for the whole reply no topic's answer is refused
-pub topic_within : (due : Bool) (r : ProduceRequest) (i : ℕ) (t : ProduceTopic) (a b c d : Sunk) (e : AllocError) → i < length r.topics → t ≡ get_or r.topics i t → length_due due (reply_length r) ≤ a.room
-    → IsPut (length_due due 4) a (Ok tt) b → IsPut (length_due due (sum_by topic_length (take i r.topics))) b (Ok tt) c → IsPut (length_due due (topic_length t)) c (Err e) d → ⊥
-topic_within due r i t a b c d e lt is room p q s =
-    let so_far = sum_by topic_length (take i r.topics) in
-    within_room due (4 + so_far) (topic_length t) (reply_length r) a c d e (omega (arith, next_sum topic_length r.topics i t lt is, front_sum topic_length (i + 1) r.topics)) room
+pub topic_within : (starts due : Bool) (r : ProduceRequest) (i : ℕ) (t : ProduceTopic) (a b c d : Sunk) (e : AllocError) → i < length r.topics → t ≡ get_or r.topics i t → length_due due (reply_length starts r) ≤ a.room
+    → IsPut (length_due due 4) a (Ok tt) b → IsPut (length_due due (sum_by (topic_length starts) (take i r.topics))) b (Ok tt) c → IsPut (length_due due (topic_length starts t)) c (Err e) d → ⊥
+topic_within starts due r i t a b c d e lt is room p q s =
+    let so_far = sum_by (topic_length starts) (take i r.topics) in
+    within_room due (4 + so_far) (topic_length starts t) (reply_length starts r) a c d e (omega (arith, next_sum (topic_length starts) r.topics i t lt is, front_sum (topic_length starts) (i + 1) r.topics)) room
     (due_then due 4 so_far (4 + so_far) a b c (Ok tt) refl p q) s
 
 -- the whole reply: the count, the topics' answers, and the throttle time
-pub reply_put : (due : Bool) (r : ProduceRequest) (i : ℕ) (last : List ℕ) (a b c d : Sunk) (result : Result (Unit {0}) AllocError) → length r.topics ≤ i → length last ≡ 4
-    → IsPut (length_due due 4) a (Ok tt) b → IsPut (length_due due (sum_by topic_length (take i r.topics))) b (Ok tt) c → IsPut (length_due due (length last)) c result d → IsPut (length_due due (reply_length r)) a result d
-reply_put due r i last a b c d result le four p q s =
-    let all : IsPut (length_due due (sum_by topic_length r.topics)) b (Ok tt) c = subst (λ ts. IsPut (length_due due (sum_by topic_length ts)) b (Ok tt) c) (take_all i r.topics le) q in
-    due_then due (4 + sum_by topic_length r.topics) 4 (reply_length r) a c d result (omega arith)
-    (due_then due 4 (sum_by topic_length r.topics) (4 + sum_by topic_length r.topics) a b c (Ok tt) refl p all)
+pub reply_put : (starts due : Bool) (r : ProduceRequest) (i : ℕ) (last : List ℕ) (a b c d : Sunk) (result : Result (Unit {0}) AllocError) → length r.topics ≤ i → length last ≡ 4
+    → IsPut (length_due due 4) a (Ok tt) b → IsPut (length_due due (sum_by (topic_length starts) (take i r.topics))) b (Ok tt) c → IsPut (length_due due (length last)) c result d → IsPut (length_due due (reply_length starts r)) a result d
+reply_put starts due r i last a b c d result le four p q s =
+    let all : IsPut (length_due due (sum_by (topic_length starts) r.topics)) b (Ok tt) c = subst (λ ts. IsPut (length_due due (sum_by (topic_length starts) ts)) b (Ok tt) c) (take_all i r.topics le) q in
+    due_then due (4 + sum_by (topic_length starts) r.topics) 4 (reply_length starts r) a c d result (omega arith)
+    (due_then due 4 (sum_by (topic_length starts) r.topics) (4 + sum_by (topic_length starts) r.topics) a b c (Ok tt) refl p all)
     (subst (λ n. IsPut (length_due due n) c result d) four s)
 
 -- within the room for it nothing is refused

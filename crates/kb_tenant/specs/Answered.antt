@@ -34,8 +34,8 @@ IsAnswerOrShut id reaction answer = IsAnswer id reaction answer ⊎ (answer ≡ 
 -- the store failed meanwhile, `full` that the catalog's log has no room.
 pub record IsTruthful (failed full : Type 0) (node : Node) (clock n : ℕ) (key version id : ℤ) (body : List ℕ) (w v : World)
     (touched : List TopicPartition) (answer : Answer) : Type 0 where
-  pub produced : key ≡ PRODUCE → Acknowledges failed node.limits.bytes id w body v touched answer
-  pub spared : key ≡ PRODUCE → IsSpared w body v answer
+  pub produced : key ≡ PRODUCE → Acknowledges failed node.limits.bytes id version w body v touched answer
+  pub spared : key ≡ PRODUCE → IsSpared version w body v answer
   pub fetched : key ≡ FETCH → AnswersFetch failed id version node.limits.fetch_bytes w clock body answer
   pub listed : key ≡ LIST_OFFSETS → AnswersListing failed id version w body answer
   pub created : key ≡ CREATE_TOPICS → AcknowledgesCreations ((failed ⊎ full) ⊎ AreInstancesGivenOut v) node.limits id version w body v answer

@@ -5,6 +5,7 @@ pub mod CreateTopics
 pub mod DeleteRecords
 pub mod DeleteTopics
 pub mod Entries
+pub mod Epochs
 pub mod Fetch
 pub mod FindCoordinator
 pub mod InitProducerId

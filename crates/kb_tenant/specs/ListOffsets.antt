@@ -1,11 +1,13 @@
 -- Offsets that are asked by time (Kafka protocol guide, "The Messages: ListOffsets").
-use Rattle.std.specs.Prelude.{ℕ, ℤ, pos, negsuc, Bool, List, map, Result, Ok, Err, Option, Some, None, int_le, int_lt, if◌then◌else◌}
+use Rattle.std.specs.Prelude.{ℕ, ℤ, pos, negsuc, Bool, true, false, List, map, Result, Ok, Err, Option, Some, None, int_le, int_lt, if◌then◌else◌}
 use Rattle.std.specs.Option.{option_and_then}
 use Rattle.std.specs.Ordering.{int_eq}
-use Rattle.kb_wire.specs.Codec.{array, int8, int32, whole, ◌>>=◌}
+use Rattle.kb_wire.specs.Codec.{Codec, array, int8, int32, int64, string, via, whole, ◌>>=◌, ◌⊗◌}
 use Rattle.kb_wire.specs.declared.fault.WireFault.{WireFault}
 use Rattle.kb_api_data.specs.Both.{both}
 use Rattle.kb_api_data.specs.Layouts.{list_offsets_request, list_offsets_topic}
+use Rattle.kb_api_data.specs.Layouts.{list_offsets_partition_reply, list_offsets_topic_reply, list_offsets_reply}
+use Rattle.kb_api_data.specs.declared.both.Both.{Both}
 use Rattle.kb_api_data.specs.declared.list_offsets.ListOffsetsPartition.{ListOffsetsPartition}
 use Rattle.kb_api_data.specs.declared.list_offsets.ListOffsetsTopic.{ListOffsetsTopic}
 use Rattle.kb_api_data.specs.declared.list_offsets.ListOffsetsRequest.{ListOffsetsRequest}
@@ -21,6 +23,7 @@ use Rattle.kb_tenant_state.specs.Fault.{code_of as fault_code}
 use Rattle.kb_tenant_state.specs.Logs.{LogState}
 use Rattle.kb_tenant_state.specs.declared.fault.PartitionFault.{PartitionFault}
 use Rattle.kb_tenant_state.specs.World.{World, place_in, log_in}
+use Rattle.kb_tenant.specs.Epochs.{no_epoch}
 
 -- no timestamp and no offset
 abbrev pub offset_refused : ℤ → ℤ → ListOffsetsPartitionReply
@@ -85,5 +88,40 @@ listing_as has body =
     >>= (λ q. Ok (record { replica_id = q.first; topics = q.second.second }))
     else whole list_offsets_request body
 
+-- From version 4 on a partition has an epoch of its leader: in a request behind its number, and in a reply at its end.
+abbrev pub has_epochs : ℤ → Bool
+has_epochs version = int_le (pos 4) version
+
+-- a request's topic so, and what it asks, whatever its epochs
+abbrev pub epoch_topic : Codec (Both (List ℕ) (List (Both ℤ (Both ℤ ℤ))))
+epoch_topic = both string (array (both int32 (both int32 int64)))
+
+abbrev pub plain_partition : Both ℤ (Both ℤ ℤ) → ListOffsetsPartition
+plain_partition e = record { partition = e.first; timestamp = e.second.second }
+
+abbrev pub plain_topic : Both (List ℕ) (List (Both ℤ (Both ℤ ℤ))) → ListOffsetsTopic
+plain_topic t = record { name = t.first; partitions = map plain_partition t.second }
+
+abbrev pub epoch_listing : List ℕ → Result ListOffsetsRequest WireFault
+epoch_listing body = whole (both int32 (both int8 (array epoch_topic))) body
+    >>= (λ q. Ok (record { replica_id = q.first; topics = map plain_topic q.second.second }))
+
 abbrev pub asked_listing : ℤ → List ℕ → Result ListOffsetsRequest WireFault
-asked_listing version body = listing_as (has_isolation_level version) body
+asked_listing version body = if has_epochs version then epoch_listing body else listing_as (has_isolation_level version) body
+
+-- a partition's answer, a topic's and the reply, with epochs or without
+abbrev pub partition_reply : Bool → Codec ListOffsetsPartitionReply
+partition_reply true = via (λ p. p.0) (λ v. (v, no_epoch)) (list_offsets_partition_reply ⊗ int32)
+partition_reply false = list_offsets_partition_reply
+
+abbrev pub topic_reply : Bool → Codec ListOffsetsTopicReply
+topic_reply true = via (λ p. record { name = p.0; partitions = p.1 }) (λ v. (v.name, v.partitions)) (string ⊗ array (partition_reply true))
+topic_reply false = list_offsets_topic_reply
+
+abbrev pub listing_reply : Bool → Codec ListOffsetsReply
+listing_reply true = via (λ p. record { topics = p }) (λ v. v.topics) (array (topic_reply true))
+listing_reply false = list_offsets_reply
+
+-- the reply in bytes
+abbrev pub listing_in : ℤ → ListOffsetsReply → List ℕ
+listing_in version r = (listing_reply (has_epochs version)).written r

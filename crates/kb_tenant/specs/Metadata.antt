@@ -4,7 +4,7 @@ use Rattle.std.specs.Int.{w32}
 use Rattle.std.specs.List.{flat_map, range_with_len}
 use Rattle.std.specs.Option.{option_and_then}
 use Rattle.std.specs.Ordering.{int_eq}
-use Rattle.kb_wire.specs.Codec.{Codec, array, boolean, count, int16, int32, string, nullable_string, whole, ◌>>=◌, ◌⊗◌}
+use Rattle.kb_wire.specs.Codec.{Codec, array, boolean, count, int16, int32, string, nullable_string, via, whole, ◌>>=◌, ◌⊗◌}
 use Rattle.kb_wire.specs.declared.fault.WireFault.{WireFault}
 use Rattle.kb_api_data.specs.Layouts.{metadata_request, metadata_request_v0, metadata_request_v4, metadata_topic, metadata_topic_v0}
 use Rattle.kb_api_data.specs.Layouts.{metadata_broker, metadata_partition, metadata_reply, metadata_reply_v0, metadata_reply_v2, metadata_reply_v3}
@@ -24,6 +24,7 @@ use Rattle.kb_topics.specs.ByName.{by_name}
 use Rattle.kb_topics.specs.Known.{TopicState, named, topic_at}
 use Rattle.kb_topics.specs.Name.{is_legal}
 use Rattle.kb_tenant_state.specs.World.{World}
+use Rattle.kb_tenant.specs.Epochs.{no_epoch}
 use Rattle.kb_tenant.specs.Replies.{written_until}
 use Rattle.kb_tenant.specs.declared.node.Node.{Node}
 
@@ -75,7 +76,7 @@ metadata_of w node r = record {
   topics = topics_asked w.known.topics r.topics;
 }
 
--- ---- versions 0 and 2 to 5; any other is version 1
+-- ---- versions 0, 2 to 5 and 7; any other is version 1
 
 -- In version 0 no topics mean all topics.
 abbrev pub all_if_none : List (List ℕ) → MetadataRequest
@@ -92,6 +93,7 @@ asked_metadata version body =
     if int_eq version (pos 0) then whole metadata_request_v0 body >>= (λ r. Ok (all_if_none r.topics))
     else if int_eq version (pos 4) then asked_v4 body
     else if int_eq version (pos 5) then asked_v4 body
+    else if int_eq version (pos 7) then asked_v4 body
     else whole metadata_request body
 
 -- Version 0 tells neither racks, nor the controller, nor which topics are internal.
@@ -128,6 +130,21 @@ abbrev pub written_v5 : MetadataReply → List ℕ
 written_v5 r = (int32 ⊗ array metadata_broker ⊗ nullable_string ⊗ int32 ⊗ array metadata_topic_v5).written
     (pos 0, (r.brokers, (None, (r.controller_id, map topic_v5 r.topics))))
 
+-- Version 7 tells behind each partition's leader the leader's epoch, and offline replicas as version 5.
+abbrev pub metadata_partition_v7 : Codec (MetadataPartition × List ℤ)
+metadata_partition_v7 = via (λ p. (
+  record { error_code = p.0; partition = p.1.0; leader = p.1.1.0; replicas = p.1.1.1.1.0; isr = p.1.1.1.1.1.0 },
+  p.1.1.1.1.1.1,
+)) (λ v. (v.0.error_code, (v.0.partition, (v.0.leader, (no_epoch, (v.0.replicas, (v.0.isr, v.1)))))))
+    (int16 ⊗ int32 ⊗ int32 ⊗ int32 ⊗ array int32 ⊗ array int32 ⊗ array int32)
+
+abbrev pub metadata_topic_v7 : Codec (ℤ × (List ℕ × (Bool × List (MetadataPartition × List ℤ))))
+metadata_topic_v7 = int16 ⊗ string ⊗ boolean ⊗ array metadata_partition_v7
+
+abbrev pub written_v7 : MetadataReply → List ℕ
+written_v7 r = (int32 ⊗ array metadata_broker ⊗ nullable_string ⊗ int32 ⊗ array metadata_topic_v7).written
+    (pos 0, (r.brokers, (None, (r.controller_id, map topic_v5 r.topics))))
+
 -- the reply in bytes
 abbrev pub metadata_in : ℤ → MetadataReply → List ℕ
 metadata_in version r =
@@ -136,26 +153,33 @@ metadata_in version r =
     else if int_eq version (pos 3) then metadata_reply_v3.written (reply_v3 r)
     else if int_eq version (pos 4) then metadata_reply_v3.written (reply_v3 r)
     else if int_eq version (pos 5) then written_v5 r
+    else if int_eq version (pos 7) then written_v7 r
     else metadata_reply.written r
 
 -- what it says of whether a topic is internal, of a topic, and of topics behind their count
 abbrev pub internal_in : ℤ → List ℕ
 internal_in version = if int_eq version (pos 0) then [] else boolean.written false
 
--- whether it tells of offline replicas, and a partition with them or without
+-- whether it tells of offline replicas alone, and whether of leaders' epochs and of them; a partition by either, or without both
 abbrev pub has_offline : ℤ → Bool
 has_offline version = int_eq version (pos 5)
 
-abbrev pub partition_as : Bool → MetadataPartition → List ℕ
-partition_as offline p = if offline then metadata_partition_v5.written (partition_v5 p) else metadata_partition.written p
+abbrev pub has_epochs : ℤ → Bool
+has_epochs version = int_eq version (pos 7)
 
-abbrev pub topic_as : Bool → Bool → MetadataTopic → List ℕ
-topic_as old offline t =
+abbrev pub partition_as : Bool → Bool → MetadataPartition → List ℕ
+partition_as epochs offline p =
+    if epochs then metadata_partition_v7.written (partition_v5 p)
+    else if offline then metadata_partition_v5.written (partition_v5 p) else metadata_partition.written p
+
+abbrev pub topic_as : Bool → Bool → Bool → MetadataTopic → List ℕ
+topic_as old epochs offline t =
     if old then metadata_topic_v0.written (topic_v0 t)
+    else if epochs then metadata_topic_v7.written (topic_v5 t)
     else if offline then metadata_topic_v5.written (topic_v5 t) else metadata_topic.written t
 
 abbrev pub topic_in : ℤ → MetadataTopic → List ℕ
-topic_in version t = topic_as (int_eq version (pos 0)) (has_offline version) t
+topic_in version t = topic_as (int_eq version (pos 0)) (has_epochs version) (has_offline version) t
 
 abbrev pub topics_in : ℤ → List MetadataTopic → List ℕ
 topics_in version ts = (count w32).written (length ts) ++ flat_map (topic_in version) ts

@@ -1,13 +1,14 @@
--- OffsetCommit (Kafka protocol guide, "The Messages: OffsetCommit", versions 2 and 5): a group records how far it has processed partitions.
+-- OffsetCommit (Kafka protocol guide, "The Messages: OffsetCommit", versions 1, 2, 5 and 6): a group records how far it has processed partitions.
 -- Whether all entries of a request are refused is a parameter of `committed_all`. This crate's own `served` is that of a tenant whose
 -- groups have no members: there only a consumer that chooses its partitions itself commits, and it names a generation below 0.
 use Rattle.std.specs.Prelude.{ℕ, ℤ, pos, negsuc, Bool, true, false, List, [], ◌+◌, length, Option, Some, None, is_some, not, int_lt, ◌==◌, ◌&&◌}
-use Rattle.std.specs.Prelude.{Result, Ok, if◌then◌else◌}
-use Rattle.kb_wire.specs.Codec.{array, int32, string, whole, ◌>>=◌}
+use Rattle.std.specs.Prelude.{Result, Ok, int_le, map, if◌then◌else◌}
+use Rattle.kb_wire.specs.Codec.{Codec, array, int32, int64, nullable_string, string, whole, ◌>>=◌}
 use Rattle.kb_wire.specs.ErrorCode.{code_of}
 use Rattle.kb_wire.specs.declared.error_code.ErrorCode.TheVariants as codes
 use Rattle.kb_wire.specs.declared.fault.WireFault.{WireFault}
 use Rattle.kb_api_data.specs.Both.{both}
+use Rattle.kb_api_data.specs.declared.both.Both.{Both}
 use Rattle.kb_api_group.specs.Layouts.{commit_topic, offset_commit_request}
 use Rattle.kb_api_group.specs.declared.offset_commit.CommitPartition.{CommitPartition}
 use Rattle.kb_api_group.specs.declared.offset_commit.CommitPartitionReply.{CommitPartitionReply}
@@ -83,7 +84,7 @@ abbrev pub committed_all : DataLimits → World → Option ℤ → OffsetCommitR
 committed_all limits w refusal q =
     let r = in_turn (committed_topic limits refusal q.group_id) w q.topics in (r.0, record { topics = r.1 })
 
--- ---- versions from 5 on; any other is version 2
+-- ---- versions up to 1, from 5 on and from 6 on; any other is version 2
 
 -- From version 5 on a request has no retention time, which has no effect.
 abbrev pub has_retention_time : ℤ → Bool
@@ -101,5 +102,41 @@ commit_as has body =
       topics = q.second.second.second;
     }))
 
+-- An entry with a field more behind its offset, which has no effect: a timestamp in version 1, and from version 6 on a leader's epoch.
+abbrev pub entry_with : {X : Type 0} → Codec X → Codec (Both ℤ (Both ℤ (Both X (Option (List ℕ)))))
+entry_with field = both int32 (both int64 (both field nullable_string))
+
+abbrev pub topic_with : {X : Type 0} → Codec X → Codec (Both (List ℕ) (List (Both ℤ (Both ℤ (Both X (Option (List ℕ)))))))
+topic_with field = both string (array (entry_with field))
+
+-- the same without it
+abbrev pub plain_entry : {X : Type 0} → Both ℤ (Both ℤ (Both X (Option (List ℕ)))) → CommitPartition
+plain_entry e = record { partition = e.first; offset = e.second.first; metadata = e.second.second.second }
+
+abbrev pub plain_topic : {X : Type 0} → Both (List ℕ) (List (Both ℤ (Both ℤ (Both X (Option (List ℕ)))))) → CommitTopic
+plain_topic t = record { name = t.first; partitions = map plain_entry t.second }
+
+abbrev pub request_with : {X : Type 0} → Codec X
+    → Codec (Both (List ℕ) (Both ℤ (Both (List ℕ) (List (Both (List ℕ) (List (Both ℤ (Both ℤ (Both X (Option (List ℕ)))))))))))
+request_with field = both string (both int32 (both string (array (topic_with field))))
+
+-- a request of such entries has no retention time either
+abbrev pub plain : {X : Type 0} → Both (List ℕ) (Both ℤ (Both (List ℕ) (List (Both (List ℕ) (List (Both ℤ (Both ℤ (Both X (Option (List ℕ))))))))))
+    → OffsetCommitRequest
+plain q = record {
+  group_id = q.first;
+  generation_id = q.second.first;
+  member_id = q.second.second.first;
+  retention_time_ms = negsuc 0;
+  topics = map plain_topic q.second.second.second;
+}
+
+-- what a body asks whose entries have such a field
+abbrev pub commit_with : {X : Type 0} → Codec X → List ℕ → Result OffsetCommitRequest WireFault
+commit_with field body = whole (request_with field) body >>= (λ q. Ok (plain q))
+
 abbrev pub asked_commit : ℤ → List ℕ → Result OffsetCommitRequest WireFault
-asked_commit version body = commit_as (has_retention_time version) body
+asked_commit version body =
+    if int_lt version (pos 2) then commit_with int64 body
+    else if int_le (pos 6) version then commit_with int32 body
+    else commit_as (has_retention_time version) body

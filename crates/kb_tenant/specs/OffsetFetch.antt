@@ -1,13 +1,13 @@
--- OffsetFetch (Kafka protocol guide, "The Messages: OffsetFetch", versions 1 and 2): which offsets has a group committed?
-use Rattle.std.specs.Prelude.{ℕ, ℤ, pos, negsuc, Bool, List, [], ◌∷◌, ◌++◌, length, map, Option, Some, None, Result, Ok, int_le, if◌then◌else◌}
+-- OffsetFetch (Kafka protocol guide, "The Messages: OffsetFetch", versions 1, 2 and 5): which offsets has a group committed?
+use Rattle.std.specs.Prelude.{ℕ, ℤ, pos, negsuc, Bool, true, false, List, [], ◌∷◌, ◌++◌, length, map, Option, Some, None, Result, Ok, int_le, if◌then◌else◌}
 use Rattle.std.specs.List.{flat_map, range_with_len}
 use Rattle.std.specs.Option.{option_and_then}
-use Rattle.kb_wire.specs.Codec.{int16, whole, ◌>>=◌}
+use Rattle.kb_wire.specs.Codec.{Codec, array, int16, int32, int64, nullable_string, string, via, whole, ◌>>=◌, ◌⊗◌}
 use Rattle.kb_wire.specs.ErrorCode.{code_of}
 use Rattle.kb_wire.specs.declared.error_code.ErrorCode.TheVariants as codes
 use Rattle.kb_wire.specs.declared.fault.WireFault.{WireFault}
 use Rattle.kb_api_group.specs.Layouts.{offset_fetch_request, offset_fetch_request_v2, offset_fetch_reply, offset_fetch_reply_v2}
-use Rattle.kb_api_group.specs.Layouts.{offset_fetch_topic_reply}
+use Rattle.kb_api_group.specs.Layouts.{offset_fetch_partition_reply, offset_fetch_topic_reply}
 use Rattle.kb_api_group.specs.declared.offset_fetch.OffsetFetchTopic.{OffsetFetchTopic}
 use Rattle.kb_api_group.specs.declared.offset_fetch.OffsetFetchRequest.{OffsetFetchRequest}
 use Rattle.kb_api_group.specs.declared.offset_fetch.OffsetFetchPartitionReply.{OffsetFetchPartitionReply}
@@ -20,6 +20,7 @@ use Rattle.kb_topics.specs.Known.{CommittedOffset, TopicState, named}
 use Rattle.kb_tenant_state.specs.Calls.{committed}
 use Rattle.kb_tenant_state.specs.World.{World, place_in}
 use Rattle.kb_tenant.specs.DeleteTopics.{place_at}
+use Rattle.kb_tenant.specs.Epochs.{no_epoch}
 use Rattle.kb_tenant.specs.Replies.{array_until}
 
 abbrev pub committed_answered : ℤ → ℤ → List ℕ → OffsetFetchPartitionReply
@@ -94,21 +95,43 @@ asked_as has body = if has then whole offset_fetch_request_v2 body else whole of
 abbrev pub asked_offsets : ℤ → List ℕ → Result OffsetFetchRequestV2 WireFault
 asked_offsets version body = asked_as (has_code version) body
 
+-- From version 5 on a partition's answer tells the epoch of the leader that wrote what is committed, behind the offset.
+abbrev pub has_epochs : ℤ → Bool
+has_epochs version = int_le (pos 5) version
+
+-- a partition's answer and a topic's, with epochs or without
+abbrev pub partition_reply_v5 : Codec OffsetFetchPartitionReply
+partition_reply_v5 = via (λ p. record { partition = p.0; offset = p.1.0; metadata = p.1.1.1.0; error_code = p.1.1.1.1 }) (λ v.
+    (v.partition, (v.offset, (no_epoch, (v.metadata, v.error_code))))) (int32 ⊗ int64 ⊗ int32 ⊗ nullable_string ⊗ int16)
+
+abbrev pub topic_reply_v5 : Codec OffsetFetchTopicReply
+topic_reply_v5 = via (λ p. record { name = p.0; partitions = p.1 }) (λ v. (v.name, v.partitions)) (string ⊗ array partition_reply_v5)
+
+abbrev pub partition_reply : Bool → Codec OffsetFetchPartitionReply
+partition_reply true = partition_reply_v5
+partition_reply false = offset_fetch_partition_reply
+
+abbrev pub topic_reply : Bool → Codec OffsetFetchTopicReply
+topic_reply true = topic_reply_v5
+topic_reply false = offset_fetch_topic_reply
+
 -- The whole request is never refused.
 abbrev pub reply_v2 : OffsetFetchReply → OffsetFetchReplyV2
 reply_v2 r = record { topics = r.topics; error_code = code_of codes.None }
-
--- the reply in bytes
-abbrev pub offsets_as : Bool → OffsetFetchReply → List ℕ
-offsets_as has r = if has then offset_fetch_reply_v2.written (reply_v2 r) else offset_fetch_reply.written r
-
-abbrev pub offsets_in : ℤ → OffsetFetchReply → List ℕ
-offsets_in version r = offsets_as (has_code version) r
 
 -- what it says behind the topics
 abbrev pub code_in : Bool → List ℕ
 code_in has = if has then int16.written (code_of codes.None) else []
 
+-- the reply in bytes, with a code or without, and with epochs or without
+abbrev pub offsets_as : Bool → Bool → OffsetFetchReply → List ℕ
+offsets_as has epochs r =
+    if epochs then (array topic_reply_v5).written r.topics ++ code_in has
+    else if has then offset_fetch_reply_v2.written (reply_v2 r) else offset_fetch_reply.written r
+
+abbrev pub offsets_in : ℤ → OffsetFetchReply → List ℕ
+offsets_in version r = offsets_as (has_code version) (has_epochs version) r
+
 -- the reply behind some bytes, whose topics are written until these are more than so many
-abbrev pub offsets_until : ℕ → Bool → OffsetFetchReply → List ℕ → List ℕ
-offsets_until most has r out = array_until most offset_fetch_topic_reply out r.topics ++ code_in has
+abbrev pub offsets_until : ℕ → Bool → Bool → OffsetFetchReply → List ℕ → List ℕ
+offsets_until most has epochs r out = array_until most (topic_reply epochs) out r.topics ++ code_in has

@@ -9,17 +9,21 @@ use Rattle.kb_wire.specs.Sunk.{Sunk}
 
 -- ---- lengths
 
--- an entry is answered with an index, a code, a base offset and a time
-abbrev pub entries_length : List ProducePartition → ℕ
-entries_length es = 22 * length es
+-- an entry is answered with an index, a code, a base offset, a time, and the start of its log where a reply tells that
+abbrev pub entry_length : Bool → ℕ
+entry_length true = 30
+entry_length false = 22
+
+abbrev pub entries_length : Bool → List ProducePartition → ℕ
+entries_length starts es = entry_length starts * length es
 
 -- before the entries stand their topic's name, as a STRING, and their count
-abbrev pub topic_length : ProduceTopic → ℕ
-topic_length t = 2 + length t.name + 4 + entries_length t.partitions
+abbrev pub topic_length : Bool → ProduceTopic → ℕ
+topic_length starts t = 2 + length t.name + 4 + entries_length starts t.partitions
 
 -- before the topics stands their count, and behind them the throttle time
-abbrev pub reply_length : ProduceRequest → ℕ
-reply_length r = 8 + sum_by topic_length r.topics
+abbrev pub reply_length : Bool → ProduceRequest → ℕ
+reply_length starts r = 8 + sum_by (topic_length starts) r.topics
 
 -- none, where no reply is due
 abbrev pub length_due : Bool → ℕ → ℕ

@@ -7,7 +7,7 @@ use Rattle.kb_wire.specs.declared.api_key.TheConstants.{FIND_COORDINATOR, CREATE
 use Rattle.kb_wire.specs.declared.fault.WireFault.{WireFault}
 use Rattle.kb_wire.specs.declared.fault.ReadFault.{ReadFault}
 use Rattle.kb_wire.specs.declared.fault.ReadFault.TheVariants as faults
-use Rattle.kb_api_data.specs.Layouts.{produce_request, produce_reply, list_offsets_reply}
+use Rattle.kb_api_data.specs.Layouts.{produce_request}
 use Rattle.kb_api_data.specs.Layouts.{delete_topics_request, delete_records_request, delete_records_reply, init_producer_id_request}
 use Rattle.kb_api_data.specs.Layouts.{init_producer_id_reply}
 use Rattle.kb_api_data.specs.declared.produce.ProduceRequest.{ProduceRequest}
@@ -32,11 +32,11 @@ use Rattle.kb_tenant.specs.Entries.{list_offsets_entries, metadata_entries, offs
 use Rattle.kb_tenant.specs.Fetch.{asked_fetch, bounded, deadline_of, fetch_answer, places_of, fetched_in}
 use Rattle.kb_tenant.specs.FindCoordinator.{asked_coordinator, coordinator_for, coordinator_in}
 use Rattle.kb_tenant.specs.InitProducerId.{init_producer_id}
-use Rattle.kb_tenant.specs.ListOffsets.{asked_listing, list_offsets}
+use Rattle.kb_tenant.specs.ListOffsets.{asked_listing, list_offsets, listing_in}
 use Rattle.kb_tenant.specs.Metadata.{asked_metadata, metadata_in, metadata_of}
 use Rattle.kb_tenant.specs.OffsetCommit.{asked_commit, committed_all, refusal_of}
 use Rattle.kb_tenant.specs.OffsetFetch.{asked_offsets, fetched_all, offsets_in}
-use Rattle.kb_tenant.specs.Produce.{produced, is_due}
+use Rattle.kb_tenant.specs.Produce.{produced, produced_in, is_due}
 use Rattle.kb_tenant.specs.Replies.{Reaction, Replies, Waits, Silent, Shuts, IsAnswer, replies_within}
 use Rattle.kb_tenant.specs.declared.answer.Answer.{Answer}
 use Rattle.kb_tenant.specs.declared.answer.Answer.TheVariants as answers
@@ -56,10 +56,10 @@ stays w r = record { world = w; touched = []; reaction = r }
 -- ---- by API; a reply of Metadata or OffsetFetch that is past its tenant's limit is not sent
 
 -- acks 0 has no reply
-abbrev pub of_produce : Option ℕ → World → ProduceRequest → Outcome
-of_produce limit w r =
+abbrev pub of_produce : ℤ → Option ℕ → World → ProduceRequest → Outcome
+of_produce version limit w r =
     let p = produced limit w [] r in
-    record { world = p.0.world; touched = p.0.touched; reaction = if is_due r.acks then Replies (produce_reply.written p.1) else Silent }
+    record { world = p.0.world; touched = p.0.touched; reaction = if is_due r.acks then Replies (produced_in version p.1) else Silent }
 
 abbrev pub fetch_reaction : ℤ → Option ℕ → World → ℕ → FetchRequest → Option FetchReplyV5 → Reaction
 fetch_reaction version limit w clock r (Some reply) = Replies (fetched_in version reply)
@@ -71,8 +71,8 @@ of_fetch version limit w clock asked =
     let r = bounded limit asked in
     stays w (fetch_reaction version limit w clock r (fetch_answer w clock r (deadline_of clock r)))
 
-abbrev pub of_list_offsets : World → ListOffsetsRequest → Outcome
-of_list_offsets w r = stays w (Replies (list_offsets_reply.written (list_offsets w r)))
+abbrev pub of_list_offsets : ℤ → World → ListOffsetsRequest → Outcome
+of_list_offsets version w r = stays w (Replies (listing_in version (list_offsets w r)))
 
 abbrev pub of_metadata : Node → ℤ → World → MetadataRequest → Outcome
 of_metadata node version w r = stays w (replies_within node.limits.reply_bytes (metadata_in version (metadata_of w node r)))
@@ -117,11 +117,11 @@ if_read w (Err fault) f = stays w Shuts
 unfoldable pub plainly_served : Node → World → ℕ → ℕ → ℤ → ℤ → List ℕ → Outcome
 plainly_served node w clock n key version body =
     let limit = node.limits.request_entries in
-    if int_eq key PRODUCE then if_read w (within limit produce_entries (whole produce_request body)) (of_produce node.limits.bytes w)
+    if int_eq key PRODUCE then if_read w (within limit produce_entries (whole produce_request body)) (of_produce version node.limits.bytes w)
     else if int_eq key FETCH then if_read w (within limit fetch_entries (asked_fetch version body))
     (of_fetch version node.limits.fetch_bytes w clock)
     else if int_eq key LIST_OFFSETS then if_read w (within limit list_offsets_entries (asked_listing version body))
-    (of_list_offsets w)
+    (of_list_offsets version w)
     else if int_eq key METADATA then if_read w (within limit metadata_entries (asked_metadata version body)) (of_metadata node version w)
     else if int_eq key OFFSET_COMMIT then if_read w (within limit commit_entries (asked_commit version body))
     (of_offset_commit node.limits w)

@@ -3,9 +3,9 @@
 use Rattle.std.specs.Prelude.{◌≡◌, ◌≤◌, ◌+◌, ◌^◌, ◌++◌, ◌⊎◌, ℕ, ℤ, pos, Bool, true, false, List, [], Option, Ok, Err, ⊤}
 use Rattle.std.specs.List.{AllZip}
 use Rattle.kb_wire.specs.Codec.{whole}
-use Rattle.kb_api_data.specs.Layouts.{delete_topics_request, init_producer_id_reply, init_producer_id_request, produce_reply}
+use Rattle.kb_api_data.specs.Layouts.{delete_topics_request, init_producer_id_reply, init_producer_id_request}
 use Rattle.kb_api_data.specs.Layouts.{produce_request}
-use Rattle.kb_api_data.specs.Layouts.{delete_records_reply, delete_records_request, list_offsets_reply}
+use Rattle.kb_api_data.specs.Layouts.{delete_records_reply, delete_records_request}
 use Rattle.kb_api_data.specs.declared.create_topics.CreateTopic.{CreateTopic}
 use Rattle.kb_api_data.specs.declared.create_topics.CreateTopicReply.{CreateTopicReply}
 use Rattle.kb_api_data.specs.declared.create_topics_v1.CreateTopicsRequestV1.{CreateTopicsRequestV1}
@@ -32,11 +32,11 @@ use Rattle.kb_api_data.specs.declared.list_offsets.ListOffsetsRequest.{ListOffse
 use Rattle.kb_api_data.specs.declared.list_offsets.ListOffsetsTopic.{ListOffsetsTopic}
 use Rattle.kb_api_data.specs.declared.list_offsets.ListOffsetsTopicReply.{ListOffsetsTopicReply}
 use Rattle.kb_api_data.specs.declared.produce.ProducePartition.{ProducePartition}
-use Rattle.kb_api_data.specs.declared.produce.ProducePartitionReply.{ProducePartitionReply}
+use Rattle.kb_api_data.specs.declared.produce_v5.ProducePartitionReplyV5.{ProducePartitionReplyV5}
 use Rattle.kb_api_data.specs.declared.produce.ProduceTopic.{ProduceTopic}
-use Rattle.kb_api_data.specs.declared.produce.ProduceTopicReply.{ProduceTopicReply}
+use Rattle.kb_api_data.specs.declared.produce_v5.ProduceTopicReplyV5.{ProduceTopicReplyV5}
 use Rattle.kb_api_data.specs.declared.produce.ProduceRequest.{ProduceRequest}
-use Rattle.kb_api_data.specs.declared.produce.ProduceReply.{ProduceReply}
+use Rattle.kb_api_data.specs.declared.produce_v5.ProduceReplyV5.{ProduceReplyV5}
 use Rattle.kb_wire.specs.ErrorCode.{code_of}
 use Rattle.kb_wire.specs.declared.error_code.ErrorCode.TheVariants as codes
 use Rattle.kb_api_group.specs.Layouts.{offset_commit_reply}
@@ -63,9 +63,9 @@ use Rattle.kb_tenant.specs.DeleteTopics.{deleted_topic, deletions_in}
 use Rattle.kb_tenant.specs.Fetch.{Limits, asked_fetch, begun, bounded, deadline_of, fetch_answered, fetched_in, is_ready, places_of, refused}
 use Rattle.kb_tenant.specs.Fetch.{reply_written}
 use Rattle.kb_tenant.specs.InitProducerId.{id_refused, init_producer_id}
-use Rattle.kb_tenant.specs.ListOffsets.{asked_listing, listed, offset_refused}
+use Rattle.kb_tenant.specs.ListOffsets.{asked_listing, listed, listing_in, offset_refused}
 use Rattle.kb_tenant.specs.OffsetCommit.{asked_commit, committed_entry, refusal_of as commit_refusal}
-use Rattle.kb_tenant.specs.Produce.{Progress, answer, progress, refusal_of, entry_served}
+use Rattle.kb_tenant.specs.Produce.{Progress, answer, progress, refusal_of, entry_served, produced_in, tells_starts}
 use Rattle.kb_tenant.specs.Replies.{framed}
 use Rattle.kb_tenant.specs.Room.{reply_length}
 use Rattle.kb_tenant.specs.Turns.{AreServed}
@@ -151,46 +151,47 @@ abbrev pub CreationFailed : Scene Seen → Scene Seen → Type 0
 CreationFailed a b = CatalogFailed a b ⊎ AreInstancesUsedUp b
 
 -- An entry is refused since the store failed, which it did, or for want of memory.
-abbrev pub IsWanting : Type 0 → ProducePartition → ProducePartitionReply → Type 0
+abbrev pub IsWanting : Type 0 → ProducePartition → ProducePartitionReplyV5 → Type 0
 IsWanting failed e x =
     ((x ≡ answer e.index (Err (code_of codes.KafkaStorageError))) × failed) ⊎ (x ≡ answer e.index (Err (code_of codes.UnknownServerError)))
 
 -- An entry does what is defined, on what those before it left; or it is refused for such a want, and changes nothing.
-abbrev pub IsEntryTold : Type 0 → Option ℕ → Option ℤ → Option ℕ → Progress → ProducePartition → Progress → ProducePartitionReply
+abbrev pub IsEntryTold : Type 0 → Option ℕ → Option ℤ → Option ℕ → Progress → ProducePartition → Progress → ProducePartitionReplyV5
     → Type 0
 IsEntryTold failed limit refusal topic p e q x = ((q, x) ≡ entry_served limit refusal topic p e) ⊎ ((q ≡ p) × IsWanting failed e x)
 
-abbrev pub IsTopicTold : Type 0 → Option ℕ → Option ℤ → Progress → ProduceTopic → Progress → ProduceTopicReply → Type 0
+abbrev pub IsTopicTold : Type 0 → Option ℕ → Option ℤ → Progress → ProduceTopic → Progress → ProduceTopicReplyV5 → Type 0
 IsTopicTold failed limit refusal p t q x =
     (x.name ≡ t.name) × AreServed (IsEntryTold failed limit refusal (named t.name p.world.known.topics)) p t.partitions q x.partitions
 
 -- A produce, whose entries are so told one after another, comes to that reply.
-abbrev pub IsProduceTold : Type 0 → Option ℕ → Progress → ProduceRequest → Progress → ProduceReply → Type 0
+abbrev pub IsProduceTold : Type 0 → Option ℕ → Progress → ProduceRequest → Progress → ProduceReplyV5 → Type 0
 IsProduceTold failed limit p r q reply =
     AreServed (IsTopicTold failed limit (refusal_of r.transactional_id r.acks)) p r.topics q reply.topics
     × (reply.throttle_time_ms ≡ pos 0)
 
--- Its answer is that reply's bytes, or none where none is due.
-abbrev pub IsAcknowledged : Type 0 → Option ℕ → ℤ → World → ProduceRequest → World → List TopicPartition → Answer → Type 0
-IsAcknowledged failed limit id w r v touched (answers.Reply bytes) =
-    (reply : ProduceReply) × ((bytes.items ≡ framed id (produce_reply.written reply))
+-- Its answer is that reply's bytes in a version of the API, or none where none is due.
+abbrev pub IsAcknowledged : Type 0 → Option ℕ → (id version : ℤ) → World → ProduceRequest → World → List TopicPartition → Answer → Type 0
+IsAcknowledged failed limit id version w r v touched (answers.Reply bytes) =
+    (reply : ProduceReplyV5) × ((bytes.items ≡ framed id (produced_in version reply))
     × IsProduceTold failed limit (progress w []) r (progress v touched) reply)
-IsAcknowledged failed limit id w r v touched (answers.Wait deadline fetch keys) = ⊥
-IsAcknowledged failed limit id w r v touched answers.NoReply =
-    (reply : ProduceReply) × IsProduceTold failed limit (progress w []) r (progress v touched) reply
-IsAcknowledged failed limit id w r v touched answers.Shut = ⊤
+IsAcknowledged failed limit id version w r v touched (answers.Wait deadline fetch keys) = ⊥
+IsAcknowledged failed limit id version w r v touched answers.NoReply =
+    (reply : ProduceReplyV5) × IsProduceTold failed limit (progress w []) r (progress v touched) reply
+IsAcknowledged failed limit id version w r v touched answers.Shut = ⊤
 
 -- The same of a body, where it is a request of Produce.
-abbrev pub Acknowledges : Type 0 → Option ℕ → ℤ → World → List ℕ → World → List TopicPartition → Answer → Type 0
-Acknowledges failed limit id w body v touched a =
-    (r : ProduceRequest) → whole produce_request body ≡ Ok r → IsAcknowledged failed limit id w r v touched a
+abbrev pub Acknowledges : Type 0 → Option ℕ → (id version : ℤ) → World → List ℕ → World → List TopicPartition → Answer → Type 0
+Acknowledges failed limit id version w body v touched a =
+    (r : ProduceRequest) → whole produce_request body ≡ Ok r → IsAcknowledged failed limit id version w r v touched a
 
 -- A produce after which the connection is shut has changed nothing, unless its reply is too long for the INT32 of its size.
-abbrev pub IsSpared : World → List ℕ → World → Answer → Type 0
-IsSpared w body v (answers.Reply bytes) = ⊤
-IsSpared w body v (answers.Wait deadline limit keys) = ⊤
-IsSpared w body v answers.NoReply = ⊤
-IsSpared w body v answers.Shut = (v ≡ w) ⊎ ((r : ProduceRequest) × ((whole produce_request body ≡ Ok r) × (2 ^ 31 ≤ 4 + reply_length r)))
+abbrev pub IsSpared : ℤ → World → List ℕ → World → Answer → Type 0
+IsSpared version w body v (answers.Reply bytes) = ⊤
+IsSpared version w body v (answers.Wait deadline limit keys) = ⊤
+IsSpared version w body v answers.NoReply = ⊤
+IsSpared version w body v answers.Shut = (v ≡ w)
+    ⊎ ((r : ProduceRequest) × ((whole produce_request body ≡ Ok r) × (2 ^ 31 ≤ 4 + reply_length (tells_starts version) r)))
 
 -- ---- replies
 
@@ -301,15 +302,15 @@ abbrev pub IsListingTopicTold : Type 0 → World → ListOffsetsTopic → ListOf
 IsListingTopicTold failed w t x =
     (x.name ≡ t.name) × AllZip (IsListingTold failed w (named t.name w.known.topics)) t.partitions x.partitions
 
--- It is the reply of a ListOffsets, of which each topic is so told.
-abbrev pub TellsListing : Type 0 → World → ListOffsetsRequest → List ℕ → Type 0
-TellsListing failed w q body = (reply : ListOffsetsReply)
-    × ((body ≡ list_offsets_reply.written reply) × AllZip (IsListingTopicTold failed w) q.topics reply.topics)
+-- It is the reply of a ListOffsets of a version, of which each topic is so told.
+abbrev pub TellsListing : Type 0 → ℤ → World → ListOffsetsRequest → List ℕ → Type 0
+TellsListing failed version w q body = (reply : ListOffsetsReply)
+    × ((body ≡ listing_in version reply) × AllZip (IsListingTopicTold failed w) q.topics reply.topics)
 
 -- The same of a body, where it is a request of ListOffsets of a version.
 abbrev pub AnswersListing : Type 0 → (id version : ℤ) → World → List ℕ → Answer → Type 0
 AnswersListing failed id version w body a =
-    (q : ListOffsetsRequest) → asked_listing version body ≡ Ok q → IsReplied id (TellsListing failed w q) a
+    (q : ListOffsetsRequest) → asked_listing version body ≡ Ok q → IsReplied id (TellsListing failed version w q) a
 
 -- ---- Fetch
 

@@ -3,8 +3,7 @@ ghost use Rattle.std.specs.Prelude.{◌≡◌, ◌≤◌, ◌<◌, ◌^◌, ◌+
 ghost use Rattle.std.specs.List.{flat_map};
 ghost use Rattle.std.specs.Option.{option_copied};
 ghost use Rattle.kb_store.specs.Disk.{Files};
-ghost use Rattle.kb_api_group.specs.Layouts.{offset_fetch_partition_reply, offset_fetch_topic_reply};
-ghost use Rattle.kb_tenant.specs.OffsetFetch.{all_told, told_if, told_in, topic_told};
+ghost use Rattle.kb_tenant.specs.OffsetFetch.{all_told, partition_reply, told_if, told_in, topic_reply, topic_told};
 ghost use Rattle.kb_tenant.specs.Replies.{array_until};
 ghost use Rattle.kb_tenant_state.specs.Parts.{world_of};
 
@@ -45,18 +44,24 @@ fn count_in<L: PartitionLog + Drop>(
 }
 
 /// Writes the answer for a partition, where something was committed to it.
-fn put_if(partition: i32, committed: Option<&Committed>, sink: &mut Sink) -> Result<(), AllocError>
+fn put_if(
+    has_epochs: bool,
+    partition: i32,
+    committed: Option<&Committed>,
+    sink: &mut Sink,
+) -> Result<(), AllocError>
     ensures { OnOk result (sink.new.bytes ≡ sink.old.bytes
-        ++ flat_map offset_fetch_partition_reply.written (told_if partition (option_copied committed.entry))) }
+        ++ flat_map (partition_reply has_epochs).written (told_if partition (option_copied committed.entry))) }
 {
     if committed.is_none() {
         return Ok(());
     }
-    put_told(partition, committed, sink)
+    put_told(has_epochs, partition, committed, sink)
 }
 
 /// Answers what a group committed to the first partitions of an instance, so many. An `Err` leaves some of the answers written.
 fn put_in<L: PartitionLog + Drop>(
+    has_epochs: bool,
     parts: &Parts<L>,
     group: &str,
     instance: u64,
@@ -65,11 +70,12 @@ fn put_in<L: PartitionLog + Drop>(
 ) -> Result<(), AllocError>
     requires { partitions < 2 ^ 31 }
     ensures { (files : Files) → OnOk result (sink.new.bytes ≡ sink.old.bytes
-        ++ flat_map offset_fetch_partition_reply.written (told_in (world_of L.log parts.now files) group.now instance partitions)) }
+        ++ flat_map (partition_reply has_epochs).written (told_in (world_of L.log parts.now files) group.now instance partitions)) }
 {
     for number in 0..partitions {
         let place = TopicPartition { instance, number };
-        put_if(number as i32, parts.committed(place, group), sink)?;
+        let committed = parts.committed(place, group);
+        put_if(has_epochs, number as i32, committed, sink)?;
     }
     Ok(())
 }
@@ -77,6 +83,7 @@ fn put_in<L: PartitionLog + Drop>(
 /// Answers a topic, unless the group committed to none of its partitions. A name or a number of partitions that does not fit the reply
 /// is refused as want of memory.
 fn put_topic<L: PartitionLog + Drop>(
+    has_epochs: bool,
     parts: &Parts<L>,
     group: &str,
     instance: u64,
@@ -84,7 +91,7 @@ fn put_topic<L: PartitionLog + Drop>(
     sink: &mut Sink,
 ) -> Result<(), AllocError>
     ensures { (files : Files) → OnOk result (sink.new.bytes ≡ sink.old.bytes
-        ++ flat_map offset_fetch_topic_reply.written (topic_told (world_of L.log parts.now files) group.now (instance, topic.now))) }
+        ++ flat_map (topic_reply has_epochs).written (topic_told (world_of L.log parts.now files) group.now (instance, topic.now))) }
 {
     let partitions = topic.partitions().len();
     if partitions > i32::MAX as usize {
@@ -99,7 +106,7 @@ fn put_topic<L: PartitionLog + Drop>(
     }
     sink.put_string(topic.name())?;
     sink.put_count(count)?;
-    put_in(parts, group, instance, partitions, sink)
+    put_in(has_epochs, parts, group, instance, partitions, sink)
 }
 
 /// 1 where a group committed to the topic of an instance, and else 0.
@@ -137,12 +144,13 @@ fn count_topics<L: PartitionLog + Drop>(parts: &Parts<L>, group: &str) -> Result
 
 /// Answers all that a group committed, until the sink has more than so many bytes. An `Err` leaves a part of the answer written.
 pub(crate) fn put_all<L: PartitionLog + Drop>(
+    has_epochs: bool,
     parts: &Parts<L>,
     group: &str,
     most: usize,
     sink: &mut Sink,
 ) -> Result<(), AllocError>
-    ensures { (files : Files) → OnOk result (sink.new.bytes ≡ array_until most offset_fetch_topic_reply sink.old.bytes
+    ensures { (files : Files) → OnOk result (sink.new.bytes ≡ array_until most (topic_reply has_epochs) sink.old.bytes
         (all_told (world_of L.log parts.now files) group.now)) }
 {
     let count = count_topics(parts, group)?;
@@ -151,7 +159,7 @@ pub(crate) fn put_all<L: PartitionLog + Drop>(
         if sink.len() > most {
             return Ok(());
         }
-        put_topic(parts, group, instance, topic, sink)?;
+        put_topic(has_epochs, parts, group, instance, topic, sink)?;
     }
     Ok(())
 }

@@ -32,10 +32,10 @@ use crate::fetch::{Fetching, bound, read_request, read_request_within, serve_fet
 use crate::group_offsets::{serve_find_coordinator, serve_offset_commit, serve_offset_fetch};
 use crate::init_producer_id::init_producer_id;
 use crate::limits::DataLimits;
-use crate::list_offsets::{list_offsets, read_list_offsets_within};
+use crate::list_offsets::{has_epochs, list_offsets, read_list_offsets_within};
 use crate::metadata::{metadata, read_metadata_within};
 use crate::node::Node;
-use crate::produce::produce;
+use crate::produce::{produce, tells_starts};
 use crate::request::{Request, Wait};
 use crate::within::read_within;
 use kb_api_data::{
@@ -71,19 +71,28 @@ fn serve_produce<L: PartitionLog + Drop, S: Store>(
     ensures meets { let a = scene L.log S.disk parts.old shelf.old in let b = scene L.log S.disk parts.new shelf.new in
         Meets a b (IsServed request.now.correlation_id
         (if_read a.state.world (within limits.request_entries produce_entries (whole produce_request request.now.body.now))
-        (of_produce limits.bytes a.state.world)) b.state.world touched.new.items result) }
+        (of_produce request.now.api_version limits.bytes a.state.world)) b.state.world touched.new.items result) }
     ensures acknowledged { let a = scene L.log S.disk parts.old shelf.old in let b = scene L.log S.disk parts.new shelf.new in
         IfOk result (λ answer. WhereHonest a b (Acknowledges
-        (HasFailed a b) limits.bytes request.now.correlation_id a.state.world request.now.body.now b.state.world touched.new.items
-        answer)) }
+        (HasFailed a b) limits.bytes request.now.correlation_id request.now.api_version a.state.world request.now.body.now b.state.world
+        touched.new.items answer)) }
     ensures spared { let a = scene L.log S.disk parts.old shelf.old in let b = scene L.log S.disk parts.new shelf.new in
         OnErr result (b.state.world ≡ a.state.world) }
     ensures shut { let a = scene L.log S.disk parts.old shelf.old in let b = scene L.log S.disk parts.new shelf.new in
-        IfOk result (λ answer. IsSpared a.state.world request.now.body.now b.state.world answer) }
+        IfOk result (λ answer. IsSpared request.now.api_version a.state.world request.now.body.now b.state.world answer) }
 {
     let asked = read_within::<ProduceRequest<'_>>(alloc, limits.request_entries, request.body)?;
     let mut sink = begin(alloc, request.correlation_id)?;
-    produce(parts, shelf, limits.bytes, &asked, touched, &mut sink)?;
+    let has_starts = tells_starts(request.api_version);
+    produce(
+        parts,
+        shelf,
+        limits.bytes,
+        has_starts,
+        &asked,
+        touched,
+        &mut sink,
+    )?;
     if asked.acks == 0 {
         return Ok(Answer::NoReply);
     }
@@ -141,14 +150,15 @@ fn serve_list_offsets<L: PartitionLog + Drop, S: Store>(
     ensures meets { let a = scene L.log S.disk parts.old shelf.old in let b = scene L.log S.disk parts.new shelf.new in
         Meets a b (IsServed request.now.correlation_id
         (if_read a.state.world (within limit list_offsets_entries (asked_listing request.now.api_version request.now.body.now))
-        (of_list_offsets a.state.world)) b.state.world [] result) }
+        (of_list_offsets request.now.api_version a.state.world)) b.state.world [] result) }
     ensures listed { let a = scene L.log S.disk parts.old shelf.old in let b = scene L.log S.disk parts.new shelf.new in
         IfOk result (λ answer. WhereHonest a b (AnswersListing (HasFailed a b)
         request.now.correlation_id request.now.api_version a.state.world request.now.body.now answer)) }
 {
-    let asked = read_list_offsets_within(alloc, limit, request.api_version, request.body)?;
+    let version = request.api_version;
+    let asked = read_list_offsets_within(alloc, limit, version, request.body)?;
     let mut sink = begin(alloc, request.correlation_id)?;
-    list_offsets(parts, shelf, &asked, &mut sink)?;
+    list_offsets(parts, shelf, has_epochs(version), &asked, &mut sink)?;
     Ok(finish(sink))
 }
 
@@ -320,7 +330,8 @@ fn serve_by_key<L: PartitionLog + Drop, S: Store>(
     ensures spared { let a = scene L.log S.disk parts.old shelf.old in let b = scene L.log S.disk parts.new shelf.new in
         request.now.api_key ≡ PRODUCE → OnErr result (b.state.world ≡ a.state.world) }
     ensures shut { let a = scene L.log S.disk parts.old shelf.old in let b = scene L.log S.disk parts.new shelf.new in
-        request.now.api_key ≡ PRODUCE → IfOk result (λ answer. IsSpared a.state.world request.now.body.now b.state.world answer) }
+        request.now.api_key ≡ PRODUCE →
+        IfOk result (λ answer. IsSpared request.now.api_version a.state.world request.now.body.now b.state.world answer) }
 {
     let limit = node.limits.request_entries;
     match request.api_key {
@@ -373,7 +384,7 @@ pub fn serve<L: PartitionLog + Drop, S: Store>(
         result.answer) }
     // A Produce whose connection is shut for want of memory has appended nothing, on any store.
     ensures spared { let a = scene L.log S.disk parts.old shelf.old in let b = scene L.log S.disk parts.new shelf.new in
-        request.now.api_key ≡ PRODUCE → IsSpared a.state.world request.now.body.now b.state.world result.answer }
+        request.now.api_key ≡ PRODUCE → IsSpared request.now.api_version a.state.world request.now.body.now b.state.world result.answer }
 {
     let mut touched = Vec::new(alloc);
     match serve_by_key(alloc, parts, shelf, node, clock, request, &mut touched) {

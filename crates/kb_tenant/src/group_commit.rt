@@ -1,6 +1,6 @@
 //! OffsetCommit (Kafka protocol guide): a group records how far it has processed partitions. From version 5 on a request has no
-//! retention time.
-ghost use Rattle.std.specs.Prelude.{◌≡◌, ◌++◌, ◌+◌, ◌-◌, ◌<◌, ◌^◌, ℕ, length, min, nat_lt, pos, List, OnOk};
+//! retention time, and from version 6 on its entries have a leader's epoch. In version 1 they have a timestamp.
+ghost use Rattle.std.specs.Prelude.{◌≡◌, ◌++◌, ◌+◌, ◌-◌, ◌<◌, ◌^◌, ℕ, length, min, map, nat_lt, pos, List, OnOk};
 ghost use Rattle.std.specs.List.{flat_map};
 ghost use Rattle.kb_api_group.specs.Layouts.{commit_partition_reply, commit_topic, commit_topic_reply, offset_commit_request};
 ghost use Rattle.kb_api_group.specs.Layouts.{offset_commit_reply};
@@ -10,12 +10,13 @@ ghost use Rattle.kb_api_group.specs.declared.offset_commit.OffsetCommitReply.{Of
 ghost use Rattle.kb_tenant_state.specs.Scene.{WhereHonest};
 ghost use Rattle.kb_tenant.specs.OffsetCommit.{refusal_of as refusal_for, metadata_in as metadata_for, committed_at, committed};
 ghost use Rattle.kb_tenant.specs.Entries.{commit_entries, within};
-ghost use Rattle.kb_tenant.specs.OffsetCommit.{asked_commit, commit_as, has_retention_time, is_one_too_many, is_takeable};
+ghost use Rattle.kb_tenant.specs.OffsetCommit.{asked_commit, commit_as, commit_with, has_retention_time, is_one_too_many, is_takeable};
+ghost use Rattle.kb_tenant.specs.OffsetCommit.{plain, plain_entry, plain_topic};
 ghost use Rattle.kb_tenant.specs.OffsetCommit.{committed_entry, committed_topic, committed_all};
 ghost use Rattle.kb_tenant.specs.Produce.{written_next};
 ghost use Rattle.kb_tenant.specs.Told.{CatalogFailed, IsCommitTold, IsCommitTopicTold, IsFaultOf, IsTold};
 ghost use Rattle.kb_tenant.specs.Turns.{in_turn, written_behind, AreServed};
-ghost use Rattle.kb_wire.specs.Codec.{string};
+ghost use Rattle.kb_wire.specs.Codec.{int32, int64, string};
 ghost use Rattle.kb_wire.specs.Reads.{ReadsWhole};
 ghost use Rattle.kb_store.specs.Disk.{Files, Table};
 ghost use Rattle.kb_tenant_state.specs.Parts.{scene, world_of, IsSound};
@@ -36,6 +37,21 @@ use std::alloc::{AllocError, Global};
 
 /// A request of version 5, which has no retention time.
 type Timeless<'a> = Both<Text<'a>, Both<i32, Both<Text<'a>, Array<CommitTopic<'a>>>>>;
+
+/// An entry with a field more behind its offset.
+type Entry<'a, X> = Both<i32, Both<i64, Both<X, Option<Text<'a>>>>>;
+
+/// A request whose entries are such, without a retention time.
+type With<'a, X> = Both<
+    Text<'a>,
+    Both<i32, Both<Text<'a>, Array<Both<Text<'a>, Array<Entry<'a, X>>>>>>,
+>;
+
+/// A request of version 1, whose entries have a timestamp.
+type Timestamps<'a> = With<'a, i64>;
+
+/// A request of version 6, whose entries have a leader's epoch.
+type Epochs<'a> = With<'a, i32>;
 
 /// Whether a request of a version has a retention time.
 fn has_retention_time(version: i16) -> bool
@@ -67,6 +83,105 @@ fn read_commit<'a>(
     })
 }
 
+/// The same metadata.
+fn same_text<'a>(metadata: &Option<Text<'a>>) -> Option<Text<'a>>
+    ensures { result ≡ metadata.now }
+{
+    match metadata {
+        Some(text) => Some(Text::new(text.as_str())),
+        None => None,
+    }
+}
+
+/// A topic's entries without the field behind the offset.
+fn plain_entries<'a, X: Drop>(
+    alloc: Global,
+    entries: &[Entry<'a, X>],
+) -> Result<Array<CommitPartition<'a>>, AllocError>
+    ensures { IfOk result (λ plain. plain ≡ map plain_entry entries.now) }
+{
+    let mut plain = Array::new(alloc);
+    for entry in entries {
+        plain.push(CommitPartition {
+            partition: entry.first,
+            offset: entry.second.first,
+            metadata: same_text(&entry.second.second.second),
+        })?;
+    }
+    Ok(plain)
+}
+
+/// Topics whose entries are without it.
+fn plain_topics<'a, X: Drop>(
+    alloc: Global,
+    topics: &[Both<Text<'a>, Array<Entry<'a, X>>>],
+) -> Result<Array<CommitTopic<'a>>, AllocError>
+    ensures { IfOk result (λ plain. plain ≡ map plain_topic topics.now) }
+{
+    let mut plain = Array::new(alloc);
+    for topic in topics {
+        plain.push(CommitTopic {
+            name: Text::new(topic.first.as_str()),
+            partitions: plain_entries(alloc, topic.second.as_slice())?,
+        })?;
+    }
+    Ok(plain)
+}
+
+/// A request without the field behind each offset. It has no retention time.
+fn plain<'a, X: Drop>(
+    alloc: Global,
+    asked: &With<'a, X>,
+) -> Result<OffsetCommitRequest<'a>, AllocError>
+    ensures { IfOk result (λ q. q ≡ plain asked.now) }
+{
+    Ok(OffsetCommitRequest {
+        group_id: Text::new(asked.first.as_str()),
+        generation_id: asked.second.first,
+        member_id: Text::new(asked.second.second.first.as_str()),
+        retention_time_ms: -1,
+        topics: plain_topics(alloc, asked.second.second.second.as_slice())?,
+    })
+}
+
+/// The request that a whole body of version 1 spells. Its timestamps are passed over.
+#[tactic(auto, using(crate::proofs::Committing::timestamps_fit))]
+fn read_timestamps<'a>(alloc: Global, body: &'a [u8]) -> Result<OffsetCommitRequest<'a>, ReadFault>
+    ensures exact { ReadsWhole (commit_with int64 body.now) result }
+    ensures fits { IfOk result (λ q. offset_commit_request.Fits q) }
+{
+    let asked = Timestamps::read(alloc, body)?;
+    Ok(plain(alloc, &asked)?)
+}
+
+/// The request that a whole body of version 6 spells. Its epochs are passed over.
+#[tactic(auto, using(crate::proofs::Committing::epochs_fit))]
+fn read_epochs<'a>(alloc: Global, body: &'a [u8]) -> Result<OffsetCommitRequest<'a>, ReadFault>
+    ensures exact { ReadsWhole (commit_with int32 body.now) result }
+    ensures fits { IfOk result (λ q. offset_commit_request.Fits q) }
+{
+    let asked = Epochs::read(alloc, body)?;
+    Ok(plain(alloc, &asked)?)
+}
+
+/// The request that a whole body of a version spells.
+fn read_version<'a>(
+    alloc: Global,
+    version: i16,
+    body: &'a [u8],
+) -> Result<OffsetCommitRequest<'a>, ReadFault>
+    ensures exact { ReadsWhole (asked_commit version body.now) result }
+    ensures fits { IfOk result (λ q. offset_commit_request.Fits q) }
+{
+    if version < 2 {
+        return read_timestamps(alloc, body);
+    }
+    if version >= 6 {
+        return read_epochs(alloc, body);
+    }
+    read_commit(alloc, has_retention_time(version), body)
+}
+
 /// The request that a body of a version spells, unless it names more topics and partitions than a limit allows.
 pub fn read_commit_within<'a>(
     alloc: Global,
@@ -78,7 +193,7 @@ pub fn read_commit_within<'a>(
     ensures spelled { IfOk result (λ q. asked_commit version body.now ≡ Ok q) }
     ensures fits { IfOk result (λ q. offset_commit_request.Fits q) }
 {
-    let asked = read_commit(alloc, has_retention_time(version), body)?;
+    let asked = read_version(alloc, version, body)?;
     within(limit, asked)
 }
 

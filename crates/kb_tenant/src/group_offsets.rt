@@ -18,7 +18,7 @@ use crate::find_coordinator::{find_coordinator, has_key_type, read_find_coordina
 use crate::group_commit::{offset_commit, read_commit_within, refusal_of};
 use crate::limits::DataLimits;
 use crate::node::Node;
-use crate::offset_fetch::{has_code, offset_fetch, read_offset_fetch_within};
+use crate::offset_fetch::{has_code, has_epochs, offset_fetch, read_offset_fetch_within};
 use crate::request::Request;
 use kb_log::{PartitionLog, Shelf};
 use kb_store::Store;
@@ -66,11 +66,12 @@ pub(crate) fn serve_offset_fetch<L: PartitionLog + Drop>(
         (of_offset_fetch limits.reply_bytes request.now.api_version w)) w [] result }
 {
     let has_code = has_code(request.api_version);
+    let has_epochs = has_epochs(request.api_version);
     let entries = limits.request_entries;
     let asked = read_offset_fetch_within(alloc, entries, has_code, request.body)?;
     let mut sink = begin(alloc, request.correlation_id)?;
     let most = most_bytes(limits.reply_bytes);
-    offset_fetch(parts, has_code, &asked, most, &mut sink)?;
+    offset_fetch(parts, has_code, has_epochs, &asked, most, &mut sink)?;
     Ok(finish_within(limits.reply_bytes, sink))
 }
 

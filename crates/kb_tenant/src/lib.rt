@@ -8,6 +8,7 @@ mod create_topics;
 mod delete_records;
 mod delete_topics;
 mod dispatch;
+mod epochs;
 mod fetch;
 mod find_coordinator;
 mod group_commit;

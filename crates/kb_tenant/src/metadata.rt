@@ -1,4 +1,4 @@
-//! Metadata: the broker, and topics with their partitions. Versions 0 to 5 differ only in their layouts (Kafka protocol guide,
+//! Metadata: the broker, and topics with their partitions. Versions 0 to 5 and 7 differ only in their layouts (Kafka protocol guide,
 //! "The Messages: Metadata"); any other version is answered as 1.
 ghost use Rattle.std.specs.Prelude.{◌≡◌, ◌++◌, ◌<◌, ◌^◌, [], ◌∷◌, List, IfOk, OnOk, map, pos, Some, None};
 ghost use Rattle.std.specs.List.{flat_map, range_with_len};
@@ -8,8 +8,9 @@ ghost use Rattle.kb_store.specs.Disk.{Files};
 ghost use Rattle.kb_wire.specs.Codec.{array, int32, nullable_string, string};
 ghost use Rattle.kb_wire.specs.Reads.{ReadsWhole};
 ghost use Rattle.kb_tenant.specs.Entries.{metadata_entries, within};
-ghost use Rattle.kb_tenant.specs.Metadata.{asked_metadata, asked_v4, broker, broker_v0, has_offline, internal_in};
-ghost use Rattle.kb_tenant.specs.Metadata.{metadata_in, metadata_of, partition_as, partition_described};
+ghost use Rattle.kb_tenant.specs.Metadata.{asked_metadata, asked_v4, broker, broker_v0, has_epochs, has_offline, internal_in};
+ghost use Rattle.kb_tenant.specs.Metadata.{metadata_in, metadata_of, metadata_partition_v7, partition_as, partition_described};
+ghost use Rattle.kb_tenant.specs.Metadata.{partition_v5};
 ghost use Rattle.kb_tenant.specs.Metadata.{topic_asked, topic_described, topic_in, topic_known, topics_asked, topics_in, topics_until};
 ghost use Rattle.kb_tenant.specs.Metadata.{IsMetadataUntil};
 ghost use Rattle.kb_tenant.specs.Replies.{AreUntil};
@@ -41,7 +42,7 @@ fn read_v0<'a>(alloc: Global, body: &'a [u8]) -> Result<MetadataRequest<'a>, Rea
     })
 }
 
-/// The request that a body of version 4 or 5 spells. No topic is made, whatever it allows.
+/// The request that a body of version 4, 5 or 7 spells. No topic is made, whatever it allows.
 #[tactic(auto, using(crate::proofs::Described::topics_fit_v4))]
 fn read_v4<'a>(alloc: Global, body: &'a [u8]) -> Result<MetadataRequest<'a>, ReadFault>
     ensures exact { ReadsWhole (asked_v4 body.now) result }
@@ -62,7 +63,7 @@ pub fn read_metadata<'a>(
 {
     match version {
         0 => read_v0(alloc, body),
-        4 | 5 => read_v4(alloc, body),
+        4 | 5 | 7 => read_v4(alloc, body),
         _ => MetadataRequest::read(alloc, body),
     }
 }
@@ -131,7 +132,7 @@ fn put_node(version: i16, node: &Node<'_>, sink: &mut Sink) -> Result<(), AllocE
     match version {
         0 => put_broker_v0(node, sink),
         2 => put_cluster(node, sink),
-        3 | 4 | 5 => {
+        3 | 4 | 5 | 7 => {
             sink.put_i32(0)?;
             put_cluster(node, sink)
         }
@@ -153,18 +154,47 @@ fn put_partition(partition: usize, sink: &mut Sink) -> Result<(), AllocError>
     ])
 }
 
-/// Whether a version tells which replicas of a partition are offline.
+/// Writes a partition by the layout of version 7: the same, with no epoch of the leader known, and no replica offline.
+fn put_partition_v7(partition: usize, sink: &mut Sink) -> Result<(), AllocError>
+    requires { partition < 2 ^ 31 }
+    ensures { OnOk result (sink.new.bytes ≡ sink.old.bytes
+        ++ metadata_partition_v7.written (partition_v5 (partition_described partition))) }
+{
+    let number = partition as i32;
+    let [a, b, c, d] = number.to_be_bytes();
+    sink.put_bytes(&[
+        0, 0, a, b, c, d, 0, 0, 0, 0, 255, 255, 255, 255, 0, 0, 0, 1, 0, 0, 0, 0, 0, 0, 0, 1, 0, 0,
+        0, 0, 0, 0, 0, 0,
+    ])
+}
+
+/// Whether a version tells leaders' epochs, and which replicas of a partition are offline.
+fn has_epochs(version: i16) -> bool
+    ensures { result ≡ has_epochs version }
+{
+    version == 7
+}
+
+/// Whether a version tells which replicas of a partition are offline, and no leader's epoch.
 fn has_offline(version: i16) -> bool
     ensures { result ≡ has_offline version }
 {
     version == 5
 }
 
-/// Writes a partition, and that none of its replicas is offline where that is told.
-fn put_partition_as(has_offline: bool, partition: usize, sink: &mut Sink) -> Result<(), AllocError>
+/// Writes a partition by the layout that tells epochs, or offline replicas, or neither. None of its replicas is offline.
+fn put_partition_as(
+    has_epochs: bool,
+    has_offline: bool,
+    partition: usize,
+    sink: &mut Sink,
+) -> Result<(), AllocError>
     requires { partition < 2 ^ 31 }
-    ensures { OnOk result (sink.new.bytes ≡ sink.old.bytes ++ partition_as has_offline (partition_described partition)) }
+    ensures { OnOk result (sink.new.bytes ≡ sink.old.bytes ++ partition_as has_epochs has_offline (partition_described partition)) }
 {
+    if has_epochs {
+        return put_partition_v7(partition, sink);
+    }
     put_partition(partition, sink)?;
     if !has_offline {
         return Ok(());
@@ -173,13 +203,18 @@ fn put_partition_as(has_offline: bool, partition: usize, sink: &mut Sink) -> Res
 }
 
 /// Writes partitions, from 0 on.
-fn put_partitions(has_offline: bool, partitions: usize, sink: &mut Sink) -> Result<(), AllocError>
+fn put_partitions(
+    has_epochs: bool,
+    has_offline: bool,
+    partitions: usize,
+    sink: &mut Sink,
+) -> Result<(), AllocError>
     requires { partitions < 2 ^ 31 }
     ensures { OnOk result (sink.new.bytes ≡ sink.old.bytes
-        ++ flat_map (partition_as has_offline) (map partition_described (range_with_len 0 partitions))) }
+        ++ flat_map (partition_as has_epochs has_offline) (map partition_described (range_with_len 0 partitions))) }
 {
     for partition in 0..partitions {
-        put_partition_as(has_offline, partition, sink)?;
+        put_partition_as(has_epochs, has_offline, partition, sink)?;
     }
     Ok(())
 }
@@ -212,7 +247,8 @@ fn put_topic(
     sink.put_string(name)?;
     put_internal(version, sink)?;
     sink.put_count(partitions)?;
-    put_partitions(has_offline(version), partitions, sink)
+    let has_offline = has_offline(version);
+    put_partitions(has_epochs(version), has_offline, partitions, sink)
 }
 
 /// Writes a topic that is there. A name that is longer than an INT16 can count is refused as want of memory.

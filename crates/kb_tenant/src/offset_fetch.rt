@@ -1,24 +1,23 @@
-//! OffsetFetch: the offsets that a group committed. From version 2 on a request may ask for all of them, and the reply ends with a code
-//! (Kafka protocol guide, "The Messages: OffsetFetch").
+//! OffsetFetch: the offsets that a group committed. From version 2 on a request may ask for all of them, and the reply ends with a code.
+//! From version 5 on it tells epochs of leaders, of which none is known (Kafka protocol guide, "The Messages: OffsetFetch").
 ghost use Rattle.std.specs.Prelude.{◌≡◌, ◌++◌, OnOk, IfOk, map};
 ghost use Rattle.std.specs.List.{flat_map};
 ghost use Rattle.std.specs.Option.{option_copied};
 ghost use Rattle.kb_store.specs.Disk.{Files};
 ghost use Rattle.kb_wire.specs.Codec.{array, nullable_array};
 ghost use Rattle.kb_wire.specs.Reads.{ReadsWhole};
-ghost use Rattle.kb_api_group.specs.Layouts.{offset_fetch_topic, offset_fetch_request_v2, offset_fetch_partition_reply};
-ghost use Rattle.kb_api_group.specs.Layouts.{offset_fetch_topic_reply};
+ghost use Rattle.kb_api_group.specs.Layouts.{offset_fetch_topic, offset_fetch_request_v2};
 ghost use Rattle.kb_tenant.specs.Entries.{offset_fetch_entries, within};
 ghost use Rattle.kb_tenant.specs.OffsetFetch.{committed_answered, told, kept, fetched, fetched_topic, fetched_all};
-ghost use Rattle.kb_tenant.specs.OffsetFetch.{asked_as, code_in, has_code, offsets_as, offsets_until, topics_fetched};
+ghost use Rattle.kb_tenant.specs.OffsetFetch.{asked_as, code_in, has_code, has_epochs, offsets_as, offsets_until};
+ghost use Rattle.kb_tenant.specs.OffsetFetch.{partition_reply, topic_reply, topics_fetched};
 ghost use Rattle.kb_tenant.specs.Replies.{array_until, AreUntil};
 ghost use Rattle.kb_tenant_state.specs.Parts.{world_of};
 
 use crate::all_offsets::put_all;
+use crate::epochs::put_epoch;
 use crate::within::within;
-use kb_api_group::{
-    OffsetFetchPartitionReply, OffsetFetchRequest, OffsetFetchRequestV2, OffsetFetchTopic,
-};
+use kb_api_group::{OffsetFetchRequest, OffsetFetchRequestV2, OffsetFetchTopic};
 use kb_log::PartitionLog;
 use kb_tenant_state::{Parts, TopicPartition};
 use kb_topics::Committed;
@@ -30,6 +29,13 @@ pub(crate) fn has_code(version: i16) -> bool
     ensures { result ≡ has_code version }
 {
     version >= 2
+}
+
+/// Whether the reply of a version tells epochs of leaders.
+pub(crate) fn has_epochs(version: i16) -> bool
+    ensures { result ≡ has_epochs version }
+{
+    version >= 5
 }
 
 /// The request that a whole body spells.
@@ -81,43 +87,47 @@ fn kept<'a, L: PartitionLog + Drop>(
 
 /// Writes an answer. Metadata that is longer than an INT16 can count is refused as want of memory.
 fn put_answer(
+    has_epochs: bool,
     partition: i32,
     offset: i64,
     metadata: &str,
     sink: &mut Sink,
 ) -> Result<(), AllocError>
     ensures { OnOk result (sink.new.bytes ≡ sink.old.bytes
-        ++ offset_fetch_partition_reply.written (committed_answered partition offset metadata.now)) }
+        ++ (partition_reply has_epochs).written (committed_answered partition offset metadata.now)) }
 {
     if metadata.len() > i16::MAX as usize {
         return Err(AllocError);
     }
-    let reply = OffsetFetchPartitionReply {
-        partition,
-        offset,
-        metadata: Some(Text::new(metadata)),
-        error_code: ErrorCode::None.code(),
-    };
-    reply.write(sink)
+    sink.put_i32(partition)?;
+    sink.put_i64(offset)?;
+    put_epoch(has_epochs, sink)?;
+    sink.put_nullable_string(&Some(Text::new(metadata)))?;
+    sink.put_i16(ErrorCode::None.code())
 }
 
 /// Writes the answer for a partition, by what was committed to it.
 pub(crate) fn put_told(
+    has_epochs: bool,
     partition: i32,
     committed: Option<&Committed>,
     sink: &mut Sink,
 ) -> Result<(), AllocError>
     ensures { OnOk result (sink.new.bytes ≡ sink.old.bytes
-        ++ offset_fetch_partition_reply.written (told partition (option_copied committed.entry))) }
+        ++ (partition_reply has_epochs).written (told partition (option_copied committed.entry))) }
 {
     match committed {
-        Some(committed) => put_answer(partition, committed.offset(), committed.metadata(), sink),
-        None => put_answer(partition, -1, "", sink),
+        Some(committed) => {
+            let metadata = committed.metadata();
+            put_answer(has_epochs, partition, committed.offset(), metadata, sink)
+        }
+        None => put_answer(has_epochs, partition, -1, "", sink),
     }
 }
 
 /// Answers partitions of a topic in order. An `Err` leaves some of the answers written.
 fn fetch_partitions<L: PartitionLog + Drop>(
+    has_epochs: bool,
     parts: &Parts<L>,
     group: &str,
     topic: Option<u64>,
@@ -125,16 +135,18 @@ fn fetch_partitions<L: PartitionLog + Drop>(
     sink: &mut Sink,
 ) -> Result<(), AllocError>
     ensures { (files : Files) → OnOk result (sink.new.bytes ≡ sink.old.bytes
-        ++ flat_map offset_fetch_partition_reply.written (map (fetched (world_of L.log parts.now files) group.now topic) partitions.now)) }
+        ++ flat_map (partition_reply has_epochs).written (map (fetched (world_of L.log parts.now files) group.now topic) partitions.now)) }
 {
     for partition in partitions {
-        put_told(*partition, kept(parts, group, topic, *partition), sink)?;
+        let kept = kept(parts, group, topic, *partition);
+        put_told(has_epochs, *partition, kept, sink)?;
     }
     Ok(())
 }
 
 /// Answers a topic. An `Err` leaves a part of the answer written.
 fn fetch_topic<L: PartitionLog + Drop>(
+    has_epochs: bool,
     parts: &Parts<L>,
     group: &str,
     topic: &OffsetFetchTopic<'_>,
@@ -142,16 +154,18 @@ fn fetch_topic<L: PartitionLog + Drop>(
 ) -> Result<(), AllocError>
     requires { offset_fetch_topic.Fits topic.now }
     ensures { (files : Files) → OnOk result (sink.new.bytes ≡ sink.old.bytes
-        ++ offset_fetch_topic_reply.written (fetched_topic (world_of L.log parts.now files) group.now topic.now)) }
+        ++ (topic_reply has_epochs).written (fetched_topic (world_of L.log parts.now files) group.now topic.now)) }
 {
     sink.put_string(topic.name.as_str())?;
     sink.put_count(topic.partitions.len())?;
     let instance = parts.topic_named(topic.name.as_str());
-    fetch_partitions(parts, group, instance, topic.partitions.as_slice(), sink)
+    let partitions = topic.partitions.as_slice();
+    fetch_partitions(has_epochs, parts, group, instance, partitions, sink)
 }
 
 /// Answers topics in order, until the sink has more than so many bytes. An `Err` leaves a part of the answer written.
 fn put_asked<L: PartitionLog + Drop>(
+    has_epochs: bool,
     parts: &Parts<L>,
     group: &str,
     topics: &[OffsetFetchTopic<'_>],
@@ -159,7 +173,7 @@ fn put_asked<L: PartitionLog + Drop>(
     sink: &mut Sink,
 ) -> Result<(), AllocError>
     requires { (array offset_fetch_topic).Fits topics.now }
-    ensures { (files : Files) → OnOk result (sink.new.bytes ≡ array_until most offset_fetch_topic_reply sink.old.bytes
+    ensures { (files : Files) → OnOk result (sink.new.bytes ≡ array_until most (topic_reply has_epochs) sink.old.bytes
         (map (fetched_topic (world_of L.log parts.now files) group.now) topics.now)) }
 {
     sink.put_count(topics.len())?;
@@ -167,13 +181,14 @@ fn put_asked<L: PartitionLog + Drop>(
         if sink.len() > most {
             return Ok(());
         }
-        fetch_topic(parts, group, topic, sink)?;
+        fetch_topic(has_epochs, parts, group, topic, sink)?;
     }
     Ok(())
 }
 
 /// Answers the topics that are asked, or all that the group committed to, until the sink has more than so many bytes.
 fn put_topics<L: PartitionLog + Drop>(
+    has_epochs: bool,
     parts: &Parts<L>,
     group: &str,
     topics: &Option<Array<OffsetFetchTopic<'_>>>,
@@ -181,12 +196,12 @@ fn put_topics<L: PartitionLog + Drop>(
     sink: &mut Sink,
 ) -> Result<(), AllocError>
     requires { (nullable_array offset_fetch_topic).Fits topics.now }
-    ensures { (files : Files) → OnOk result (sink.new.bytes ≡ array_until most offset_fetch_topic_reply sink.old.bytes
+    ensures { (files : Files) → OnOk result (sink.new.bytes ≡ array_until most (topic_reply has_epochs) sink.old.bytes
         (topics_fetched (world_of L.log parts.now files) group.now topics.now)) }
 {
     match topics {
-        None => put_all(parts, group, most, sink),
-        Some(topics) => put_asked(parts, group, topics.as_slice(), most, sink),
+        None => put_all(has_epochs, parts, group, most, sink),
+        Some(topics) => put_asked(has_epochs, parts, group, topics.as_slice(), most, sink),
     }
 }
 
@@ -200,24 +215,25 @@ fn put_code(has_code: bool, sink: &mut Sink) -> Result<(), AllocError>
     Ok(())
 }
 
-/// Serves OffsetFetch: writes the reply of a version that has a code or not behind what the sink has.
+/// Serves OffsetFetch: writes the reply, with a code and epochs or without them, behind what the sink has.
 ///
 /// The writing of topics stops with the one that takes the sink past so many bytes. An `Err`, which is want of memory for the reply,
 /// leaves a part of it written.
 pub(crate) fn offset_fetch<L: PartitionLog + Drop>(
     parts: &Parts<L>,
     has_code: bool,
+    has_epochs: bool,
     request: &OffsetFetchRequestV2<'_>,
     most: usize,
     sink: &mut Sink,
 ) -> Result<(), AllocError>
     requires { offset_fetch_request_v2.Fits request.now }
     ensures exact { (files : Files) → OnOk result (sink.new.bytes
-        ≡ offsets_until most has_code (fetched_all (world_of L.log parts.now files) request.now) sink.old.bytes) }
+        ≡ offsets_until most has_code has_epochs (fetched_all (world_of L.log parts.now files) request.now) sink.old.bytes) }
     ensures whole { (files : Files) → OnOk result (AreUntil most (sink.old.bytes
-        ++ offsets_as has_code (fetched_all (world_of L.log parts.now files) request.now)) sink.new.bytes) }
+        ++ offsets_as has_code has_epochs (fetched_all (world_of L.log parts.now files) request.now)) sink.new.bytes) }
 {
     let group = request.group_id.as_str();
-    put_topics(parts, group, &request.topics, most, sink)?;
+    put_topics(has_epochs, parts, group, &request.topics, most, sink)?;
     put_code(has_code, sink)
 }

@@ -51,7 +51,7 @@ fn serve_by_key<L: PartitionLog + Drop, S: Store>(
         touched.new.items answer)) }
     ensures spared { let a = scene L.log S.disk parts.old shelf.old in let b = scene L.log S.disk parts.new shelf.new in
         request.now.api_key ≡ PRODUCE
-        → IfOk result (λ answer. IsPlainly (IsSpared a.state.world request.now.body.now b.state.world) answer) }
+        → IfOk result (λ answer. IsPlainly (IsSpared request.now.api_version a.state.world request.now.body.now b.state.world) answer) }
     ensures answered { (IsOfMembers request.now.api_key → ⊥) → (request.now.api_key ≡ OFFSET_COMMIT → ⊥) → IsOk result }
     ensures stays { let a = scene L.log S.disk parts.old shelf.old in let b = scene L.log S.disk parts.new shelf.new in
         IsOfMembers request.now.api_key → b.state.world ≡ a.state.world }
@@ -125,7 +125,8 @@ pub fn serve<L: PartitionLog + Drop, S: Store>(
         result.touched.items result.answer) }
     // A Produce whose connection is shut for want of memory has appended nothing, on any store.
     ensures spared { let a = scene L.log S.disk parts.old shelf.old in let b = scene L.log S.disk parts.new shelf.new in
-        request.now.api_key ≡ PRODUCE → IsPlainly (IsSpared a.state.world request.now.body.now b.state.world) result.answer }
+        request.now.api_key ≡ PRODUCE
+        → IsPlainly (IsSpared request.now.api_version a.state.world request.now.body.now b.state.world) result.answer }
     ensures groups { let a = scene L.log S.disk parts.old shelf.old in
         AreGroupsAfter groups.old (served node.now a.state.world clock groups.old request.now.connection request.now.api_key
         request.now.api_version request.now.body.now).groups result.answer groups.new }

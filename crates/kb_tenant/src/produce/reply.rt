@@ -2,9 +2,10 @@
 ghost use Rattle.std.specs.Prelude.{◌≡◌, ◌+◌, ◌++◌, length, OnOk};
 ghost use Rattle.std.specs.Int.{w32};
 ghost use Rattle.kb_wire.specs.Codec.{count, string};
-ghost use Rattle.kb_tenant.specs.Produce.{where_due};
-ghost use Rattle.kb_tenant.specs.Room.{length_due, IsPut};
+ghost use Rattle.kb_tenant.specs.Produce.{entry_written, where_due};
+ghost use Rattle.kb_tenant.specs.Room.{entry_length, length_due, IsPut};
 
+use kb_api_data::{ProducePartitionReply, ProducePartitionReplyV5};
 use kb_wire::{Layout, Sink};
 use std::alloc::AllocError;
 
@@ -46,4 +47,26 @@ pub(super) fn put<'a, T: Layout<'a>>(
         return Ok(());
     }
     value.write(sink)
+}
+
+/// What an entry is answered, with the start of its partition's log or without it.
+pub(super) fn put_entry(
+    due: bool,
+    has_starts: bool,
+    reply: &ProducePartitionReplyV5,
+    sink: &mut Sink,
+) -> Result<(), AllocError>
+    ensures bytes { OnOk result (sink.new.bytes ≡ sink.old.bytes ++ where_due due (entry_written has_starts reply.now)) }
+    ensures put { IsPut (length_due due (entry_length has_starts)) sink.old result sink.new }
+{
+    if has_starts {
+        return put(due, reply, sink);
+    }
+    let without_start = ProducePartitionReply {
+        index: reply.index,
+        error_code: reply.error_code,
+        base_offset: reply.base_offset,
+        log_append_time_ms: reply.log_append_time_ms,
+    };
+    put(due, &without_start, sink)
 }

@@ -1,9 +1,8 @@
 use Rattle.std.proofs.Common.{◌∙◌, ◌<◌, ◌≤◌, ◌++◌, sym, ap, length, arith, w32}
 use Rattle.std.specs.List.{flat_map}
 use Rattle.kb_wire.specs.Codec.{count}
-use Rattle.kb_api_group.specs.Layouts.{offset_fetch_topic_reply}
 use Rattle.kb_tenant_state.specs.Parts.{world_of}
-use Rattle.kb_tenant.specs.OffsetFetch.{all_told, topic_told}
+use Rattle.kb_tenant.specs.OffsetFetch.{all_told, topic_reply, topic_told}
 use Rattle.kb_tenant.specs.Replies.{written_until}
 use Rattle.kb_tenant.proofs.AllOffsets.{topics_more}
 use Rattle.kb_tenant.proofs.Fitting.{small_count}
@@ -17,17 +16,17 @@ pub loop-instance-preserved : goal.loop-instance-preserved
 loop-instance-preserved g c files =
     let w = world_of g.L.PartitionLog.log c.args.parts.now files in
     let f = topic_told w c.args.group.now in
-    let write = offset_fetch_topic_reply.written in
+    let write = (topic_reply c.args.has_epochs).written in
     let out = c.loop-instance.sink.bytes in
     let few : length out ≤ c.args.most = omega (arith, c.if-len-most.false, c.len.ensures) in
-    topics_more c.args.most w c.args.group.now (c.in-Some.instance, c.in-Some.topic.now) c.next.new.self out c.put_topic.new.sink.bytes few (c.in_ok-put_topic.ensures files)
+    topics_more c.args.has_epochs c.args.most w c.args.group.now (c.in-Some.instance, c.in-Some.topic.now) c.next.new.self out c.put_topic.new.sink.bytes few (c.in_ok-put_topic.ensures files)
     ∙ ap (λ left. written_until c.args.most write out (flat_map f left)) (sym c.in-Some.ensures.steps) ∙ c.loop-instance.invariant files
 
 pub returns-then-len-most : goal.returns-then-len-most
 returns-then-len-most g c files =
     let w = world_of g.L.PartitionLog.log c.args.parts.now files in
     let f = topic_told w c.args.group.now in
-    let write = offset_fetch_topic_reply.written in
+    let write = (topic_reply c.args.has_epochs).written in
     let all = all_told w c.args.group.now in
     let old = c.args.sink.now.bytes in
     let start = c.put_count.new.self.bytes in
@@ -41,7 +40,7 @@ pub returns : goal.returns
 returns g c files =
     let w = world_of g.L.PartitionLog.log c.args.parts.now files in
     let f = topic_told w c.args.group.now in
-    let write = offset_fetch_topic_reply.written in
+    let write = (topic_reply c.args.has_epochs).written in
     let all = all_told w c.args.group.now in
     let old = c.args.sink.now.bytes in
     let start = c.put_count.new.self.bytes in

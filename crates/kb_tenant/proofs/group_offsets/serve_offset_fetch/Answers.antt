@@ -1,7 +1,7 @@
 use Rattle.std.proofs.Common.{rules, ◌≡◌, ◌∙◌, ◌++◌, [], Bool, Ok, sym, ap, refl, subst}
 use Rattle.kb_tenant_state.specs.Parts.{world_of}
 use Rattle.kb_tenant.specs.Entries.{offset_fetch_entries, within}
-use Rattle.kb_tenant.specs.OffsetFetch.{asked_as, asked_offsets, fetched_all, has_code, offsets_as, offsets_in}
+use Rattle.kb_tenant.specs.OffsetFetch.{asked_as, asked_offsets, fetched_all, has_code, has_epochs, offsets_as, offsets_in}
 use Rattle.kb_tenant.specs.Replies.{begun, AreUntil}
 use Rattle.kb_tenant.specs.Serve.{if_read, of_offset_fetch, IsServed}
 use Rattle.kb_tenant.proofs.group_offsets.serve_offset_fetch.Goals as goal
@@ -18,9 +18,12 @@ returns g c = λ files.
     let made = c.offset_fetch.new.sink.bytes in
     let has : Bool = c.has_code-has_code.result in
     let same : has ≡ has_code version = search rules in
+    let epochs : Bool = c.has_epochs-has_epochs.result in
+    let as_told : epochs ≡ has_epochs version = search rules in
     let from : c.in_ok-sink.sink.bytes ≡ begun id = search rules in
     let read : within limits.request_entries offset_fetch_entries (asked_offsets version c.args.request.now.body.now) ≡ Ok asked = ap (λ b. within limits.request_entries offset_fetch_entries (asked_as b c.args.request.now.body.now)) (sym same) ∙ c.in_ok-asked.ensures.exact in
-    let all : c.in_ok-sink.sink.bytes ++ offsets_as has reply ≡ begun id ++ body = ap (λ s. s ++ offsets_as has reply) from ∙ ap (λ b. begun id ++ offsets_as b reply) same in
+    let all : c.in_ok-sink.sink.bytes ++ offsets_as has epochs reply ≡ begun id ++ body =
+    ap (λ s. s ++ offsets_as has epochs reply) from ∙ ap (λ b. begun id ++ offsets_as b epochs reply) same ∙ ap (λ b. begun id ++ offsets_as (has_code version) b reply) as_told in
     subst (λ r. IsServed id (if_read w r (of_offset_fetch limits.reply_bytes version w)) w [] (Ok c.finish_within.result)) (sym read) (
       refl,
       refl,

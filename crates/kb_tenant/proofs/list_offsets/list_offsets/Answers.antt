@@ -1,8 +1,8 @@
 use Rattle.std.proofs.Common.{◌∙◌, ◌<◌, ◌≤◌, ap, subst, ◌++◌, map, get_or, length}
 use Rattle.std.specs.List.{flat_map}
-use Rattle.kb_api_data.specs.Layouts.{list_offsets_request, list_offsets_topic, list_offsets_topic_reply}
+use Rattle.kb_api_data.specs.Layouts.{list_offsets_request, list_offsets_topic}
 use Rattle.kb_tenant_state.specs.Scene.{Scene}
-use Rattle.kb_tenant.specs.ListOffsets.{listed_topic}
+use Rattle.kb_tenant.specs.ListOffsets.{listed_topic, topic_reply}
 use Rattle.kb_tenant_state.specs.Parts.{Seen, scene}
 use Rattle.kb_tenant_state.specs.Steps.{step_then}
 use Rattle.kb_tenant.specs.Told.{HasFailed, IsListingTopicTold}
@@ -40,7 +40,7 @@ loop-topic-preserved g c =
     let d : Scene Seen = scene log disk c.list_topic.new.parts c.list_topic.new.shelf in
     let i = c.loop-topic.topic-index in
     let topics = c.args.request.now.topics in
-    let write = list_offsets_topic_reply.written in
+    let write = (topic_reply c.args.has_epochs).written in
     record {
       step = step_then a b d c.loop-topic.invariant.step c.list_topic.ensures.step;
       same = stays_then a b d c.loop-topic.invariant.step c.list_topic.ensures.step c.loop-topic.invariant.same c.list_topic.ensures.same;
@@ -59,8 +59,8 @@ returns-clause-meets g c honest agree calm =
     let a : Scene Seen = scene log disk c.args.parts.now c.args.shelf.now in
     let b : Scene Seen = scene log disk c.loop-topic.parts c.loop-topic.shelf in
     let topics = c.args.request.now.topics in
-    let write = list_offsets_topic_reply.written in
-    all_listed a.state.world c.args.request.now c.len.result c.args.sink.now.bytes c.put_count.new.self.bytes c.loop-topic.sink.bytes c.len.ensures c.in_ok-put_count.ensures.ok
+    let write = (topic_reply c.args.has_epochs).written in
+    all_listed c.args.has_epochs a.state.world c.args.request.now c.len.result c.args.sink.now.bytes c.put_count.new.self.bytes c.loop-topic.sink.bytes c.len.ensures c.in_ok-put_count.ensures.ok
     (told_over write listed_topic a b c.loop-topic.sink.bytes (c.put_count.new.self.bytes ++ flat_map write (map (listed_topic a.state.world) topics)) topics c.loop-topic.topic-index (subst (λ ts. length ts ≤ c.loop-topic.topic-index) c.as_slice-topic-items.ensures c.loop-topic-test.false) c.loop-topic.invariant.told honest agree calm)
 
 pub returns-clause-told : goal.returns-clause-told
@@ -71,7 +71,7 @@ returns-clause-told g c = λ honest agree.
     let b : Scene Seen = scene log disk c.loop-topic.parts c.loop-topic.shelf in
     let request = c.args.request.now in
     let so = c.loop-topic.invariant.answers honest agree in
-    all_listing (HasFailed a b) a.state.world request c.len.result c.args.sink.now.bytes c.put_count.new.self.bytes c.loop-topic.sink.bytes
+    all_listing c.args.has_epochs (HasFailed a b) a.state.world request c.len.result c.args.sink.now.bytes c.put_count.new.self.bytes c.loop-topic.sink.bytes
     c.len.ensures c.in_ok-put_count.ensures.ok (
       so.0,
       (

@@ -1,9 +1,8 @@
 use Rattle.std.proofs.Common.{◌≡◌, ◌++◌, List, map, drop, take}
 use Rattle.std.specs.List.{AllZip, flat_map}
-use Rattle.kb_api_data.specs.Layouts.{list_offsets_topic_reply}
 use Rattle.kb_api_data.specs.declared.list_offsets.ListOffsetsTopicReply.{ListOffsetsTopicReply}
 use Rattle.kb_tenant_state.specs.Scene.{WhereHonest}
-use Rattle.kb_tenant.specs.ListOffsets.{listed_topic}
+use Rattle.kb_tenant.specs.ListOffsets.{listed_topic, topic_reply}
 use Rattle.kb_tenant.specs.Told.{HasFailed, IsListingTopicTold}
 use Rattle.kb_tenant_state.specs.Parts.{scene}
 use Rattle.kb_tenant_state.specs.Steps.{IsStep, Meets}
@@ -16,7 +15,7 @@ invariant-loop-topic g l =
     let a = scene g.L.PartitionLog.log g.S.Store.disk l.initial.parts l.initial.shelf in
     let b = scene g.L.PartitionLog.log g.S.Store.disk l.parts l.shelf in
     let f = listed_topic a.state.world in
-    let write = list_offsets_topic_reply.written in
+    let write = (topic_reply l.has_epochs).written in
     record {
       step : IsStep a b;
       same : Stays a b;

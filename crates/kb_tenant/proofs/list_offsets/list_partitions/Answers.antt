@@ -1,9 +1,7 @@
-use Rattle.std.proofs.Common.{◌∙◌, ap, refl, ◌++◌, map}
+use Rattle.std.proofs.Common.{◌∙◌, ap, ◌++◌, map}
 use Rattle.std.specs.List.{flat_map}
-use Rattle.kb_api_data.specs.Layouts.{list_offsets_partition_reply}
-use Rattle.kb_wire.specs.Codec.{int}
 use Rattle.kb_tenant_state.specs.Scene.{Scene}
-use Rattle.kb_tenant.specs.ListOffsets.{listed}
+use Rattle.kb_tenant.specs.ListOffsets.{listed, partition_reply}
 use Rattle.kb_tenant_state.specs.Parts.{Seen, scene}
 use Rattle.kb_tenant_state.specs.Steps.{step_then}
 use Rattle.kb_tenant.specs.Told.{HasFailed, IsListingTold}
@@ -11,18 +9,14 @@ use Rattle.kb_tenant.proofs.Listing.{listed_next, listed_over, listing_so}
 use Rattle.kb_tenant.proofs.Serving.{stays_then, told_next, get_or_any}
 use Rattle.kb_tenant.proofs.list_offsets.list_partitions.Goals as goal
 
-pub write-requires : goal.write-requires
-unfolding list_offsets_partition_reply int
-write-requires g c = λ k. ((refl, tt), (tt, (tt, (tt, tt))))
-
-pub returns-in_err-write-clause-step : goal.returns-in_err-write-clause-step
-returns-in_err-write-clause-step g c =
+pub returns-in_err-put_reply-clause-step : goal.returns-in_err-put_reply-clause-step
+returns-in_err-put_reply-clause-step g c =
     let log = g.L.PartitionLog.log in
     let disk = g.S.Store.disk in
     let a : Scene Seen = scene log disk c.args.parts.now c.args.shelf.now in
     let b : Scene Seen = scene log disk c.loop-entry.parts c.loop-entry.shelf in
-    let d : Scene Seen = scene log disk c.list_entry.new.parts c.list_entry.new.shelf in
-    step_then a b d c.loop-entry.invariant.step c.list_entry.ensures.step
+    let d : Scene Seen = scene log disk c.list_entry-reply.new.parts c.list_entry-reply.new.shelf in
+    step_then a b d c.loop-entry.invariant.step c.list_entry-reply.ensures.step
 
 pub loop-entry-preserved : goal.loop-entry-preserved
 loop-entry-preserved g c =
@@ -30,19 +24,19 @@ loop-entry-preserved g c =
     let disk = g.S.Store.disk in
     let a : Scene Seen = scene log disk c.args.parts.now c.args.shelf.now in
     let b : Scene Seen = scene log disk c.loop-entry.parts c.loop-entry.shelf in
-    let d : Scene Seen = scene log disk c.list_entry.new.parts c.list_entry.new.shelf in
+    let d : Scene Seen = scene log disk c.list_entry-reply.new.parts c.list_entry-reply.new.shelf in
     let i = c.loop-entry.entry-index in
     let entries = c.args.entries.now in
-    let write = list_offsets_partition_reply.written in
+    let write = (partition_reply c.args.has_epochs).written in
     record {
-      step = step_then a b d c.loop-entry.invariant.step c.list_entry.ensures.step;
-      same = stays_then a b d c.loop-entry.invariant.step c.list_entry.ensures.step c.loop-entry.invariant.same c.list_entry.ensures.same;
-      told = told_next write (λ w. listed w c.args.topic) a b d c.loop-entry.sink.bytes c.write.new.sink.bytes (c.args.sink.now.bytes ++ flat_map write (map (listed a.state.world c.args.topic) entries)) entries i _ c.loop-entry.invariant.step c.list_entry.ensures.step c.loop-entry.invariant.same c.loop-entry-test.true (get_or_any entries i _ _ c.loop-entry-test.true) c.loop-entry.invariant.told
-          (λ honest agree calm. c.in_ok-write.ensures.ok ∙ ap (λ x. c.loop-entry.sink.bytes ++ write x) (c.list_entry.ensures.meets honest agree calm));
+      step = step_then a b d c.loop-entry.invariant.step c.list_entry-reply.ensures.step;
+      same = stays_then a b d c.loop-entry.invariant.step c.list_entry-reply.ensures.step c.loop-entry.invariant.same c.list_entry-reply.ensures.same;
+      told = told_next write (λ w. listed w c.args.topic) a b d c.loop-entry.sink.bytes c.put_reply.new.sink.bytes (c.args.sink.now.bytes ++ flat_map write (map (listed a.state.world c.args.topic) entries)) entries i _ c.loop-entry.invariant.step c.list_entry-reply.ensures.step c.loop-entry.invariant.same c.loop-entry-test.true (get_or_any entries i _ _ c.loop-entry-test.true) c.loop-entry.invariant.told
+          (λ honest agree calm. c.in_ok-put_reply.ensures ∙ ap (λ x. c.loop-entry.sink.bytes ++ write x) (c.list_entry-reply.ensures.meets honest agree calm));
       answers = listed_next write (λ P w. IsListingTold P w c.args.topic) (listing_so c.args.topic) a b d c.args.sink.now.bytes c.loop-entry.sink.bytes
-          c.write.new.sink.bytes entries i _ c.loop-entry-test.true (get_or_any entries i _ _ c.loop-entry-test.true) c.loop-entry.invariant.step
-          c.list_entry.ensures.step c.loop-entry.invariant.same c.loop-entry.invariant.answers
-          (λ honest agree. (c.list_entry.result, (c.in_ok-write.ensures.ok, c.list_entry.ensures.told honest agree)));
+          c.put_reply.new.sink.bytes entries i _ c.loop-entry-test.true (get_or_any entries i _ _ c.loop-entry-test.true) c.loop-entry.invariant.step
+          c.list_entry-reply.ensures.step c.loop-entry.invariant.same c.loop-entry.invariant.answers
+          (λ honest agree. (c.list_entry-reply.result, (c.in_ok-put_reply.ensures, c.list_entry-reply.ensures.told honest agree)));
     }
 
 pub returns-clause-told : goal.returns-clause-told

@@ -24,8 +24,8 @@ returns-clause-meets g c = on_ok_weaker c.list_partitions.result (λ told honest
     let files = (g.S.Store.disk c.args.shelf.now.store).files in
     let w : World = world_of g.L.PartitionLog.log c.args.parts.now files in
     let t = c.args.topic.now in
-    topic_listed w t c.as_str.result.now c.len.result c.topic_named-instance.result c.as_slice.result.now c.args.sink.now.bytes c.put_string.new.self.bytes c.put_count.new.self.bytes c.list_partitions.new.sink.bytes
-    c.as_str.ensures c.len.ensures (c.topic_named-instance.ensures files ∙ ap (λ m. named m w.known.topics) c.as_str-2.ensures) c.as_slice.ensures c.in_ok-put_string.ensures.ok c.in_ok-put_count.ensures.ok (told honest agree calm)) c.list_partitions.ensures.meets
+    topic_listed c.args.has_epochs w t c.as_str.result.now c.len.result c.topic_named-instance.result c.as_slice-entries.result.now c.args.sink.now.bytes c.put_string.new.self.bytes c.put_count.new.self.bytes c.list_partitions.new.sink.bytes
+    c.as_str.ensures c.len.ensures (c.topic_named-instance.ensures files ∙ ap (λ m. named m w.known.topics) c.as_str-2.ensures) c.as_slice-entries.ensures c.in_ok-put_string.ensures.ok c.in_ok-put_count.ensures.ok (told honest agree calm)) c.list_partitions.ensures.meets
 
 pub returns-clause-told : goal.returns-clause-told
 returns-clause-told g c =
@@ -36,8 +36,8 @@ returns-clause-told g c =
     let w = a.state.world in
     let t = c.args.topic.now in
     on_ok_weaker c.list_partitions.result (λ told honest agree.
-    topic_listing (HasFailed a b) w t c.as_str.result.now c.len.result c.topic_named-instance.result c.as_slice.result.now
+    topic_listing c.args.has_epochs (HasFailed a b) w t c.as_str.result.now c.len.result c.topic_named-instance.result c.as_slice-entries.result.now
     c.args.sink.now.bytes c.put_string.new.self.bytes c.put_count.new.self.bytes c.list_partitions.new.sink.bytes
     c.as_str.ensures c.len.ensures (c.topic_named-instance.ensures a.disk.files ∙ ap (λ m. named m w.known.topics) c.as_str-2.ensures)
-    c.as_slice.ensures c.in_ok-put_string.ensures.ok c.in_ok-put_count.ensures.ok (told honest agree))
+    c.as_slice-entries.ensures c.in_ok-put_string.ensures.ok c.in_ok-put_count.ensures.ok (told honest agree))
     c.list_partitions.ensures.told

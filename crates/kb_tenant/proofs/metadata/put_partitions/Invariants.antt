@@ -5,4 +5,4 @@ use Rattle.kb_tenant.proofs.metadata.put_partitions.Given as goal
 
 -- what was written is what the partitions so far are described as
 abbrev pub invariant-loop-partition : goal.invariant-loop-partition
-invariant-loop-partition l = l.sink.bytes ≡ l.initial.sink.bytes ++ flat_map (partition_as l.has_offline) (map partition_described (range_with_len 0 l.partition))
+invariant-loop-partition l = l.sink.bytes ≡ l.initial.sink.bytes ++ flat_map (partition_as l.has_epochs l.has_offline) (map partition_described (range_with_len 0 l.partition))

@@ -20,5 +20,5 @@ put_count-requires g c = count_fits int32 c.args.topic.now.partitions c.len.resu
 pub returns : goal.returns
 returns g c files = on_ok_weaker c.fetch_partitions.result (λ told.
     let w : World = world_of g.L.PartitionLog.log c.args.parts.now files in
-    topic_written w c.args.group.now c.args.topic.now c.as_str.result.now c.len.result c.topic_named-instance.result c.as_slice.result.now c.args.sink.now.bytes c.put_string.new.self.bytes c.put_count.new.self.bytes c.fetch_partitions.new.sink.bytes
-    c.as_str.ensures c.len.ensures (c.topic_named-instance.ensures files ∙ ap (λ m. named m w.known.topics) c.as_str-2.ensures) c.as_slice.ensures c.in_ok-put_string.ensures.ok c.in_ok-put_count.ensures.ok told) (c.fetch_partitions.ensures files)
+    topic_written c.args.has_epochs w c.args.group.now c.args.topic.now c.as_str.result.now c.len.result c.topic_named-instance.result c.as_slice-partitions.result.now c.args.sink.now.bytes c.put_string.new.self.bytes c.put_count.new.self.bytes c.fetch_partitions.new.sink.bytes
+    c.as_str.ensures c.len.ensures (c.topic_named-instance.ensures files ∙ ap (λ m. named m w.known.topics) c.as_str-2.ensures) c.as_slice-partitions.ensures c.in_ok-put_string.ensures.ok c.in_ok-put_count.ensures.ok told) (c.fetch_partitions.ensures files)

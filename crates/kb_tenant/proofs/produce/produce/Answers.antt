@@ -1,10 +1,9 @@
 use Rattle.std.proofs.Common.{◌≡◌, ◌∙◌, ◌++◌, ◌∷◌, [], ◌<◌, ◌≤◌, append-nil, arith, OnOk, Ok, pos, ap, sym, refl, subst, length, get_or, rules, w32}
 use Rattle.std.proofs.lemmas.Result.{on_ok_weaker}
 use Rattle.kb_wire.specs.Codec.{count}
-use Rattle.kb_api_data.specs.Layouts.{produce_topic_reply}
-use Rattle.kb_api_data.specs.declared.produce.ProduceTopicReply.{ProduceTopicReply}
+use Rattle.kb_api_data.specs.declared.produce_v5.ProduceTopicReplyV5.{ProduceTopicReplyV5}
 use Rattle.kb_tenant_state.specs.Parts.{scene}
-use Rattle.kb_tenant.specs.Produce.{progress, served_topic, where_due}
+use Rattle.kb_tenant.specs.Produce.{is_due, progress, served_topic, topic_written, where_due}
 use Rattle.kb_tenant.specs.Room.{length_due, reply_length, IsLonger}
 use Rattle.kb_tenant_state.specs.Steps.{step_same, step_then, meets_then, meets_so}
 use Rattle.kb_tenant.specs.Told.{FailedBy, HasFailed, IsTopicTold}
@@ -54,7 +53,7 @@ loop-topic-preserved g c =
     let b = scene log disk c.loop-topic.parts c.loop-topic.shelf in
     let d = scene log disk c.serve_topic.new.parts c.serve_topic.new.shelf in
     let terms = c.terms_of-terms.result in
-    let write : ProduceTopicReply → _ = λ x. where_due terms.due (produce_topic_reply.written x) in
+    let write : ProduceTopicReplyV5 → _ = λ x. where_due terms.due (topic_written terms.has_starts x) in
     let f = served_topic terms.bytes terms.refusal in
     let p = progress b.state.world c.loop-topic.touched.items in
     let q = progress d.state.world c.serve_topic.new.touched.items in
@@ -81,7 +80,7 @@ loop-topic-preserved g c =
                   (c.topic-item.is ∙ ap (λ ts. get_or ts i c.topic-item.result) c.as_slice-topic-items.ensures) earlier.1.1 reply.1.1,
             ),
           );
-      put = topics_put terms.due c.args.request.now.topics i c.topic-item.result c.put_count.new.sink c.loop-topic.sink c.serve_topic.new.sink (Ok tt)
+      put = topics_put terms.has_starts terms.due c.args.request.now.topics i c.topic-item.result c.put_count.new.sink c.loop-topic.sink c.serve_topic.new.sink (Ok tt)
           (subst (λ ts. i < length ts) c.as_slice-topic-items.ensures c.loop-topic-test.true)
           (c.topic-item.is ∙ ap (λ ts. get_or ts i c.topic-item.result) c.as_slice-topic-items.ensures) c.loop-topic.invariant.put c.in_ok-serve_topic.ensures.put;
     }
@@ -94,15 +93,15 @@ returns-clause-meets g c =
     let b = scene log disk c.loop-topic.parts c.loop-topic.shelf in
     let request = c.args.request.now in
     let terms = c.terms_of-terms.result in
-    let write : ProduceTopicReply → _ = λ x. where_due terms.due (produce_topic_reply.written x) in
+    let write : ProduceTopicReplyV5 → _ = λ x. where_due terms.due (topic_written terms.has_starts x) in
     let p = progress b.state.world c.loop-topic.touched.items in
     let i = c.loop-topic.topic-index in
     let over = turn_over write (served_topic terms.bytes terms.refusal) c.loop-topic.sink.bytes p request.topics i (subst (λ ts. length ts ≤ i) c.as_slice-topic-items.ensures c.loop-topic-test.false) in
     on_ok_weaker c.put.result
     (λ last. meets_so a b _ _
-    (λ told. produce_told c.args.limit terms request a.state.world b.state.world c.args.touched.now.items c.loop-topic.touched.items c.len.result
+    (λ told. produce_told c.args.has_starts c.args.limit terms request a.state.world b.state.world c.args.touched.now.items c.loop-topic.touched.items c.len.result
     c.args.sink.now.bytes c.put_count.new.sink.bytes c.loop-topic.sink.bytes c.put.new.sink.bytes
-    c.terms_of-terms.ensures.refusal c.terms_of-terms.ensures.due c.len.ensures (c.in_ok-put_count.ensures.bytes ∙ ap (λ s. s ++ where_due terms.due ((count w32).written c.len.result)) c.in_ok-make_room.ensures.bytes) (subst (λ n. (p, c.loop-topic.sink.bytes) ≡ written_behind write c.put_count.new.sink.bytes (in_turn (served_topic n terms.refusal) (progress a.state.world c.args.touched.now.items) request.topics)) c.terms_of-terms.ensures.bytes (sym over ∙ told)) last)
+    c.terms_of-terms.ensures.refusal c.terms_of-terms.ensures.due c.terms_of-terms.ensures.has_starts c.len.ensures (c.in_ok-put_count.ensures.bytes ∙ ap (λ s. s ++ where_due terms.due ((count w32).written c.len.result)) c.in_ok-make_room.ensures.bytes) (subst (λ n. (p, c.loop-topic.sink.bytes) ≡ written_behind write c.put_count.new.sink.bytes (in_turn (served_topic n terms.refusal) (progress a.state.world c.args.touched.now.items) request.topics)) c.terms_of-terms.ensures.bytes (sym over ∙ told)) last)
     c.loop-topic.invariant.told)
     c.put.ensures.bytes
 
@@ -121,25 +120,28 @@ returns-clause-told g c =
     (λ last honest agree.
     let so = c.loop-topic.invariant.answers a.disk.failures b.disk.failures b.next (omega arith) (omega arith) (omega arith) honest agree in
     let all = served_all (IsTopicTold (HasFailed a b) terms.bytes terms.refusal) p q request.topics i so.0 (subst (λ ts. length ts ≤ i) c.as_slice-topic-items.ensures c.loop-topic-test.false) so.1.1 in
-    produce_told_so (HasFailed a b) c.args.limit terms request p q c.len.result c.args.sink.now.bytes c.put_count.new.sink.bytes c.loop-topic.sink.bytes c.put.new.sink.bytes
-    c.terms_of-terms.ensures.refusal c.terms_of-terms.ensures.due c.len.ensures (c.in_ok-put_count.ensures.bytes ∙ ap (λ s. s ++ where_due terms.due ((count w32).written c.len.result)) c.in_ok-make_room.ensures.bytes) (so.0, (so.1.0, subst (λ n. AreServed (IsTopicTold (HasFailed a b) n terms.refusal) p request.topics q so.0) c.terms_of-terms.ensures.bytes all)) last)
+    produce_told_so (HasFailed a b) c.args.has_starts c.args.limit terms request p q c.len.result c.args.sink.now.bytes c.put_count.new.sink.bytes c.loop-topic.sink.bytes c.put.new.sink.bytes
+    c.terms_of-terms.ensures.refusal c.terms_of-terms.ensures.due c.terms_of-terms.ensures.has_starts c.len.ensures (c.in_ok-put_count.ensures.bytes ∙ ap (λ s. s ++ where_due terms.due ((count w32).written c.len.result)) c.in_ok-make_room.ensures.bytes) (so.0, (so.1.0, subst (λ n. AreServed (IsTopicTold (HasFailed a b) n terms.refusal) p request.topics q so.0) c.terms_of-terms.ensures.bytes all)) last)
     c.put.ensures.bytes
 
 pub returns-in_err-serve_topic-clause-spared : goal.returns-in_err-serve_topic-clause-spared
 returns-in_err-serve_topic-clause-spared g c =
     let i = c.loop-topic.topic-index in
-    absurd (topic_within c.terms_of-terms.result.due c.args.request.now i c.topic-item.result c.make_room.new.sink c.put_count.new.sink c.loop-topic.sink c.serve_topic.new.sink _
+    absurd (topic_within c.terms_of-terms.result.has_starts c.terms_of-terms.result.due c.args.request.now i c.topic-item.result c.make_room.new.sink c.put_count.new.sink c.loop-topic.sink c.serve_topic.new.sink _
     (subst (λ ts. i < length ts) c.as_slice-topic-items.ensures c.loop-topic-test.true)
     (c.topic-item.is ∙ ap (λ ts. get_or ts i c.topic-item.result) c.as_slice-topic-items.ensures)
-    c.in_ok-make_room.ensures.room c.in_ok-put_count.ensures.put c.loop-topic.invariant.put c.in_err-serve_topic.ensures.put)
+    (subst (λ f. length_due c.terms_of-terms.result.due (reply_length f c.args.request.now) ≤ c.make_room.new.sink.room) (sym c.terms_of-terms.ensures.has_starts) c.in_ok-make_room.ensures.room)
+    c.in_ok-put_count.ensures.put c.loop-topic.invariant.put c.in_err-serve_topic.ensures.put)
 
 pub returns-clause-spared : goal.returns-clause-spared
 returns-clause-spared g c =
     let i = c.loop-topic.topic-index in
+    let starts = c.terms_of-terms.result.has_starts in
     let due = c.terms_of-terms.result.due in
     let request = c.args.request.now in
-    never_refused _ (length_due due (reply_length request)) c.make_room.new.sink c.put.new.sink c.put.result c.in_ok-make_room.ensures.room
-    (reply_put due request i _ c.make_room.new.sink c.put_count.new.sink c.loop-topic.sink c.put.new.sink c.put.result
+    never_refused _ (length_due due (reply_length starts request)) c.make_room.new.sink c.put.new.sink c.put.result
+    (subst (λ f. length_due due (reply_length f request) ≤ c.make_room.new.sink.room) (sym c.terms_of-terms.ensures.has_starts) c.in_ok-make_room.ensures.room)
+    (reply_put starts due request i _ c.make_room.new.sink c.put_count.new.sink c.loop-topic.sink c.put.new.sink c.put.result
     (subst (λ ts. length ts ≤ i) c.as_slice-topic-items.ensures c.loop-topic-test.false) (number_length (pos 0))
     c.in_ok-put_count.ensures.put c.loop-topic.invariant.put c.put.ensures.put)
 
@@ -148,8 +150,10 @@ returns-clause-longer g c =
     let i = c.loop-topic.topic-index in
     let request = c.args.request.now in
     let new = c.put.new.sink.bytes in
-    subst (λ d. OnOk c.put.result (IsLonger (length_due d (reply_length request)) c.args.sink.now.bytes new)) c.terms_of-terms.ensures.due
-    (subst (λ s. OnOk c.put.result (IsLonger (length_due c.terms_of-terms.result.due (reply_length request)) s new)) c.in_ok-make_room.ensures.bytes
-    (reply_put c.terms_of-terms.result.due request i _ c.make_room.new.sink c.put_count.new.sink c.loop-topic.sink c.put.new.sink c.put.result
+    let starts = c.terms_of-terms.result.has_starts in
+    subst (λ f. OnOk c.put.result (IsLonger (length_due (is_due request.acks) (reply_length f request)) c.args.sink.now.bytes new)) c.terms_of-terms.ensures.has_starts
+    (subst (λ d. OnOk c.put.result (IsLonger (length_due d (reply_length starts request)) c.args.sink.now.bytes new)) c.terms_of-terms.ensures.due
+    (subst (λ s. OnOk c.put.result (IsLonger (length_due c.terms_of-terms.result.due (reply_length starts request)) s new)) c.in_ok-make_room.ensures.bytes
+    (reply_put starts c.terms_of-terms.result.due request i _ c.make_room.new.sink c.put_count.new.sink c.loop-topic.sink c.put.new.sink c.put.result
     (subst (λ ts. length ts ≤ i) c.as_slice-topic-items.ensures c.loop-topic-test.false) (number_length (pos 0))
-    c.in_ok-put_count.ensures.put c.loop-topic.invariant.put c.put.ensures.put).longer)
+    c.in_ok-put_count.ensures.put c.loop-topic.invariant.put c.put.ensures.put).longer))

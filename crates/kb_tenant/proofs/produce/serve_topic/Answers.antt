@@ -28,7 +28,7 @@ returns-clause-meets g c =
     let terms = c.args.terms in
     let named_so = c.topic_named-instance.ensures a.disk.files ∙ ap (λ n. named n a.state.world.known.topics) c.as_str-2.ensures in
     on_ok_weaker c.serve_entries.result
-    (meets_so a b _ _ (topic_told terms.due terms.bytes terms.refusal c.topic_named-instance.result p topic c.as_str.result.now c.as_slice.result.now c.len.result
+    (meets_so a b _ _ (topic_told terms.has_starts terms.due terms.bytes terms.refusal c.topic_named-instance.result p topic c.as_str.result.now c.as_slice.result.now c.len.result
     c.args.sink.now.bytes c.put_string.new.sink.bytes c.put_count.new.sink.bytes _
     c.as_str.ensures c.as_slice.ensures c.len.ensures named_so c.in_ok-put_string.ensures.bytes c.in_ok-put_count.ensures.bytes))
     c.serve_entries.ensures.meets
@@ -44,7 +44,7 @@ returns-clause-told g c =
     let terms = c.args.terms in
     let named_so = c.topic_named-instance.ensures a.disk.files ∙ ap (λ n. named n a.state.world.known.topics) c.as_str-2.ensures in
     on_ok_weaker c.serve_entries.result
-    (λ told before now next since until later honest agree. topic_told_so (FailedBy before now next) terms.due terms.bytes terms.refusal c.topic_named-instance.result p q c.args.topic.now c.as_str.result.now c.as_slice.result.now c.len.result
+    (λ told before now next since until later honest agree. topic_told_so (FailedBy before now next) terms.has_starts terms.due terms.bytes terms.refusal c.topic_named-instance.result p q c.args.topic.now c.as_str.result.now c.as_slice.result.now c.len.result
     c.args.sink.now.bytes c.put_string.new.sink.bytes c.put_count.new.sink.bytes c.serve_entries.new.sink.bytes
     c.as_str.ensures c.as_slice.ensures c.len.ensures named_so c.in_ok-put_string.ensures.bytes c.in_ok-put_count.ensures.bytes (told before now next since until later honest agree))
     c.serve_entries.ensures.told
@@ -52,16 +52,16 @@ returns-clause-told g c =
 pub returns-in_err-put_string-clause-put : goal.returns-in_err-put_string-clause-put
 returns-in_err-put_string-clause-put g c =
     let err : IsErr c.from_residual.result = search rules in
-    handed_on (length_due c.args.terms.due (topic_length c.args.topic.now)) c.args.sink.now c.put_string.new.sink _ c.from_residual.result err
-    (name_refused c.args.terms.due c.args.topic.now c.as_str.result.now c.args.sink.now c.put_string.new.sink _ c.as_str.ensures c.in_err-put_string.ensures.put)
+    handed_on (length_due c.args.terms.due (topic_length c.args.terms.has_starts c.args.topic.now)) c.args.sink.now c.put_string.new.sink _ c.from_residual.result err
+    (name_refused c.args.terms.has_starts c.args.terms.due c.args.topic.now c.as_str.result.now c.args.sink.now c.put_string.new.sink _ c.as_str.ensures c.in_err-put_string.ensures.put)
 
 pub returns-in_err-put_count-clause-put : goal.returns-in_err-put_count-clause-put
 returns-in_err-put_count-clause-put g c =
     let err : IsErr c.from_residual-in_err-put_count.result = search rules in
-    handed_on (length_due c.args.terms.due (topic_length c.args.topic.now)) c.args.sink.now c.put_count.new.sink _ c.from_residual-in_err-put_count.result err
-    (count_refused c.args.terms.due c.args.topic.now c.as_str.result.now c.args.sink.now c.put_string.new.sink c.put_count.new.sink _ c.as_str.ensures c.in_ok-put_string.ensures.put c.in_err-put_count.ensures.put)
+    handed_on (length_due c.args.terms.due (topic_length c.args.terms.has_starts c.args.topic.now)) c.args.sink.now c.put_count.new.sink _ c.from_residual-in_err-put_count.result err
+    (count_refused c.args.terms.has_starts c.args.terms.due c.args.topic.now c.as_str.result.now c.args.sink.now c.put_string.new.sink c.put_count.new.sink _ c.as_str.ensures c.in_ok-put_string.ensures.put c.in_err-put_count.ensures.put)
 
 pub returns-clause-put : goal.returns-clause-put
 returns-clause-put g c =
-    topic_put c.args.terms.due c.args.topic.now c.as_str.result.now c.as_slice.result.now c.args.sink.now c.put_string.new.sink c.put_count.new.sink c.serve_entries.new.sink c.serve_entries.result
+    topic_put c.args.terms.has_starts c.args.terms.due c.args.topic.now c.as_str.result.now c.as_slice.result.now c.args.sink.now c.put_string.new.sink c.put_count.new.sink c.serve_entries.new.sink c.serve_entries.result
     c.as_str.ensures c.as_slice.ensures c.in_ok-put_string.ensures.put c.in_ok-put_count.ensures.put c.serve_entries.ensures.put

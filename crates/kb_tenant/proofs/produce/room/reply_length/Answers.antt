@@ -17,5 +17,5 @@ pub returns : goal.returns
 returns c =
     let ts = c.args.request.now.topics in
     let i = c.loop-topic.topic-index in
-    let all = c.loop-topic.invariant.counted ∙ ap (λ xs. 8 + sum_by topic_length xs) (take_all i ts (subst (λ xs. length xs ≤ i) c.as_slice-topic-items.ensures c.loop-topic-test.false)) in
+    let all = c.loop-topic.invariant.counted ∙ ap (λ xs. 8 + sum_by (topic_length c.args.has_starts) xs) (take_all i ts (subst (λ xs. length xs ≤ i) c.as_slice-topic-items.ensures c.loop-topic-test.false)) in
     (omega (arith, sym all, c.loop-topic.invariant.small), all)

@@ -6,6 +6,6 @@ use Rattle.kb_tenant.proofs.produce.room.reply_length.Given as goal
 -- what the topics so far take is counted
 abbrev pub invariant-loop-topic : goal.invariant-loop-topic
 invariant-loop-topic l = record {
-  counted : l.length ≡ 8 + sum_by topic_length (take l.topic-index l.request.topics);
+  counted : l.length ≡ 8 + sum_by (topic_length l.has_starts) (take l.topic-index l.request.topics);
   small : l.length < 2 ^ 64;
 }

@@ -1,0 +1,7 @@
+use Rattle.std.proofs.Common.{◌≡◌, map, take}
+use Rattle.kb_tenant.specs.ListOffsets.{plain_topic}
+use Rattle.kb_tenant.proofs.list_offsets.plain_topics.Given as goal
+
+-- those so far
+abbrev pub invariant-loop-topic : goal.invariant-loop-topic
+invariant-loop-topic l = l.plain ≡ map plain_topic (take l.topic-index l.topics)

@@ -57,6 +57,12 @@ class Java(Client):
             raise SystemExit(f"{name}: it does not begin with a throttle time of 0")
         return got
 
+    @staticmethod
+    def no_epoch(name, got):
+        """An epoch of a leader, which is -1: none is known."""
+        if got.take(">i") != -1:
+            raise SystemExit(f"{name}: the epoch of a leader is not -1")
+
     def ask_all(self, name, body):
         """Sends a request whose reply is to be awaited with `heard`."""
         self.send([(CLIENT[name][0], self.versions[name], body)])
@@ -98,7 +104,10 @@ class Java(Client):
             names.append((got.take(">h"), got.text()))
             got.take(">?")
             for _ in range(got.take(">i")):
-                got.take(">h"), got.take(">i"), got.take(">i"), got.array(">i"), got.array(">i")
+                got.take(">h"), got.take(">i"), got.take(">i")
+                if self.versions["Metadata"] >= 7:
+                    self.no_epoch("Metadata", got)
+                got.array(">i"), got.array(">i")
                 if self.versions["Metadata"] >= 5 and got.array(">i") != []:
                     raise SystemExit("Metadata: a replica is offline")
         return names
@@ -111,12 +120,13 @@ class Java(Client):
         return got.take(">h"), got.take(">q"), got.take(">h")
 
     def write(self, name, value):
-        """Produce: the error code and the offset."""
+        """Produce: the error code, the offset, and from version 5 on where the log starts."""
         sent = batch(value)
         body = struct.pack(">hhi", -1, -1, 5000) + place(name) + struct.pack(">i", len(sent)) + sent
         got = self.call("Produce", body, 99)
         got.take(">i"), got.text(), got.take(">i"), got.take(">i")
-        return got.take(">h"), got.take(">q")
+        code, offset, _ = got.take(">h"), got.take(">q"), got.take(">q")
+        return code, offset, got.take(">q") if self.versions["Produce"] >= 5 else 0
 
     # ---- Consumer
 
@@ -172,7 +182,8 @@ class Java(Client):
         """OffsetCommit: the error code."""
         retention = struct.pack(">q", -1) if self.versions["OffsetCommit"] < 5 else b""
         body = text(GROUP) + struct.pack(">i", generation) + text(member) + retention + place(TOPIC)
-        got = self.call("OffsetCommit", body + struct.pack(">q", offset) + text(b""), 3)
+        epoch = struct.pack(">i", 3) if self.versions["OffsetCommit"] >= 6 else b""
+        got = self.call("OffsetCommit", body + struct.pack(">q", offset) + epoch + text(b""), 3)
         got.take(">i"), got.text(), got.take(">i"), got.take(">i")
         return got.take(">h")
 
@@ -180,20 +191,43 @@ class Java(Client):
         """OffsetFetch: the offset."""
         got = self.call("OffsetFetch", text(GROUP) + place(TOPIC), 3)
         got.take(">i"), got.text(), got.take(">i"), got.take(">i")
-        return got.take(">q")
+        offset = got.take(">q")
+        if self.versions["OffsetFetch"] >= 5:
+            self.no_epoch("OffsetFetch", got)
+        return offset
 
     def end(self):
         """ListOffsets: the end of the log."""
         level = struct.pack(">b", 1) if self.versions["ListOffsets"] >= 2 else b""
-        got = self.call("ListOffsets", struct.pack(">i", -1) + level + place(TOPIC) + struct.pack(">q", -1), 2)
+        epochs = self.versions["ListOffsets"] >= 4
+        epoch = struct.pack(">i", 3) if epochs else b""
+        got = self.call("ListOffsets", struct.pack(">i", -1) + level + place(TOPIC) + epoch + struct.pack(">q", -1), 2)
         got.take(">i"), got.text(), got.take(">i"), got.take(">i")
-        return got.take(">h"), got.take(">q"), got.take(">q")
+        found = got.take(">h"), got.take(">q"), got.take(">q")
+        if epochs:
+            self.no_epoch("ListOffsets", got)
+        return found
+
+    def fetch(self, offset, epoch):
+        """Fetch: the error code of its session, the session, and how many topics follow. A version without sessions has neither."""
+        version = self.versions["Fetch"]
+        session = struct.pack(">ii", 0, epoch) if version >= 7 else b""
+        leader = struct.pack(">i", 7) if version >= 9 else b""
+        asked = place(TOPIC) + leader + struct.pack(">qqi", offset, -1, 1 << 20)
+        body = struct.pack(">iiiib", -1, 0, 1, 1 << 20, 0) + session + asked + (struct.pack(">i", 0) if version >= 7 else b"")
+        got = self.call("Fetch", body, 1)
+        code, found = (got.take(">h"), got.take(">i")) if version >= 7 else (0, 0)
+        return code, found, got.take(">i"), got
+
+    def goes_on(self):
+        """A fetch that goes on with a session: its error code, the session and how many topics follow. The client begins anew then."""
+        return self.fetch(0, 1)[:3] if self.versions["Fetch"] >= 7 else (70, 0, 0)
 
     def read(self, offset):
-        """Fetch: the error code, the high watermark, the log's start, and the bytes."""
-        body = struct.pack(">iiiib", -1, 0, 1, 1 << 20, 0) + place(TOPIC) + struct.pack(">qqi", offset, -1, 1 << 20)
-        got = self.call("Fetch", body, 1)
-        got.take(">i"), got.text(), got.take(">i"), got.take(">i")
+        """A full fetch, which begins a session: the error code, the high watermark, the log's start, and the bytes."""
+        code, found, _, got = self.fetch(offset, 0)
+        must("the session of a full fetch", (code, found), (0, 0))
+        got.text(), got.take(">i"), got.take(">i")
         code, mark = got.take(">h"), got.take(">q")
         got.take(">q")
         start, _ = got.take(">q"), got.take(">i")
@@ -226,8 +260,10 @@ def group(port, one, two, value):
     one.sync(second, lead, {lead: b"0", other: b"1"})
     must("SyncGroup of two", (one.synced(), two.synced()), ((0, b"0"), (0, b"1")))
     must("Heartbeat", (one.beat(second, lead), two.beat(second, other)), (0, 0))
-    code, mark, start, got = one.read(0)
-    must("Fetch", (code, mark, start, value in got), (0, 2, 0, True))
+    for _ in range(2):
+        code, mark, start, got = one.read(0)
+        must("Fetch", (code, mark, start, value in got), (0, 2, 0, True))
+        must("Fetch in a session", one.goes_on(), (70, 0, 0))
     must("OffsetCommit", (one.commit(second, lead, 2), one.commit(first, lead, 1), one.committed()), (0, 22, 2))
     must("LeaveGroup", (two.leave(other), one.leave(lead), one.leave(lead)), (0, 0, 25))
 
@@ -238,10 +274,11 @@ def cycle(port, one, two, value):
     must("CreateTopics again", one.make(TOPIC)[0][1], 36)
     must("Metadata", one.names(), [(0, TOPIC)])
     must("InitProducerId", one.id()[::2], (0, 0))
-    must("Produce", [one.write(TOPIC, value) for _ in range(2)], [(0, 0), (0, 1)])
+    must("Produce", [one.write(TOPIC, value) for _ in range(2)], [(0, 0, 0), (0, 1, 0)])
     must("ListOffsets", one.end()[::2], (0, 2))
     group(port, one, two, value)
     must("DeleteRecords", one.cut(TOPIC, 1), (1, 0))
+    must("Produce behind a start", one.write(TOPIC, value), (0, 2, 1 if one.versions["Produce"] >= 5 else 0))
 
 
 def main(program):

@@ -1,6 +1,6 @@
 -- What is listed beside what, in either listing.
 use Rattle.std.proofs.Common.{◌≡◌, true, false, refl}
-use Rattle.kb_wire.specs.declared.api_key.TheConstants.{FETCH, METADATA, PRODUCE}
+use Rattle.kb_wire.specs.declared.api_key.TheConstants.{FETCH, LIST_OFFSETS, METADATA, PRODUCE}
 use Rattle.kb_isolation_spec.specs.Requests.{is_served}
 use Rattle.kb_broker.specs.Opening.{lists}
 use Rattle.kb_broker.specs.declared.opening.Listing.{Listing}
@@ -24,6 +24,11 @@ pub epochs-coherent : (listing : Listing) → lists listing FETCH 8 ≡ true →
 unfolding is_served
 epochs-coherent listings.Served e = unlisted e
 epochs-coherent listings.StockClients e = unlisted e
+
+pub offsets-coherent : (listing : Listing) → lists listing LIST_OFFSETS 5 ≡ true → lists listing FETCH 10 ≡ true
+unfolding is_served
+offsets-coherent listings.Served e = unlisted e
+offsets-coherent listings.StockClients e = unlisted e
 
 pub without-zstd : (listing : Listing) → (lists listing PRODUCE 7 ≡ false) × (lists listing FETCH 10 ≡ false)
 unfolding is_served

@@ -55,8 +55,10 @@ served_versions =
 -- the same, and what stock clients ask for beside
 abbrev pub stock_versions : List ApiVersion
 stock_versions =
-    between PRODUCE 3 4 ∷ between FETCH 4 6 ∷ between LIST_OFFSETS 1 3 ∷ between METADATA 0 5 ∷
-    between OFFSET_COMMIT 2 5 ∷ between OFFSET_FETCH 1 4 ∷ between FIND_COORDINATOR 0 2 ∷
+    between PRODUCE 3 6 ∷
+    between FETCH 4 6 ∷
+    between LIST_OFFSETS 1 4 ∷ between METADATA 0 7 ∷
+    between OFFSET_COMMIT 1 6 ∷ between OFFSET_FETCH 1 5 ∷ between FIND_COORDINATOR 0 2 ∷
     between JOIN_GROUP 1 3 ∷ between HEARTBEAT 0 2 ∷ between LEAVE_GROUP 0 2 ∷ between SYNC_GROUP 0 2 ∷
     between DESCRIBE_GROUPS 0 2 ∷ between LIST_GROUPS 0 2 ∷
     between SASL_HANDSHAKE 0 1 ∷ between API_VERSIONS 0 2 ∷

@@ -35,12 +35,12 @@ type Api = (i16, i16, i16, i16, i16);
 
 /// The APIs that are listed, by rising key (Kafka protocol guide, "Api Keys").
 const APIS: [Api; 20] = [
-    (api_key::PRODUCE, 3, 3, 3, 4),
+    (api_key::PRODUCE, 3, 3, 3, 6),
     (api_key::FETCH, 4, 5, 4, 6),
-    (api_key::LIST_OFFSETS, 1, 1, 1, 3),
-    (api_key::METADATA, 1, 1, 0, 5),
-    (api_key::OFFSET_COMMIT, 2, 2, 2, 5),
-    (api_key::OFFSET_FETCH, 1, 1, 1, 4),
+    (api_key::LIST_OFFSETS, 1, 1, 1, 4),
+    (api_key::METADATA, 1, 1, 0, 7),
+    (api_key::OFFSET_COMMIT, 2, 2, 1, 6),
+    (api_key::OFFSET_FETCH, 1, 1, 1, 5),
     (api_key::FIND_COORDINATOR, 0, 0, 0, 2),
     (api_key::JOIN_GROUP, 1, 1, 1, 3),
     (api_key::HEARTBEAT, 0, 0, 0, 2),

@@ -1,7 +1,7 @@
 //! Laws about whole runs, each as the contract of a function with an empty body, or with one that only looks at a broker.
 
 ghost use Rattle.std.specs.Prelude.{◌≡◌, ◌≢◌, ℕ, Bool, List, Some, true, false, map};
-ghost use Rattle.kb_wire.specs.declared.api_key.TheConstants.{FETCH, METADATA, PRODUCE};
+ghost use Rattle.kb_wire.specs.declared.api_key.TheConstants.{FETCH, LIST_OFFSETS, METADATA, PRODUCE};
 ghost use Rattle.kb_settings.specs.declared.settings.Settings.{Settings};
 ghost use Rattle.kb_tenant.specs.LimitsKept.{AreLimitsKept};
 ghost use Rattle.kb_isolation_spec.specs.Broker.{BrokerState, IsCalmFor, IsRun, Mine, bound_to, kept_of, view_of};
@@ -73,12 +73,14 @@ pub fn nobody_is_stranded()
 {}
 
 /// Neither listing has a part of a release alone which some clients take for the whole: they infer a release from the list, and then
-/// send its versions unasked. With Produce 7 or Fetch 10 they would compress by zstd, which no batch may be.
+/// send its versions unasked. With Produce 7 or Fetch 10 they would compress by zstd, which no batch may be. kafka-python takes
+/// ListOffsets 5 for a later release than Fetch 10.
 pub fn listings_are_coherent()
     ensures metadata { (listing : Listing) → lists listing METADATA 5 ≡ true → lists listing PRODUCE 4 ≡ true }
     ensures sessions { (listing : Listing) → lists listing FETCH 7 ≡ true → lists listing PRODUCE 5 ≡ true }
     ensures epochs { (listing : Listing) → lists listing FETCH 8 ≡ true → lists listing PRODUCE 6 ≡ true }
     ensures zstd { (listing : Listing) → (lists listing PRODUCE 7 ≡ false) × (lists listing FETCH 10 ≡ false) }
+    ensures offsets { (listing : Listing) → lists listing LIST_OFFSETS 5 ≡ true → lists listing FETCH 10 ≡ true }
 {}
 
 /// No run of a broker brings what a tenant has past its limits, whatever others do: the bytes of its batches, its topics, their

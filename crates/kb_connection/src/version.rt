@@ -23,12 +23,17 @@ type Newer = (i16, i16, i16, i16, bool);
 
 /// The versions that a tenant is asked in as in another one, or where a throttle time stands in front of its answer (Kafka protocol
 /// guide, "The Messages").
-const NEWER: [Newer; 17] = [
+const NEWER: [Newer; 22] = [
     (api_key::PRODUCE, 4, 4, 3, false),
+    (api_key::PRODUCE, 6, 6, 5, false),
     (api_key::FETCH, 6, 6, 5, false),
     (api_key::LIST_OFFSETS, 2, 3, 2, true),
     (api_key::OFFSET_COMMIT, 3, 4, 2, true),
     (api_key::OFFSET_COMMIT, 5, 5, 5, true),
+    (api_key::OFFSET_COMMIT, 6, 6, 6, true),
+    (api_key::LIST_OFFSETS, 4, 4, 4, true),
+    (api_key::OFFSET_FETCH, 5, 5, 5, true),
+    (api_key::METADATA, 6, 6, 5, false),
     (api_key::JOIN_GROUP, 2, 3, 1, true),
     (api_key::OFFSET_FETCH, 3, 4, 2, true),
     (api_key::FIND_COORDINATOR, 1, 2, 1, true),

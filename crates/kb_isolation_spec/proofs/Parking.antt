@@ -5,7 +5,6 @@ use Rattle.std.specs.Ordering.{int_eq}
 use Rattle.kb_wire.specs.Codec.{whole}
 use Rattle.kb_wire.specs.declared.api_key.TheConstants.{OFFSET_COMMIT, JOIN_GROUP, HEARTBEAT, LEAVE_GROUP, SYNC_GROUP}
 use Rattle.kb_wire.specs.declared.fault.WireFault.{WireFault}
-use Rattle.kb_api_data.specs.Layouts.{produce_reply}
 use Rattle.kb_api_data.specs.declared.fetch.FetchRequest.{FetchRequest}
 use Rattle.kb_api_data.specs.declared.fetch_v5.FetchReplyV5.{FetchReplyV5}
 use Rattle.kb_api_group.specs.declared.group_key.TheConstants.{DESCRIBE_GROUPS, LIST_GROUPS}
@@ -22,7 +21,7 @@ use Rattle.kb_tenant.specs.OffsetCommit.{asked_commit}
 use Rattle.kb_tenant.specs.CreateTopics.{checked_all, created_all, creations_in, made_of}
 use Rattle.kb_tenant.specs.Entries.{commit_entries, describe_groups_entries, within}
 use Rattle.kb_tenant.specs.Fetch.{asked_fetch, bounded, deadline_of, fetch_answer, places_of, fetched_in}
-use Rattle.kb_tenant.specs.Produce.{produced, is_due}
+use Rattle.kb_tenant.specs.Produce.{produced, produced_in, is_due}
 use Rattle.kb_tenant.specs.Limits.{is_past}
 use Rattle.kb_tenant.specs.Metadata.{metadata_in, metadata_of}
 use Rattle.kb_tenant.specs.OffsetFetch.{fetched_all, offsets_in}
@@ -84,7 +83,7 @@ short-parks version body clock w limit reply = by (is_past limit (reply_size rep
 plain-parks : (node : Node) (w : World) (clock n : ℕ) (key version : ℤ) (body : List ℕ) → ParksPlain version body clock (tenant.plainly_served node w clock n key version body)
 plain-parks node w clock n key version body =
     by_request (ParksPlain version body clock) node w clock n key version body (record {
-      produce = λ r read. produce-parks version body clock (produced node.limits.bytes w [] r).0.world (produced node.limits.bytes w [] r).0.touched (produce_reply.written (produced node.limits.bytes w [] r).1) (is_due r.acks);
+      produce = λ r read. produce-parks version body clock (produced node.limits.bytes w [] r).0.world (produced node.limits.bytes w [] r).0.touched (produced_in version (produced node.limits.bytes w [] r).1) (is_due r.acks);
       fetch = λ r read. fetch-parks w clock version body node.limits.fetch_bytes r read;
       list_offsets = λ r read deadline limit places e. absurd (cc);
       metadata = λ r read. short-parks version body clock w node.limits.reply_bytes (metadata_in version (metadata_of w node r));

@@ -2,11 +2,12 @@
 --
 -- Each is read off the schemas of its API in the Kafka protocol guide, "The Messages", under the API's name ("JoinGroup API" and so on):
 -- the request has the fields of that version's in the same order, and so has the reply, behind a `throttle_time_ms` where the tenant's
--- answer in that version has none. Its answers in ListOffsets 2, OffsetCommit 5 and FindCoordinator 1 have none, though their replies do.
+-- answer in that version has none. Its answers in ListOffsets 2 and 4, OffsetCommit 5 and 6, OffsetFetch 5 and FindCoordinator 1 have none,
+-- though their replies do.
 use Rattle.std.specs.Prelude.{ℕ, ℤ, pos, List, [], ◌∷◌, Bool, true, false, ◌&&◌, int_le, if◌then◌else◌}
 use Rattle.std.specs.Ordering.{int_eq}
 use Rattle.kb_wire.specs.declared.api_key.TheConstants.{PRODUCE, FETCH, LIST_OFFSETS, OFFSET_COMMIT, OFFSET_FETCH, FIND_COORDINATOR}
-use Rattle.kb_wire.specs.declared.api_key.TheConstants.{JOIN_GROUP, HEARTBEAT, LEAVE_GROUP, SYNC_GROUP}
+use Rattle.kb_wire.specs.declared.api_key.TheConstants.{METADATA, JOIN_GROUP, HEARTBEAT, LEAVE_GROUP, SYNC_GROUP}
 use Rattle.kb_wire.specs.declared.api_key.TheConstants.{CREATE_TOPICS, DELETE_TOPICS, DELETE_RECORDS, INIT_PRODUCER_ID}
 use Rattle.kb_api_group.specs.declared.group_key.TheConstants.{DESCRIBE_GROUPS, LIST_GROUPS}
 use Rattle.kb_api_group.specs.declared.header.RequestStart.{RequestStart}
@@ -29,10 +30,18 @@ throttled_as key least greatest version = (key, pos least, pos greatest, pos ver
 -- all that there are
 abbrev pub newer_versions : List Newer
 newer_versions =
-    same_as PRODUCE 4 4 3 ∷ same_as FETCH 6 6 5 ∷ throttled_as LIST_OFFSETS 2 3 2 ∷ throttled_as OFFSET_COMMIT 3 4 2 ∷
+    same_as PRODUCE 4 4 3 ∷
+    same_as PRODUCE 6 6 5 ∷
+    same_as FETCH 6 6 5 ∷
+    throttled_as LIST_OFFSETS 2 3 2 ∷ throttled_as OFFSET_COMMIT 3 4 2 ∷
     throttled_as OFFSET_COMMIT 5 5 5 ∷
+    throttled_as OFFSET_COMMIT 6 6 6 ∷
+    throttled_as LIST_OFFSETS 4 4 4 ∷
+    throttled_as OFFSET_FETCH 5 5 5 ∷
+    same_as METADATA 6 6 5 ∷
     throttled_as JOIN_GROUP 2 3 1 ∷ throttled_as OFFSET_FETCH 3 4 2 ∷ throttled_as FIND_COORDINATOR 1 2 1 ∷
-    throttled_as HEARTBEAT 1 2 0 ∷ throttled_as LEAVE_GROUP 1 2 0 ∷ throttled_as SYNC_GROUP 1 2 0 ∷ throttled_as DESCRIBE_GROUPS 1 2 0 ∷ throttled_as LIST_GROUPS 1 2 0 ∷
+    throttled_as HEARTBEAT 1 2 0 ∷ throttled_as LEAVE_GROUP 1 2 0 ∷ throttled_as SYNC_GROUP 1 2 0 ∷
+    throttled_as DESCRIBE_GROUPS 1 2 0 ∷ throttled_as LIST_GROUPS 1 2 0 ∷
     throttled_as CREATE_TOPICS 2 3 1 ∷ same_as DELETE_TOPICS 2 3 1 ∷ same_as DELETE_RECORDS 1 1 0 ∷
     same_as INIT_PRODUCER_ID 1 1 0 ∷ []
 

@@ -153,8 +153,9 @@ def older(program, room):
     broker, listens, log = begun(program, room, "--accept-strays")
     Client(broker.port).create(b"other")
     broker.stop()
-    if len(names) < 3 or not listens or not set(names) <= set(files(data)):
-        wrong.append(f"files of a topic that the catalog does not know are removed: {log()}")
+    kept = {it.removesuffix(".0") for it in os.listdir(f"{data}/dropped-1")}
+    if len(names) < 3 or not listens or kept != set(names) or kept & set(files(data)):
+        wrong.append(f"files of a topic that the catalog does not know are not set aside: {log()}")
     return wrong
 
 

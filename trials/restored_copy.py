@@ -4,7 +4,8 @@
     trials/restored_copy.py KBROKER KCONSOLE
 
 The start is refused, changes nothing and names the tenant; with --accept-strays it goes on, and what the older catalog knows is
-there. Nothing but Python is needed.
+there. The files that it does not know are kept in a folder of their own, whole. A topic that is made then gets their number: after a
+further start, without a flag, it has its own lines and no others. Nothing but Python is needed.
 """
 
 import os
@@ -27,7 +28,8 @@ def main():
         broker, _ = place.start()
         first = place.produce("t", range(100))
         stop(broker)
-        copy = {name: data for name, data in contents(place.data).items() if is_catalog(data)}
+        known = contents(place.data)
+        copy = {name: data for name, data in known.items() if is_catalog(data)}
         broker, _ = place.start()
         place.produce("u", range(100))
         stop(broker)
@@ -52,7 +54,19 @@ def main():
         else:
             if place.ask("consume", "t")[1] != first:
                 wrong.append("the lines that the older catalog knows are not all there")
+            made = place.produce("v", range(10))
             stop(broker)
+            kept = [open(f"{place.data}/dropped-1/{name}", "rb").read() for name in sorted(os.listdir(f"{place.data}/dropped-1"))]
+            if kept != [data for name, data in before.items() if name not in known]:
+                wrong.append("the files that the older catalog does not know are not kept as they were")
+            broker, told = place.start()
+            if broker is None:
+                told.seek(0)
+                wrong.append(f"a further start does not go on: {told.read()!r}")
+            elif place.ask("consume", "v")[1] != made or place.ask("consume", "t")[1] != first:
+                wrong.append("a topic that was made since has other lines than its own")
+            if broker is not None:
+                stop(broker)
     for line in wrong:
         print(line)
     print(f"refused once, accepted once, wrong {len(wrong)}")

@@ -14,8 +14,8 @@ use std::{fs, io};
 /// The greatest number of a folder of dropped parts.
 const LAST: u32 = 1_000_000;
 
-/// A folder `dropped-N` in a data folder, with a file for each part of a file that a start drops. It is made for the first part, under the
-/// lowest number that has none.
+/// A folder `dropped-N` in a data folder, with a file for each part of a file that a start drops or sets aside. It is made for the first
+/// part, under the lowest number that has none.
 #[derive(Drop)]
 pub(crate) struct DroppedParts {
     rt: HostRuntime,

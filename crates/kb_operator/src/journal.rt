@@ -142,11 +142,22 @@ impl Journal {
         }
     }
 
-    /// So many parts of files, which an opening drops, are kept in the folder at a path.
-    pub fn tell_kept(&mut self, alloc: Global, now: u64, parts: u64, path: &str) {
-        if !self.is_quiet {
+    /// So many parts of files are kept in the folder at a path: of those that an opening drops, and so many whole ones that the start sets
+    /// aside.
+    pub fn tell_kept(&mut self, alloc: Global, now: u64, parts: u64, aside: u64, path: &str) {
+        if self.is_quiet {
+            return;
+        }
+        let dropped = parts.saturating_sub(aside);
+        if dropped > 0 {
             let text = format!(in alloc;
-                "kept what is dropped of damaged files: {parts}, in {path}"
+                "kept what is dropped of damaged files: {dropped}, in {path}"
+            );
+            self.lines.tell(now, text);
+        }
+        if aside > 0 {
+            let text = format!(in alloc;
+                "set aside files that the settings do not fit: {aside}, in {path}"
             );
             self.lines.tell(now, text);
         }

@@ -12,8 +12,8 @@ use crate::refused::FolderJournal;
 use crate::report::dropped_texts;
 use kb_server_log::now;
 use kb_start::{
-    Cause, Consent, KeepFault, Loss, Opened, Surveyed, damage_text, keep_dropped, loss_text,
-    recorded_starts, stray_text, survey, why_refused,
+    Cause, Consent, KeepFault, Keeper, Loss, Opened, Surveyed, damage_text, files_in_way,
+    keep_dropped, keep_whole, loss_text, recorded_starts, stray_text, survey, why_refused,
 };
 use kb_store::{Store, StoreFault};
 use std::alloc::{AllocError, Global};
@@ -22,15 +22,16 @@ use std::alloc::{AllocError, Global};
 const MOST_TOLD: usize = 20;
 
 /// Examines an opening of a journal's folder: where whole batches would be lost, or files are there that the settings do not fit, the
-/// start is refused, unless there is consent. Nothing was changed by then. What is dropped of damaged files is kept before that. What is
-/// dropped and what is left aside is told.
+/// start is refused, unless there is consent. Nothing was changed by then. What is dropped of damaged files is kept before that, and so
+/// is each file that does not fit, whole. The answer is the numbers of these: the start is to go on without them. What is dropped, set
+/// aside and left alone is told.
 pub fn examine(
     rt: &HostRuntime,
     opened: &Opened<'_>,
     consent: Consent,
     folder: &FolderJournal,
     journal: &mut Journal,
-) -> Result<(), OperatorFault> {
+) -> Result<Vec<u64>, OperatorFault> {
     let alloc = rt.alloc();
     let mut store = store_to_read(rt, folder)?;
     let (surveyed, dropped) = match look_at_all(alloc, &mut store, opened) {
@@ -41,27 +42,32 @@ pub fn examine(
         tell_losses(alloc, folder.folder(), &surveyed.losses, journal.lines());
     }
     go_on(alloc, folder.folder(), consent, &surveyed)?;
-    let parts = keep(rt, &mut store, opened, &surveyed, folder)?;
+    let aside = match files_in_way(alloc, &mut store, opened) {
+        Ok(files) => files,
+        Err(fault) => return Err(folder.of_store(alloc, fault)),
+    };
+    let kept = keep(rt, &mut store, opened, &surveyed.losses, &aside, folder)?;
     journal.tell_dropped(now(rt), dropped);
-    if let Some((parts, path)) = parts {
-        journal.tell_kept(alloc, now(rt), parts, &path);
+    if let Some((parts, path)) = kept {
+        journal.tell_kept(alloc, now(rt), parts, aside.len() as u64, &path);
     }
     journal.tell_strays(alloc, now(rt), &surveyed.strays);
-    Ok(())
+    Ok(aside)
 }
 
-/// Keeps what an opening drops of the files of a store, in a journal's folder, that lose whole batches: how many parts that are, and where,
-/// if there are any. Where one cannot be kept the start is refused, and nothing was changed.
+/// Keeps what an opening drops of the files of a store, in a journal's folder, that lose whole batches, and some files whole. It says how
+/// many parts that are, and where, if there are any. Where one cannot be kept the start is refused, and nothing was changed.
 fn keep<S: Store>(
     rt: &HostRuntime,
     store: &mut S,
     opened: &Opened<'_>,
-    surveyed: &Surveyed,
+    losses: &[Loss],
+    files: &[u64],
     folder: &FolderJournal,
 ) -> Result<Option<(u64, String)>, OperatorFault> {
     let alloc = rt.alloc();
     let mut parts = DroppedParts::new(rt, folder.folder())?;
-    if let Err(fault) = keep_dropped(alloc, store, opened, &surveyed.losses, &mut parts) {
+    if let Err(fault) = keep_all(alloc, store, opened, losses, files, &mut parts) {
         let refused = parts.give_up();
         return Err(match fault {
             KeepFault::Store(fault) => folder.of_store(alloc, fault),
@@ -72,6 +78,19 @@ fn keep<S: Store>(
         Ok(kept) => Ok(kept),
         Err(_) => Err(parts.give_up()),
     }
+}
+
+/// Gives what an opening drops of the files of a store to a keeper, where whole batches are lost, and then some files whole.
+fn keep_all<S: Store, K: Keeper>(
+    alloc: Global,
+    store: &mut S,
+    opened: &Opened<'_>,
+    losses: &[Loss],
+    files: &[u64],
+    keeper: &mut K,
+) -> Result<(), KeepFault> {
+    keep_dropped(alloc, store, opened, losses, keeper)?;
+    keep_whole(alloc, store, files, keeper)
 }
 
 /// Surveys the files of a store, and says what an opening drops of them.

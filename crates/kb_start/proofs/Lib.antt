@@ -1,4 +1,5 @@
 pub mod Gone
+pub mod InWay
 pub mod Lost
 pub mod Parts
 pub mod Recorded

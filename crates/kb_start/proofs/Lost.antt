@@ -106,7 +106,7 @@ same_header d e file t f = ap (λ table. of_both table e.files) t ∙ ap (of_bot
     of_both : Table → Files → Option Header
     of_both table files = if is_in (keys table) file then header_in (unwrap_or (get files file) []) else None
 
-same_stray : (d e : Disk) (names : List (List ℕ)) (nexts : List ℕ) (file : ℕ) → e.table ≡ d.table → e.files ≡ d.files
+pub same_stray : (d e : Disk) (names : List (List ℕ)) (nexts : List ℕ) (file : ℕ) → e.table ≡ d.table → e.files ≡ d.files
     → stray_at e names nexts file ≡ stray_at d names nexts file
 same_stray d e names nexts file t f = ap (λ table. of_both table e.files) t ∙ ap (of_both d.table) f
   where

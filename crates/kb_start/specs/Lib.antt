@@ -1,3 +1,4 @@
+pub mod Aside
 pub mod Deleted
 pub mod Kept
 pub mod Left

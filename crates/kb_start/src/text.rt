@@ -68,8 +68,8 @@ pub fn stray_text(alloc: Global, path: &str, strays: &StrayCounts) -> Result<Str
         text.push_str(&format!(in alloc; ", {later} with a header of a later version")?)?;
     }
     text.push_str(&format!(in alloc;
-        ". {UNCHANGED} Restore all files of a backup together into an empty folder, or start with --accept-strays to go on beside \
-        them: what is written then may be dropped later."
+        ". {UNCHANGED} Restore all files of a backup together into an empty folder, or start with --accept-strays to go on without \
+        them: they are kept in a folder of their own."
     )?)?;
     Ok(text)
 }

@@ -10,7 +10,7 @@ use crate::losses::Surveyed;
 pub struct Consent {
     /// Batches that stand behind damage.
     pub drop_damaged: bool,
-    /// Files that the settings do not fit.
+    /// Files that the settings do not fit, which are set aside.
     pub accept_strays: bool,
 }
 

@@ -35,7 +35,9 @@ pub fn with_consent<'a>(alloc: Global, command: Command<'a>) -> Result<Command<'
         .action(ArgAction::SetTrue);
     let accept_strays = Arg::new(alloc, "accept-strays")
         .long("accept-strays")
-        .help("Goes on beside files that the settings do not fit, and leaves them alone")
+        .help(
+            "Goes on without files that the settings do not fit, and keeps them in a folder of their own",
+        )
         .action(ArgAction::SetTrue);
     command.arg(drop_damaged)?.arg(accept_strays)
 }
@@ -49,7 +51,7 @@ pub struct Start<'a> {
 }
 
 /// Opens the broker of a journal's folder, whose store that is, and says what it has. Where its files are a reason not to, the start is
-/// refused, and nothing was changed.
+/// refused, and nothing was changed. It goes on without those that were set aside.
 pub fn open_on<S: PutsOff + Drop>(
     rt: &HostRuntime,
     start: Start<'_>,
@@ -63,11 +65,17 @@ pub fn open_on<S: PutsOff + Drop>(
     ensures no_groups { IfOk result (λ opened. HaveNoGroup opened.0.broker.state.tenants) }
 {
     let alloc = rt.alloc();
-    let (opened, files, deleted) = open_over(rt, start, store, folder)?;
+    let (opened, mut files, deleted) = open_over(rt, start, store, folder)?;
     let names = tenant_names(alloc, &start.settings.users)?;
     let known = known(&names, &opened, &files);
-    examine(rt, &known, start.consent, folder, journal)?;
+    let aside = examine(rt, &known, start.consent, folder, journal)?;
     journal.tell_deleted(alloc, now(rt), &deleted);
+    if aside.is_empty() {
+        let held = held(opened.counts, &files);
+        return Ok((opened, held));
+    }
+    let opened = open_without(alloc, start, opened, &aside, folder)?;
+    files.retain(|left| !aside.contains(&left.file));
     let held = held(opened.counts, &files);
     Ok((opened, held))
 }
@@ -130,12 +138,28 @@ fn open_without_deleted<S: PutsOff + Drop>(
     if deleted.files.is_empty() {
         return Ok((opened, deleted));
     }
+    let opened = open_without(alloc, start, opened, &deleted.files, folder)?;
+    Ok((opened, deleted))
+}
+
+/// Opens a broker's store again, without some files, which are removed from it.
+fn open_without<S: PutsOff + Drop>(
+    alloc: Global,
+    start: Start<'_>,
+    opened: Restarted<S>,
+    files: &[u64],
+    folder: &FolderJournal,
+) -> Result<Restarted<S>, Fault>
+    ensures fixed { IfOk result (λ opened. opened.broker.state
+        ≡ opening_over start.entry.listing start.entry.settings.now opened.broker.state.tenants) }
+    ensures calm { IfOk result (λ opened. have_nothing_refused opened.broker.state.tenants) }
+    ensures no_groups { IfOk result (λ opened. HaveNoGroup opened.broker.state.tenants) }
+{
     let mut store = opened.broker.into_store();
-    if let Err(fault) = remove_files(alloc, &mut store, &deleted.files) {
+    if let Err(fault) = remove_files(alloc, &mut store, files) {
         return Err(Fault::Operator(folder.of_store(alloc, fault)));
     }
-    let opened = open_store(alloc, start, store, folder)?;
-    Ok((opened, deleted))
+    open_store(alloc, start, store, folder)
 }
 
 /// Opens the broker of a journal's folder, whose store that is.

@@ -1,66 +1,133 @@
 -- What is done in one move after another goes on.
-use Rattle.std.proofs.Common.{◌≡◌, ◌<◌, ℕ, List, [], ◌∷◌, ◌++◌, ◌∙◌, Option, Some, None, true, false, ap, refl, sym, subst}
-use Rattle.std.specs.List.{AllByRecursion}
+use Rattle.std.proofs.Common.{◌≡◌, ◌<◌, ◌≤◌, ℕ, List, [], ◌∷◌, ◌++◌, ◌∙◌, Option, Some, None, true, false, IfSome, length, slice_index_or, slice_set, vec_len, inl, inr, ap, refl, sym, subst}
+use Rattle.std.specs.List.{AllByRecursion, remove}
+use Rattle.std.specs.Io.KnownBytes.{Appends}
+use Rattle.std.specs.declared.alloc.Global.{Global}
+use Rattle.std.specs.declared.vec.Vec.{Vec}
+use Rattle.std.proofs.lemmas.List.{map-append}
 use Rattle.kb_store.specs.Disk.{Disk}
 use Rattle.kb_isolation_spec.specs.Machine.{Closes, Comes, Happening, Moment, Opens}
 use Rattle.kb_isolation_spec.specs.Broker.{IsRun, last_after}
 use Rattle.kb_broker.specs.Hosts.{OnStore}
 use Rattle.kb_node.specs.declared.socket.Socket.{Socket}
 use Rattle.kb_node.specs.Traffic.{Along, AreAbout, AreDone, Commit, Deed, Event, Happens, IsCommitted, IsDone, Take, connection_of, events_of, is_moment, moments_of, tried_after}
-use Rattle.kb_node.specs.Carries.{Carries}
+use Rattle.kb_node.specs.Carries.{Carries, unhanded_of, unwritten_of}
 use Rattle.kb_node.specs.Commits.{Host}
-use Rattle.kb_node.specs.Moves.{Carry, Goes, IsJoined, IsMoved, IsRunOf, IsRunThrough, IsTurn, Move, Open, Settle}
+use Rattle.kb_node.specs.Cores.{Core, Seen, core, cores, open_ones, seen}
+use Rattle.kb_node.specs.Moves.{Carry, Goes, HasOpened, IsJoined, IsMoved, IsRunOf, IsRunThrough, IsTurn, Leave, LeaveAt, Move, Open, Settle}
+use Rattle.kb_node.proofs.Cores.{held_at, held_in, removed, set_at}
+use Rattle.kb_node.proofs.Carries.{writes}
 use Rattle.kb_node.proofs.Traffic.{along_then, all_then}
 
 -- 1. Moves
 
-pub goes_none : {S T : Type 0} {disk : S → Disk} {contents remaining : T → Option (List ℕ)} (h : Host S) → Goes disk contents remaining h h
-goes_none h = record { moves = []; done = refl }
+module _ {S T : Type 0} {disk : S → Disk} {contents remaining : T → Option (List ℕ)} where
+  pub goes_none : (x : Seen S T) → Goes disk contents remaining x x
+  goes_none x = record { moves = []; done = refl }
 
-pub goes_then : {S T : Type 0} {disk : S → Disk} {contents remaining : T → Option (List ℕ)} {from at to : Host S}
-    → Goes disk contents remaining from at → Goes disk contents remaining at to → Goes disk contents remaining from to
-goes_then {S} {T} {disk} {contents} {remaining} {from} {at} {to} one two = record {
-  moves = one.moves ++ two.moves;
-  done = along_then (IsMoved disk contents remaining) one.moves two.moves from at to one.done two.done;
-}
+  pub goes_then : {from at to : Seen S T} → Goes disk contents remaining from at → Goes disk contents remaining at to → Goes disk contents remaining from to
+  goes_then {from} {at} {to} one two = record {
+    moves = one.moves ++ two.moves;
+    done = along_then (IsMoved disk contents remaining) one.moves two.moves from at to one.done two.done;
+  }
 
-pub goes_carried : {S T : Type 0} {disk : S → Disk} {contents remaining : T → Option (List ℕ)} {old new : Socket T} {from to : Host S}
-    → to.tried ≡ from.tried → Carries disk contents remaining old new from.broker to.broker → Goes disk contents remaining from to
-goes_carried {S} {T} {disk} {contents} {remaining} {old} {new} {from} {to} same c =
-    record { moves = Carry old.connection ∷ []; done = (to, (same, record { old = old; new = new; number = refl; carries = c }), refl) }
+  -- where the host stays, and of the sockets only what is remembered of their turns changes
+  pub goes_same : {from a b : Seen S T} → b ≡ a → Goes disk contents remaining from a → Goes disk contents remaining from b
+  goes_same {from} same goes = subst (λ (x : Seen S T). Goes disk contents remaining from x) (sym same) goes
 
-pub goes_committed : {S T : Type 0} {disk : S → Disk} {contents remaining : T → Option (List ℕ)} {from to : Host S}
-    → to.tried ≡ from.tried → IsCommitted disk from.broker to.broker → Goes disk contents remaining from to
-goes_committed {S} {T} {disk} {contents} {remaining} {from} {to} same c = record { moves = Settle ∷ []; done = (to, (same, c), refl) }
+  pub goes_still : {a b : Seen S T} → b ≡ a → Goes disk contents remaining a b
+  goes_still {a} {b} same = goes_same same (goes_none a)
 
-pub goes_opened : {S T : Type 0} {disk : S → Disk} {contents remaining : T → Option (List ℕ)} {from to : Host S} {n : ℕ}
-    → from.tried < n → to.tried ≡ n → Happens disk (Opens n) from.broker to.broker → Goes disk contents remaining from to
-goes_opened {S} {T} {disk} {contents} {remaining} {from} {to} {n} rises is c = record { moves = Open n ∷ []; done = (to, (rises, is, c), refl) }
+  -- the socket at a place carried
+  pub goes_carried : (h k : Host S) (v : Vec (Socket T) Global) (p : ℕ) (s t : Socket T) → p < vec_len v → s ≡ slice_index_or v.items p s
+      → t.connection ≡ s.connection → k.tried ≡ h.tried → Carries disk contents remaining s t h.broker k.broker
+      → Goes disk contents remaining (seen h v.items) (seen k (slice_set v.items p t))
+  goes_carried h k v p s t lt is same tried c = record {
+    moves = Carry s.connection ∷ [];
+    done = (
+      seen k (slice_set v.items p t),
+      record {
+        place = p;
+        old = s;
+        new = t;
+        before = held_at v p s lt is;
+        after = set_at v.items p t;
+        number = refl;
+        same = same;
+        tried = tried;
+        carries = c;
+      },
+      refl,
+    );
+  }
 
--- where the broker, what is known of its commits, and the numbers that were tried stay
-pub goes_same : {S T : Type 0} {disk : S → Disk} {contents remaining : T → Option (List ℕ)} {from a b : Host S}
-    → b ≡ a → Goes disk contents remaining from a → Goes disk contents remaining from b
-goes_same {S} {T} {disk} {contents} {remaining} {from} same goes = subst (λ (h : Host S). Goes disk contents remaining from h) (sym same) goes
+  pub goes_left : (h : Host S) (xs ys : List (Socket T)) → cores ys ≡ open_ones (cores xs) → Goes disk contents remaining (seen h xs) (seen h ys)
+  goes_left h xs ys left = record { moves = Leave ∷ []; done = (seen h ys, (refl, left), refl) }
 
-pub goes_still : {S T : Type 0} {disk : S → Disk} {contents remaining : T → Option (List ℕ)} {a b : Host S}
-    → b ≡ a → Goes disk contents remaining a b
-goes_still {S} {T} {disk} {contents} {remaining} {a} {b} same = goes_same same (goes_none a)
+  pub goes_removed : (h : Host S) (xs ys zs : List (Socket T)) (p : ℕ) (s : Socket T) → p < length xs → s ≡ slice_index_or xs p s
+      → s.is_ended ≡ true → xs ≡ ys → zs ≡ remove ys p → Goes disk contents remaining (seen h ys) (seen h zs)
+  goes_removed h xs ys zs p s lt is ended same left = subst (λ ws. Goes disk contents remaining (seen h ys) (seen h ws)) (sym left)
+      (subst (λ ws. Goes disk contents remaining (seen h ws) (seen h (remove ws p))) same (record {
+        moves = LeaveAt p ∷ [];
+        done = (seen h (remove xs p), (refl, subst (λ o. IfSome o (λ c. c.is_ended ≡ true)) (sym (held_in xs p s lt is)) ended, removed xs p), refl);
+      }))
 
-pub turned : {S T : Type 0} {disk : S → Disk} {contents remaining : T → Option (List ℕ)} {now : ℕ} {from at to : Host S}
-    → Happens disk (Moment now) from.broker at.broker → at.tried ≡ from.tried → Goes disk contents remaining at to
-    → IsTurn disk contents remaining now from to
-turned {S} {T} {disk} {contents} {remaining} {now} {from} {at} {to} moment tried goes =
-    record { begun = at; moment = moment; tried = tried; goes = goes }
+  pub goes_committed : {from to : Seen S T} → to.host.tried ≡ from.host.tried → IsCommitted disk from.host.broker to.host.broker
+      → to.sockets ≡ from.sockets → Goes disk contents remaining from to
+  goes_committed {from} {to} same c sockets =
+      record { moves = Settle ∷ []; done = (to, record { tried = same; commits = c; sockets = sockets }, refl) }
 
-pub happens_same : {S : Type 0} {disk : S → Disk} {e : Happening} {from : OnStore S} {a b : Host S}
-    → b ≡ a → Happens disk e from a.broker → Happens disk e from b.broker
-happens_same {S} {disk} {e} {from} same happens = subst (λ (h : Host S). Happens disk e from h.broker) (sym same) happens
+  -- a connection opens, and could not be kept
+  pub goes_opened : {from to : Seen S T} {n : ℕ} → from.host.tried < n → to.host.tried ≡ n → Happens disk (Opens n) from.host.broker to.host.broker
+      → to.sockets ≡ from.sockets → Goes disk contents remaining from to
+  goes_opened {from} {to} {n} rises is c sockets =
+      record { moves = Open n ∷ []; done = (to, record { rises = rises; tried = is; opens = c; sockets = inl sockets }, refl) }
+
+  -- or its socket joins the others
+  pub goes_joined : {from to : Seen S T} (n : ℕ) (stream : T) → from.host.tried < n → to.host.tried ≡ n
+      → Happens disk (Opens n) from.host.broker to.host.broker → IsJoined stream n from.sockets to.sockets → Goes disk contents remaining from to
+  goes_joined {from} {to} n stream rises is c joined =
+      record { moves = Open n ∷ []; done = (to, record { rises = rises; tried = is; opens = c; sockets = inr (stream, joined) }, refl) }
+
+  -- the socket at a place wrote some of its output
+  pub goes_written : (h : Host S) (v : Vec (Socket T) Global) (p : ℕ) (s t : Socket T) → p < vec_len v → s ≡ slice_index_or v.items p s
+      → t.connection ≡ s.connection → (put : List ℕ) → Appends (contents s.stream) (contents t.stream) put
+      → unwritten_of s ≡ put ++ unwritten_of t → unhanded_of t ≡ unhanded_of s → (s.is_over ≡ true → t.is_over ≡ true)
+      → Goes disk contents remaining (seen h v.items) (seen h (slice_set v.items p t))
+  goes_written h v p s t lt is same put stream out in_ over = goes_carried h h v p s t lt is same refl
+      (writes disk contents remaining s t h.broker h.broker put refl stream out in_ over)
+
+  -- and then only what is remembered of its turns changed
+  pub goes_noted : (h : Host S) (v : Vec (Socket T) Global) (p : ℕ) (s t u : Socket T) (a m k : ℕ) (w : t.written ≤ vec_len t.output)
+      → u ≡ record t { active = a; moved = m; holder = k; within = w }
+      → p < vec_len v → s ≡ slice_index_or v.items p s
+      → t.connection ≡ s.connection → (put : List ℕ) → Appends (contents s.stream) (contents t.stream) put
+      → unwritten_of s ≡ put ++ unwritten_of t → unhanded_of t ≡ unhanded_of s → (s.is_over ≡ true → t.is_over ≡ true)
+      → Goes disk contents remaining (seen h v.items) (seen h (slice_set v.items p u))
+  goes_noted h v p s t u a m k w noted lt is same put stream out in_ over =
+      subst (λ (x : Socket T). Goes disk contents remaining (seen h v.items) (seen h (slice_set v.items p x))) (sym noted)
+      (goes_written h v p s (record t { active = a; moved = m; holder = k; within = w }) lt is same put stream out in_ over)
+
+  pub turned : {now : ℕ} {from at to : Seen S T} → Happens disk (Moment now) from.host.broker at.host.broker → at.host.tried ≡ from.host.tried
+      → at.sockets ≡ from.sockets → Goes disk contents remaining at to → IsTurn disk contents remaining now from to
+  turned {now} {from} {at} {to} moment tried sockets goes =
+      record { begun = at; moment = moment; tried = tried; sockets = sockets; goes = goes }
+
+pub happens_same : {S T : Type 0} {disk : S → Disk} {e : Happening} {from : OnStore S} {a b : Seen S T}
+    → b ≡ a → Happens disk e from a.host.broker → Happens disk e from b.host.broker
+happens_same {S} {T} {disk} {e} {from} same happens = subst (λ (x : Seen S T). Happens disk e from x.host.broker) (sym same) happens
 
 -- a socket that comes behind the others, as they were
-pub joined : {T : Type 0} {given : T} {n : ℕ} (old mid new : List (Socket T)) (s : Socket T) → new ≡ mid ++ s ∷ [] → mid ≡ old
-    → s.stream ≡ given → s.connection ≡ n → IsJoined given n old new
-joined old mid new s is same stream number =
-    record { socket = s; behind = subst (λ xs. new ≡ xs ++ s ∷ []) same is; stream = stream; number = number }
+pub joined : {T : Type 0} {stream : T} {n : ℕ} (old mid new : List (Socket T)) (s : Socket T) → new ≡ mid ++ s ∷ [] → mid ≡ old
+    → s.connection ≡ n → s.stream ≡ stream → unwritten_of s ≡ [] → unhanded_of s ≡ [] → s.is_ended ≡ false
+    → IsJoined stream n (cores old) (cores new)
+joined {T} {stream} {n} old mid new s is same number carries unwritten unhanded is_open = record {
+  behind = ap cores is ∙ map-append core mid (s ∷ []) ∙ ap (λ xs. cores xs ++ core s ∷ []) same ∙ λ i. cores old
+      ++ record { connection = number i; stream = carries i; unwritten = unwritten i; unhanded = unhanded i; is_ended = is_open i } ∷ [];
+}
+
+pub seen_same : {S T : Type 0} {h k : Host S} {v w : Vec (Socket T) Global} → k ≡ h → w ≡ v → seen k w.items ≡ seen h v.items
+seen_same host sockets = λ i. seen (host i) (sockets i).items
 
 -- 2. Their deeds
 
@@ -154,39 +221,44 @@ record AreTimeless {S : Type 0} (disk : S → Disk) (from to : Host S) : Type 0 
   pub tried : to.tried ≡ tried_after from.tried (events_of deeds)
 
 module _ {S T : Type 0} (disk : S → Disk) (contents remaining : T → Option (List ℕ)) where
-  of_move : (m : Move) (from to : Host S) → IsMoved disk contents remaining m from to → AreTimeless disk from to
+  of_move : (m : Move) (from to : Seen S T) → IsMoved disk contents remaining m from to → AreTimeless disk from.host to.host
   of_move (Open n) from to h =
-      record { deeds = Event (Opens n) ∷ []; timeless = (refl, tt); done = (to.broker, h.2, refl); is_run = (h.0, tt); tried = h.1 }
-  of_move (Carry n) from to h = let c = h.1.carries in let n = h.1.old.connection in record {
+      record { deeds = Event (Opens n) ∷ []; timeless = (refl, tt); done = (to.host.broker, h.opens, refl); is_run = (h.rises, tt); tried = h.tried }
+  of_move (Carry n) from to h = let c = h.carries in let m = h.old.connection in record {
     deeds = c.deeds;
-    timeless = timeless n c.deeds c.about;
+    timeless = timeless m c.deeds c.about;
     done = c.done;
-    is_run = run_about n from.tried c.deeds c.about;
-    tried = h.0 ∙ sym (tried_about n from.tried c.deeds c.about);
+    is_run = run_about m from.host.tried c.deeds c.about;
+    tried = h.tried ∙ sym (tried_about m from.host.tried c.deeds c.about);
   }
-  of_move Settle from to h = record { deeds = Commit ∷ []; timeless = (refl, tt); done = (to.broker, h.1, refl); is_run = tt; tried = h.0 }
+  of_move Leave from to h =
+      record { deeds = []; timeless = tt; done = ap (λ x. x.broker) h.0; is_run = tt; tried = ap (λ x. x.tried) h.0 }
+  of_move (LeaveAt p) from to h =
+      record { deeds = []; timeless = tt; done = ap (λ x. x.broker) h.0; is_run = tt; tried = ap (λ x. x.tried) h.0 }
+  of_move Settle from to h =
+      record { deeds = Commit ∷ []; timeless = (refl, tt); done = (to.host.broker, h.commits, refl); is_run = tt; tried = h.tried }
 
-  of_moves : (ms : List Move) (from to : Host S) → Along (IsMoved disk contents remaining) ms from to → AreTimeless disk from to
+  of_moves : (ms : List Move) (from to : Seen S T) → Along (IsMoved disk contents remaining) ms from to → AreTimeless disk from.host to.host
   of_moves [] from to h =
-      record { deeds = []; timeless = tt; done = ap (λ x. x.broker) h; is_run = tt; tried = ap (λ x. x.tried) h }
+      record { deeds = []; timeless = tt; done = ap (λ x. x.host.broker) h; is_run = tt; tried = ap (λ x. x.host.tried) h }
   of_moves (m ∷ ms) from to h =
       let one = of_move m from h.0 h.1 in
       let two = of_moves ms h.0 to h.2 in
       record {
         deeds = one.deeds ++ two.deeds;
         timeless = all_then (λ d. is_moment d ≡ false) one.deeds two.deeds one.timeless two.timeless;
-        done = along_then (IsDone disk) one.deeds two.deeds from.broker h.0.broker to.broker one.done two.done;
-        is_run = runs_then from.tried h.0.tried one.deeds two.deeds one.is_run one.tried two.is_run;
-        tried = tries_then from.tried h.0.tried to.tried one.deeds two.deeds one.tried two.tried;
+        done = along_then (IsDone disk) one.deeds two.deeds from.host.broker h.0.host.broker to.host.broker one.done two.done;
+        is_run = runs_then from.host.tried h.0.host.tried one.deeds two.deeds one.is_run one.tried two.is_run;
+        tried = tries_then from.host.tried h.0.host.tried to.host.tried one.deeds two.deeds one.tried two.tried;
       }
 
 -- a turn, as what it does one after another
-pub run_of : {S T : Type 0} {disk : S → Disk} {contents remaining : T → Option (List ℕ)} {now : ℕ} {from to : Host S}
-    → IsTurn disk contents remaining now from to → IsRunOf disk now from to
+pub run_of : {S T : Type 0} {disk : S → Disk} {contents remaining : T → Option (List ℕ)} {now : ℕ} {from to : Seen S T}
+    → IsTurn disk contents remaining now from to → IsRunOf disk now from.host to.host
 run_of {S} {T} {disk} {contents} {remaining} {now} {from} {to} turn =
     let all = of_moves disk contents remaining turn.goes.moves turn.begun to turn.goes.done in
     record {
-      begun = turn.begun.broker;
+      begun = turn.begun.host.broker;
       moment = turn.moment;
       deeds = all.deeds;
       timeless = all.timeless;
@@ -212,3 +284,20 @@ run_through disk (now ∷ nows) from to h =
       is_run = runs_then from.tried h.0.tried first rest.deeds one.is_run one.tried rest.is_run;
       tried = tries_then from.tried h.0.tried to.tried first rest.deeds one.tried rest.tried;
     }
+
+-- and one turn more goes on with it
+pub run_on : {S : Type 0} (disk : S → Disk) (nows : List ℕ) (now : ℕ) (from at to : Host S) → IsRunThrough disk nows from at
+    → IsRunOf disk now at to → IsRunThrough disk (nows ++ now ∷ []) from to
+run_on disk nows now from at to before turn =
+    let last : List Deed = Event (Moment now) ∷ turn.deeds in
+    record {
+      deeds = before.deeds ++ last;
+      done = along_then (IsDone disk) before.deeds last from.broker at.broker to.broker before.done (turn.begun, turn.moment, turn.done);
+      moments = moments_then before.deeds last ∙ ap (λ x. moments_of before.deeds ++ now ∷ x) (no_moments turn.deeds turn.timeless)
+          ∙ ap (λ x. x ++ now ∷ []) before.moments;
+      is_run = runs_then from.tried at.tried before.deeds last before.is_run before.tried turn.is_run;
+      tried = tries_then from.tried at.tried to.tried before.deeds last before.tried turn.tried;
+    }
+
+pub run_begins : {S : Type 0} (disk : S → Disk) (x : Host S) → IsRunThrough disk [] x x
+run_begins disk x = run_through disk [] x x refl

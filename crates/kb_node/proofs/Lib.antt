@@ -4,5 +4,7 @@ pub mod Closing
 pub mod Counts
 pub mod Traffic
 pub mod Carries
+pub mod Cores
 pub mod Goes
+pub mod Numbers
 pub mod Waiting

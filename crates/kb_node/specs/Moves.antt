@@ -1,6 +1,6 @@
 -- What an edge does in a turn, one move after another.
-use Rattle.std.specs.Prelude.{◌≡◌, ◌<◌, ℕ, List, [], ◌∷◌, ◌++◌, Bool, false, Option}
-use Rattle.std.specs.List.{AllByRecursion}
+use Rattle.std.specs.Prelude.{◌≡◌, ◌<◌, ◌⊎◌, ℕ, List, [], ◌∷◌, ◌++◌, Bool, true, false, Option, Some, IfSome, slice_get, slice_set}
+use Rattle.std.specs.List.{AllByRecursion, remove}
 use Rattle.kb_store.specs.Disk.{Disk}
 use Rattle.kb_isolation_spec.specs.Machine.{Opens, Moment}
 use Rattle.kb_isolation_spec.specs.Broker.{IsRun}
@@ -9,43 +9,65 @@ use Rattle.kb_node.specs.Commits.{Host}
 use Rattle.kb_node.specs.declared.socket.Socket.{Socket}
 use Rattle.kb_node.specs.Traffic.{Along, AreDone, Deed, Happens, IsCommitted, events_of, is_moment, moments_of, tried_after}
 use Rattle.kb_node.specs.Carries.{Carries}
+use Rattle.kb_node.specs.Cores.{Core, Seen, core, open_ones}
 
--- a connection opens, a socket carries for its connection, or what was done is made to last
+-- A connection opens, and its socket joins the others. Or a socket carries for its connection, all leave whose connections are closed, or
+-- one of them at a place, or what was done is made to last.
 pub data Move : Type 0 where
   Open : (number : ℕ) → Move
   Carry : (number : ℕ) → Move
+  Leave : Move
+  LeaveAt : (place : ℕ) → Move
   Settle : Move
 
--- a socket carried between its stream and the connection of that number, and did nothing else to the broker
-pub record HasCarried {S T : Type 0} (disk : S → Disk) (contents remaining : T → Option (List ℕ)) (n : ℕ) (from to : OnStore S) : Type 0 where
+-- one more socket is there, behind the others: it carries that stream for the connection of that number
+pub record IsJoined {T : Type 0} (stream : T) (n : ℕ) (old new : List (Core T)) : Type 0 where
+  pub behind : new ≡ old ++ record { connection = n; stream = stream; unwritten = []; unhanded = []; is_ended = false } ∷ []
+
+-- A connection opens, of a number above all that were tried before. Its socket joins the others, or it could not be kept.
+pub record HasOpened {S T : Type 0} (disk : S → Disk) (n : ℕ) (from to : Seen S T) : Type 0 where
+  pub rises : from.host.tried < n
+  pub tried : to.host.tried ≡ n
+  pub opens : Happens disk (Opens n) from.host.broker to.host.broker
+  pub sockets : (to.sockets ≡ from.sockets) ⊎ ((stream : T) × IsJoined stream n from.sockets to.sockets)
+
+-- The socket at a place, of the connection of that number, carried between its stream and that connection. It did nothing else to the broker,
+-- and the other sockets stay.
+pub record HasCarried {S T : Type 0} (disk : S → Disk) (contents remaining : T → Option (List ℕ)) (n : ℕ) (from to : Seen S T) : Type 0 where
+  pub place : ℕ
   pub old : Socket T
   pub new : Socket T
+  pub before : slice_get from.sockets place ≡ Some (core old)
+  pub after : to.sockets ≡ slice_set from.sockets place (core new)
   pub number : old.connection ≡ n
-  pub carries : Carries disk contents remaining old new from to
+  pub same : new.connection ≡ n
+  pub tried : to.host.tried ≡ from.host.tried
+  pub carries : Carries disk contents remaining old new from.host.broker to.host.broker
 
--- A connection that opens has a number above all that were tried before, also where it cannot be kept, and no other move tries one.
-abbrev pub IsMoved : {S T : Type 0} → (S → Disk) → (T → Option (List ℕ)) → (T → Option (List ℕ)) → Move → Host S → Host S → Type 0
-IsMoved disk contents remaining (Open n) from to = (from.tried < n) × (to.tried ≡ n) × Happens disk (Opens n) from.broker to.broker
-IsMoved disk contents remaining (Carry n) from to = (to.tried ≡ from.tried) × HasCarried disk contents remaining n from.broker to.broker
-IsMoved disk contents remaining Settle from to = (to.tried ≡ from.tried) × IsCommitted disk from.broker to.broker
+pub record HasSettled {S T : Type 0} (disk : S → Disk) (from to : Seen S T) : Type 0 where
+  pub tried : to.host.tried ≡ from.host.tried
+  pub commits : IsCommitted disk from.host.broker to.host.broker
+  pub sockets : to.sockets ≡ from.sockets
 
--- one more socket is there, behind the others: it carries that stream for the connection of that number
-pub record IsJoined {T : Type 0} (given : T) (n : ℕ) (old new : List (Socket T)) : Type 0 where
-  pub socket : Socket T
-  pub behind : new ≡ old ++ socket ∷ []
-  pub stream : socket.stream ≡ given
-  pub number : socket.connection ≡ n
+abbrev pub IsMoved : {S T : Type 0} → (S → Disk) → (T → Option (List ℕ)) → (T → Option (List ℕ)) → Move → Seen S T → Seen S T → Type 0
+IsMoved disk contents remaining (Open n) from to = HasOpened disk n from to
+IsMoved disk contents remaining (Carry n) from to = HasCarried disk contents remaining n from to
+IsMoved disk contents remaining Leave from to = (to.host ≡ from.host) × (to.sockets ≡ open_ones from.sockets)
+IsMoved disk contents remaining (LeaveAt p) from to =
+    (to.host ≡ from.host) × IfSome (slice_get from.sockets p) (λ c. c.is_ended ≡ true) × (to.sockets ≡ remove from.sockets p)
+IsMoved disk contents remaining Settle from to = HasSettled disk from to
 
 -- moves lead from one to the other
-pub record Goes {S T : Type 0} (disk : S → Disk) (contents remaining : T → Option (List ℕ)) (from to : Host S) : Type 0 where
+pub record Goes {S T : Type 0} (disk : S → Disk) (contents remaining : T → Option (List ℕ)) (from to : Seen S T) : Type 0 where
   pub moves : List Move
   pub done : Along (IsMoved disk contents remaining) moves from to
 
 -- a turn: the one moment that it is given, and then moves
-pub record IsTurn {S T : Type 0} (disk : S → Disk) (contents remaining : T → Option (List ℕ)) (now : ℕ) (from to : Host S) : Type 0 where
-  pub begun : Host S
-  pub moment : Happens disk (Moment now) from.broker begun.broker
-  pub tried : begun.tried ≡ from.tried
+pub record IsTurn {S T : Type 0} (disk : S → Disk) (contents remaining : T → Option (List ℕ)) (now : ℕ) (from to : Seen S T) : Type 0 where
+  pub begun : Seen S T
+  pub moment : Happens disk (Moment now) from.host.broker begun.host.broker
+  pub tried : begun.host.tried ≡ from.host.tried
+  pub sockets : begun.sockets ≡ from.sockets
   pub goes : Goes disk contents remaining begun to
 
 -- The same as events, takes of output and commits, one after another: the moment comes first, and there is no other. The events are a run:

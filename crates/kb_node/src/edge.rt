@@ -2,9 +2,12 @@
 
 ghost use Rattle.std.specs.Prelude.{◌≡◌, ◌≤◌, ◌<◌, ◌*◌, ◌^◌, Err, None, Some, IfOk, IfErr, IfSome, OnErr, OnOk};
 ghost use Rattle.std.specs.Prelude.{option_map, replicate, slice_get, vec_len};
-ghost use Rattle.kb_isolation_spec.specs.Machine.{Moment};
+ghost use Rattle.kb_isolation_spec.specs.Machine.{Moment, Opens};
+ghost use Rattle.kb_node.specs.Cores.{cores, seen};
 ghost use Rattle.kb_node.specs.Moves.{Goes, IsJoined, IsRunOf, IsTurn};
+ghost use Rattle.kb_node.specs.Numbers.{IsInOrder, socket_of};
 ghost use Rattle.kb_node.specs.Traffic.{Happens};
+ghost use Rattle.kb_node.specs.Waiting.{socket_at};
 
 mod beside;
 mod closing;
@@ -324,7 +327,7 @@ impl<R: Net, S: Store, L: PartitionLog + Drop> Edge<R, S, L> {
         ensures refused { IfErr result (λ fault. self.new.host.commits.fault ≡ Some fault) }
         ensures dead { IfSome self.old.host.commits.fault (λ fault. (result ≡ Err fault) × (self.new ≡ self.old)) }
         ensures turn { self.old.host.commits.fault ≡ None → IsTurn S.disk R.Stream.contents R.Stream.remaining now
-            self.old.host self.new.host }
+            (seen self.old.host self.old.sockets.items) (seen self.new.host self.new.sockets.items) }
         ensures run { self.old.host.commits.fault ≡ None → IsRunOf S.disk now self.old.host self.new.host }
     {
         if let Some(fault) = self.host.commits().fault() {
@@ -344,6 +347,7 @@ impl<R: Net, S: Store, L: PartitionLog + Drop> Edge<R, S, L> {
         requires { now ≤ 2 ^ 62 }
         ensures moment { Happens S.disk (Moment now) self.old.host.broker self.new.host.broker }
         ensures tried { self.new.host.tried ≡ self.old.host.tried }
+        ensures sockets { cores self.new.sockets.items ≡ cores self.old.sockets.items }
     {
         self.news.clear();
         self.clock = now;
@@ -356,7 +360,7 @@ impl<R: Net, S: Store, L: PartitionLog + Drop> Edge<R, S, L> {
 
     /// The failed logins are answered that have waited for long enough.
     fn answer_denied(&mut self)
-        ensures { self.new.host ≡ self.old.host }
+        ensures { seen self.new.host self.new.sockets.items ≡ seen self.old.host self.old.sockets.items }
     {
         for _ in 0..self.limit {
             let Some(number) = self.delays.take_due(self.clock) else {
@@ -368,7 +372,7 @@ impl<R: Net, S: Store, L: PartitionLog + Drop> Edge<R, S, L> {
 
     /// The failed login of a connection may be answered.
     fn let_answer(&mut self, number: u64)
-        ensures { self.new.host ≡ self.old.host }
+        ensures { seen self.new.host self.new.sockets.items ≡ seen self.old.host self.old.sockets.items }
     {
         if let Some(place) = self.place_of(number)
             && let Some(socket) = self.sockets.get_mut(place)
@@ -384,7 +388,8 @@ impl<R: Net, S: Store, L: PartitionLog + Drop> Edge<R, S, L> {
     #[tactic(auto, using(crate::proofs::Goes::goes_then, crate::proofs::Goes::goes_none, crate::proofs::Goes::goes_committed))]
     fn answer(&mut self, alloc: Global, now: u64, turn: &mut Turn) -> Result<(), StoreFault>
         ensures refused { IfErr result (λ fault. self.new.host.commits.fault ≡ Some fault) }
-        ensures goes { Goes S.disk R.Stream.contents R.Stream.remaining self.old.host self.new.host }
+        ensures goes { Goes S.disk R.Stream.contents R.Stream.remaining (seen self.old.host self.old.sockets.items)
+            (seen self.new.host self.new.sockets.items) }
     {
         if self.host.commits().holds_back() {
             return self.serve_together(alloc, turn);
@@ -396,7 +401,7 @@ impl<R: Net, S: Store, L: PartitionLog + Drop> Edge<R, S, L> {
 
     /// Without a watch every socket may be ready.
     fn hear_all(&mut self)
-        ensures { self.new.host ≡ self.old.host }
+        ensures { seen self.new.host self.new.sockets.items ≡ seen self.old.host self.old.sockets.items }
     {
         if self.watch.is_some() {
             return;
@@ -413,7 +418,8 @@ impl<R: Net, S: Store, L: PartitionLog + Drop> Edge<R, S, L> {
     /// Accepts the sockets that wait, at most as many as there may be.
     #[tactic(auto, using(crate::proofs::Goes::goes_then, crate::proofs::Goes::goes_none))]
     fn accept(&mut self, alloc: Global, turn: &mut Turn)
-        ensures { Goes S.disk R.Stream.contents R.Stream.remaining self.old.host self.new.host }
+        ensures { Goes S.disk R.Stream.contents R.Stream.remaining (seen self.old.host self.old.sockets.items)
+            (seen self.new.host self.new.sockets.items) }
     {
         for _ in 0..ACCEPTS {
             if !self.accept_one(alloc, turn) {
@@ -425,7 +431,8 @@ impl<R: Net, S: Store, L: PartitionLog + Drop> Edge<R, S, L> {
     /// Accepts a socket that waits: false where there is none, or none can be accepted now.
     #[tactic(auto, using(crate::proofs::Goes::goes_then, crate::proofs::Goes::goes_none))]
     fn accept_one(&mut self, alloc: Global, turn: &mut Turn) -> bool
-        ensures { Goes S.disk R.Stream.contents R.Stream.remaining self.old.host self.new.host }
+        ensures { Goes S.disk R.Stream.contents R.Stream.remaining (seen self.old.host self.old.sockets.items)
+            (seen self.new.host self.new.sockets.items) }
     {
         if self.accepts == Accepts::Waiting {
             return false;
@@ -442,7 +449,7 @@ impl<R: Net, S: Store, L: PartitionLog + Drop> Edge<R, S, L> {
 
     /// Whether an accept is tried again that was refused for that.
     fn may_go_on(&mut self, kind: ErrorKind) -> bool
-        ensures { self.new.host ≡ self.old.host }
+        ensures { seen self.new.host self.new.sockets.items ≡ seen self.old.host self.old.sockets.items }
     {
         match kind {
             ErrorKind::Interrupted | ErrorKind::ConnectionAborted => true,
@@ -459,7 +466,8 @@ impl<R: Net, S: Store, L: PartitionLog + Drop> Edge<R, S, L> {
 
     /// Takes in a socket where there is room for it. Else it is closed.
     fn admit(&mut self, alloc: Global, stream: R::Stream, peer: SocketAddr, turn: &mut Turn)
-        ensures { Goes S.disk R.Stream.contents R.Stream.remaining self.old.host self.new.host }
+        ensures { Goes S.disk R.Stream.contents R.Stream.remaining (seen self.old.host self.old.sockets.items)
+            (seen self.new.host self.new.sockets.items) }
     {
         turn.count_accepted();
         if !self.make_room(alloc, turn) {
@@ -476,9 +484,10 @@ impl<R: Net, S: Store, L: PartitionLog + Drop> Edge<R, S, L> {
     #[tactic(auto, using(crate::proofs::Goes::goes_then, crate::proofs::Goes::goes_none))]
     fn take_in(&mut self, alloc: Global, stream: R::Stream, peer: SocketAddr) -> io::Result<()>
         requires { vec_len self.now.sockets < self.now.limit }
-        ensures goes { Goes S.disk R.Stream.contents R.Stream.remaining self.old.host self.new.host }
+        ensures goes { Goes S.disk R.Stream.contents R.Stream.remaining (seen self.old.host self.old.sockets.items)
+            (seen self.new.host self.new.sockets.items) }
         // It carries that stream for the connection that was opened now, and the others stay.
-        ensures socket { OnOk result (IsJoined stream self.new.host.tried self.old.sockets.items self.new.sockets.items) }
+        ensures socket { OnOk result (IsJoined stream self.new.host.tried (cores self.old.sockets.items) (cores self.new.sockets.items)) }
         ensures others { OnErr result (self.new.sockets.items ≡ self.old.sockets.items) }
     {
         let Some(connection) = self.host.next_number() else {
@@ -506,8 +515,10 @@ impl<R: Net, S: Store, L: PartitionLog + Drop> Edge<R, S, L> {
     fn keep(&mut self, alloc: Global, connection: u64) -> Result<(), AllocError>
         requires last { self.old.host.broker.state.last < connection }
         requires new { self.old.host.tried < connection }
+        ensures opened { OnOk result (Happens S.disk (Opens connection) self.old.host.broker self.new.host.broker) }
         ensures tried { OnOk result (self.new.host.tried ≡ connection) }
-        ensures goes { Goes S.disk R.Stream.contents R.Stream.remaining self.old.host self.new.host }
+        ensures goes { Goes S.disk R.Stream.contents R.Stream.remaining (seen self.old.host self.old.sockets.items)
+            (seen self.new.host self.new.sockets.items) }
         ensures sockets { self.new.sockets ≡ self.old.sockets }
         ensures limit { self.new.limit ≡ self.old.limit }
     {
@@ -527,18 +538,28 @@ impl<R: Net, S: Store, L: PartitionLog + Drop> Edge<R, S, L> {
         io::Error::from(ErrorKind::OutOfMemory)
     }
 
-    /// The place of a connection's socket.
+    /// The place of a connection's socket, if one carries it.
     fn place_of(&self, number: u64) -> Option<usize>
-        ensures { IfSome result (λ place. place < vec_len self.now.sockets) }
+        ensures within { IfSome result (λ place. place < vec_len self.now.sockets) }
+        ensures found { IsInOrder (seen self.now.host self.now.sockets.items)
+            → socket_at result self.now.sockets.items ≡ socket_of number self.now.sockets.items }
     {
         self.sockets
             .binary_search_by_key(&number, |socket| socket.connection())
             .ok()
     }
 
+    /// A connection's socket, if one carries it.
+    fn socket_of(&self, number: u64) -> Option<&Socket<R::Stream>>
+        ensures { IsInOrder (seen self.now.host self.now.sockets.items)
+            → option_map (λ s. s.now) result ≡ socket_of number self.now.sockets.items }
+    {
+        self.sockets.get(self.place_of(number)?)
+    }
+
     /// The socket at a place can go on.
     fn queue(&mut self, place: usize)
-        ensures { self.new.host ≡ self.old.host }
+        ensures { seen self.new.host self.new.sockets.items ≡ seen self.old.host self.old.sockets.items }
     {
         let Some(socket) = self.sockets.get_mut(place) else {
             return;
@@ -552,7 +573,7 @@ impl<R: Net, S: Store, L: PartitionLog + Drop> Edge<R, S, L> {
     /// The connections that the broker told something can go on, whoever asked for it. One that has still to be written what it was
     /// told before waits for that, and a failed login for its time: those are not gone through where nobody else has something to say.
     fn hear_speakers(&mut self)
-        ensures { self.new.host ≡ self.old.host }
+        ensures { seen self.new.host self.new.sockets.items ≡ seen self.old.host self.old.sockets.items }
     {
         // each failed login that waits is one of them, since its connection is shut
         if self.host.broker().speakers().len() == self.delays.len() {

@@ -1,9 +1,12 @@
 //! A socket and the connection that it carries.
 
-ghost use Rattle.std.specs.Prelude.{◌≡◌, ◌≢◌, ◌≤◌, ◌<◌, ◌+◌, ◌-◌, ◌||◌, ◌&&◌, not, true, false, None, vec_len, IfSome};
+ghost use Rattle.std.specs.Prelude.{◌≡◌, ◌≢◌, ◌≤◌, ◌<◌, ◌+◌, ◌-◌, ◌||◌, ◌&&◌, not, true, false, None, drop, [], vec_len, IfSome, nat_lt};
+ghost use Rattle.std.specs.BTreeMap.{insert_entry};
+ghost use Rattle.std.specs.Ordering.{nat_cmp};
 ghost use Rattle.kb_isolation_spec.specs.Broker.{bound_to};
+ghost use Rattle.kb_node.specs.Requests.{awaited};
 ghost use Rattle.kb_node.specs.Sockets.{can_ask, is_denial, is_done, is_held};
-ghost use Rattle.kb_node.specs.SocketShares.{may_bind};
+ghost use Rattle.kb_node.specs.SocketShares.{may_bind, without};
 ghost use Rattle.kb_node.specs.declared.socket.Next.TheVariants.{End};
 
 mod asking;
@@ -93,6 +96,8 @@ impl<T: Read + Write + Drop> Socket<T> {
         ensures stream { result.stream ≡ stream }
         ensures open { result.is_ended ≡ false }
         ensures stranger { result.is_known ≡ false }
+        ensures unwritten { drop result.written result.output.items ≡ [] }
+        ensures unhanded { drop result.input.handed result.input.bytes.items ≡ [] }
     {
         Socket {
             connection,
@@ -180,7 +185,9 @@ impl<T: Read + Write + Drop> Socket<T> {
     }
 
     /// How many bytes the request in front has of which nothing was handed on: 0 where one is begun, or its size is not there.
-    pub fn awaited(&self) -> usize {
+    pub fn awaited(&self) -> usize
+        ensures { result ≡ awaited self.now.input.progress.left (drop self.now.input.handed self.now.input.bytes.items) }
+    {
         self.input.awaited()
     }
 
@@ -227,22 +234,24 @@ impl<T: Read + Write + Drop> Socket<T> {
     }
 
     /// A read may find something.
-    pub fn hear_any(&mut self) {
+    pub fn hear_any(&mut self)
+        ensures { self.new ≡ record self.old { can_read = true } }
+    {
         self.can_read = true;
     }
 
     /// What the system tells of it.
-    pub fn hear(&mut self, event: &Event) {
-        if event.is_readable() {
-            self.can_read = true;
-        }
-        if event.is_read_closed() {
-            self.can_read = true;
-            self.is_half_closed = true;
-        }
-        if event.is_error() || event.is_write_closed() {
-            self.is_over = true;
-        }
+    pub fn hear(&mut self, event: &Event)
+        ensures { self.new ≡ record self.old {
+          can_read = self.new.can_read;
+          is_half_closed = self.new.is_half_closed;
+          is_over = self.new.is_over;
+        } }
+    {
+        let is_closed = event.is_read_closed();
+        self.can_read |= event.is_readable() | is_closed;
+        self.is_half_closed |= is_closed;
+        self.is_over |= event.is_error() | event.is_write_closed();
     }
 
     /// Counts the socket for its tenant, where it has logged in now: true. Where the tenant may have no more, or memory is refused, the
@@ -265,6 +274,11 @@ impl<T: Read + Write + Drop> Socket<T> {
             → IfSome (bound_to self.old.connection broker.now.state) (λ tenant. may_bind self.old.connection tenant shares.old ≡ false) }
         ensures allowed { self.old.is_bound ≡ false → result ≡ true
             → IfSome (bound_to self.old.connection broker.now.state) (λ tenant. may_bind self.old.connection tenant shares.old ≡ true) }
+        // From then on it is counted for the tenant that the broker says, where that has a share, and for nobody else.
+        ensures counted { self.old.is_bound ≡ false → result ≡ true → IfSome (bound_to self.old.connection broker.now.state) (λ tenant.
+            nat_lt tenant shares.old.tenants ≡ true → shares.new.sockets
+            ≡ insert_entry nat_cmp (without self.old.connection shares.old.sockets) self.old.connection tenant) }
+        ensures once { self.old.is_bound ≡ true → shares.new ≡ shares.old }
         ensures read { turn.new.read ≡ turn.old.read }
     {
         if self.is_bound {

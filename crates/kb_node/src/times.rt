@@ -1,6 +1,6 @@
 //! By when requests are to be whole, and since when sockets are idle.
 
-ghost use Rattle.std.specs.Prelude.{◌≡◌, [], min, nat_le, OnOk, IfOk, Ok, Some, None};
+ghost use Rattle.std.specs.Prelude.{◌≡◌, [], min, nat_le, OnOk, IfOk, Ok, Some, None, false};
 ghost use Rattle.kb_node.specs.Deadlines.{later, begun_since, first_end, silent, with_since, without_since, without_silent};
 
 use crate::deadlines::{Moments, later};
@@ -50,6 +50,7 @@ impl Times {
         ensures begun { OnOk result (self.new.begun.moments.keys ≡ with_since socket.old.connection socket.new.begun
             (without_since socket.old.connection socket.old.begun self.old.begun.moments.keys)) }
         ensures looked { self.new.looked ≡ self.old.looked }
+        ensures rest { socket.new ≡ record socket.old { begun = socket.new.begun; is_anew = false } }
         ensures connection { socket.new.connection ≡ socket.old.connection }
     {
         let number = socket.connection();
@@ -76,6 +77,7 @@ impl Times {
         ensures begun { OnOk result (self.new.begun.moments.keys ≡ with_since socket.old.connection (Some now)
             (without_since socket.old.connection socket.old.begun self.old.begun.moments.keys)) }
         ensures looked { self.new.looked ≡ self.old.looked }
+        ensures rest { socket.new ≡ record socket.old { begun = Some now } }
         ensures connection { socket.new.connection ≡ socket.old.connection }
     {
         let number = socket.connection();

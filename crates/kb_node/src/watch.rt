@@ -1,5 +1,7 @@
 //! Which sockets are ready.
 
+ghost use Rattle.std.specs.Prelude.{◌≡◌};
+
 use mio::event::Iter;
 use mio::unix::SourceFd;
 use mio::{Events, Interest, Poll, Token};
@@ -17,6 +19,8 @@ const EVENTS: usize = 256;
 pub struct Watch {
     poll: Poll,
     events: Events,
+    /// How long the last wait was at most.
+    longest: Duration,
 }
 
 impl Watch {
@@ -25,6 +29,7 @@ impl Watch {
         Ok(Watch {
             poll: Poll::new(net)?,
             events: Events::with_capacity(alloc, EVENTS)?,
+            longest: Duration::ZERO,
         })
     }
 
@@ -38,7 +43,10 @@ impl Watch {
     }
 
     /// Waits until a socket becomes ready, and at most so long.
-    pub fn wait(&mut self, longest: Duration) {
+    pub fn wait(&mut self, longest: Duration)
+        ensures { self.new.longest ≡ longest }
+    {
+        self.longest = longest;
         // a wait that fails tells of no socket
         let _ = self.poll.poll(&mut self.events, Some(longest));
     }

@@ -1,11 +1,12 @@
 //! Which sockets an edge closes.
 
 ghost use Rattle.std.specs.Prelude.{◌≡◌, ◌<◌, None, vec_len};
+ghost use Rattle.kb_node.specs.Cores.{seen};
 ghost use Rattle.kb_node.specs.Moves.{Goes};
 ghost use Rattle.std.specs.Bool.{OnTrue};
 ghost use Rattle.kb_shares.specs.Ledger.{let_go};
 ghost use Rattle.kb_isolation_spec.specs.Calls.{login_of};
-ghost use Rattle.kb_node.specs.SocketShares.{count_of, holder_of};
+ghost use Rattle.kb_node.specs.SocketShares.{count_of, holder_of, released};
 ghost use Rattle.kb_node.specs.Waiting.{user_in};
 
 use crate::deadlines::{has_moved, patience};
@@ -25,7 +26,8 @@ impl<R: Net, S: Store, L: PartitionLog + Drop> Edge<R, S, L> {
     /// Closes the sockets that have not logged in in time, and those that do not read.
     #[tactic(auto, using(crate::proofs::Goes::goes_then, crate::proofs::Goes::goes_none))]
     pub(super) fn close_silent(&mut self, alloc: Global, turn: &mut Turn)
-        ensures { Goes S.disk R.Stream.contents R.Stream.remaining self.old.host self.new.host }
+        ensures { Goes S.disk R.Stream.contents R.Stream.remaining (seen self.old.host self.old.sockets.items)
+            (seen self.new.host self.new.sockets.items) }
     {
         self.close_strangers(alloc, turn);
         self.try_again(alloc, turn);
@@ -37,7 +39,8 @@ impl<R: Net, S: Store, L: PartitionLog + Drop> Edge<R, S, L> {
     /// Closes the sockets that have not logged in in time.
     #[tactic(auto, using(crate::proofs::Goes::goes_then, crate::proofs::Goes::goes_none))]
     fn close_strangers(&mut self, alloc: Global, turn: &mut Turn)
-        ensures { Goes S.disk R.Stream.contents R.Stream.remaining self.old.host self.new.host }
+        ensures { Goes S.disk R.Stream.contents R.Stream.remaining (seen self.old.host self.old.sockets.items)
+            (seen self.new.host self.new.sockets.items) }
     {
         for _ in 0..self.limit {
             let Some(number) = self.strangers.due(self.clock) else {
@@ -51,7 +54,8 @@ impl<R: Net, S: Store, L: PartitionLog + Drop> Edge<R, S, L> {
     /// Tries the sockets once more that took something of their replies some time ago.
     #[tactic(auto, using(crate::proofs::Goes::goes_then, crate::proofs::Goes::goes_none))]
     fn try_again(&mut self, alloc: Global, turn: &mut Turn)
-        ensures { Goes S.disk R.Stream.contents R.Stream.remaining self.old.host self.new.host }
+        ensures { Goes S.disk R.Stream.contents R.Stream.remaining (seen self.old.host self.old.sockets.items)
+            (seen self.new.host self.new.sockets.items) }
     {
         for _ in 0..self.limit {
             let Some(number) = self.silences.take_untried(self.clock) else {
@@ -64,7 +68,8 @@ impl<R: Net, S: Store, L: PartitionLog + Drop> Edge<R, S, L> {
     /// Closes the sockets that take nothing of their replies. The system tells late of a little room, so each is tried once more before.
     #[tactic(auto, using(crate::proofs::Goes::goes_then, crate::proofs::Goes::goes_none))]
     fn close_unread(&mut self, alloc: Global, turn: &mut Turn)
-        ensures { Goes S.disk R.Stream.contents R.Stream.remaining self.old.host self.new.host }
+        ensures { Goes S.disk R.Stream.contents R.Stream.remaining (seen self.old.host self.old.sockets.items)
+            (seen self.new.host self.new.sockets.items) }
     {
         for _ in 0..self.limit {
             let Some(number) = self.silences.silent(self.clock, self.reply_millis) else {
@@ -77,7 +82,8 @@ impl<R: Net, S: Store, L: PartitionLog + Drop> Edge<R, S, L> {
     /// Closes the socket of a connection, unless it takes something of its reply now.
     #[tactic(auto, using(crate::proofs::Goes::goes_then, crate::proofs::Goes::goes_none))]
     fn close_unless_written(&mut self, alloc: Global, number: u64, turn: &mut Turn)
-        ensures { Goes S.disk R.Stream.contents R.Stream.remaining self.old.host self.new.host }
+        ensures { Goes S.disk R.Stream.contents R.Stream.remaining (seen self.old.host self.old.sockets.items)
+            (seen self.new.host self.new.sockets.items) }
     {
         if self.write_again(alloc, number, turn) {
             return;
@@ -90,7 +96,8 @@ impl<R: Net, S: Store, L: PartitionLog + Drop> Edge<R, S, L> {
     /// way. Those of other holders stay.
     #[tactic(auto, using(crate::proofs::Goes::goes_then, crate::proofs::Goes::goes_none))]
     fn close_stalled(&mut self, alloc: Global, turn: &mut Turn)
-        ensures { Goes S.disk R.Stream.contents R.Stream.remaining self.old.host self.new.host }
+        ensures { Goes S.disk R.Stream.contents R.Stream.remaining (seen self.old.host self.old.sockets.items)
+            (seen self.new.host self.new.sockets.items) }
     {
         for at in 0..self.ready.len() {
             self.make_way_for(alloc, at, turn);
@@ -100,7 +107,8 @@ impl<R: Net, S: Store, L: PartitionLog + Drop> Edge<R, S, L> {
     /// The same for the one of these sockets at a place, where it may not be asked.
     #[tactic(auto, using(crate::proofs::Goes::goes_then, crate::proofs::Goes::goes_none))]
     fn make_way_for(&mut self, alloc: Global, at: usize, turn: &mut Turn)
-        ensures { Goes S.disk R.Stream.contents R.Stream.remaining self.old.host self.new.host }
+        ensures { Goes S.disk R.Stream.contents R.Stream.remaining (seen self.old.host self.old.sockets.items)
+            (seen self.new.host self.new.sockets.items) }
     {
         let Some(number) = self.ready.get(at).copied() else {
             return;
@@ -115,7 +123,8 @@ impl<R: Net, S: Store, L: PartitionLog + Drop> Edge<R, S, L> {
     /// Closes those sockets of a holder that take nothing of their replies for longest, until it may ask for more.
     #[tactic(auto, using(crate::proofs::Goes::goes_then, crate::proofs::Goes::goes_none))]
     fn make_way(&mut self, alloc: Global, holder: usize, turn: &mut Turn)
-        ensures { Goes S.disk R.Stream.contents R.Stream.remaining self.old.host self.new.host }
+        ensures { Goes S.disk R.Stream.contents R.Stream.remaining (seen self.old.host self.old.sockets.items)
+            (seen self.new.host self.new.sockets.items) }
     {
         for _ in 0..self.limit {
             let millis = patience(self.replies.is_open(holder), self.reply_millis);
@@ -129,7 +138,8 @@ impl<R: Net, S: Store, L: PartitionLog + Drop> Edge<R, S, L> {
     /// Closes the socket of a connection that makes others wait, unless it takes something of its reply now.
     #[tactic(auto, using(crate::proofs::Goes::goes_then, crate::proofs::Goes::goes_none))]
     fn close_stalling(&mut self, alloc: Global, number: u64, turn: &mut Turn)
-        ensures { Goes S.disk R.Stream.contents R.Stream.remaining self.old.host self.new.host }
+        ensures { Goes S.disk R.Stream.contents R.Stream.remaining (seen self.old.host self.old.sockets.items)
+            (seen self.new.host self.new.sockets.items) }
     {
         if self.write_again(alloc, number, turn) {
             return;
@@ -143,7 +153,8 @@ impl<R: Net, S: Store, L: PartitionLog + Drop> Edge<R, S, L> {
     /// before.
     #[tactic(auto, using(crate::proofs::Goes::goes_then, crate::proofs::Goes::goes_none))]
     pub(super) fn close_late(&mut self, alloc: Global, turn: &mut Turn)
-        ensures { Goes S.disk R.Stream.contents R.Stream.remaining self.old.host self.new.host }
+        ensures { Goes S.disk R.Stream.contents R.Stream.remaining (seen self.old.host self.old.sockets.items)
+            (seen self.new.host self.new.sockets.items) }
     {
         self.close_slow(alloc, turn);
         self.close_idle(alloc, turn);
@@ -154,7 +165,8 @@ impl<R: Net, S: Store, L: PartitionLog + Drop> Edge<R, S, L> {
     /// their time begins anew.
     #[tactic(auto, using(crate::proofs::Goes::goes_then, crate::proofs::Goes::goes_none))]
     fn close_slow(&mut self, alloc: Global, turn: &mut Turn)
-        ensures { Goes S.disk R.Stream.contents R.Stream.remaining self.old.host self.new.host }
+        ensures { Goes S.disk R.Stream.contents R.Stream.remaining (seen self.old.host self.old.sockets.items)
+            (seen self.new.host self.new.sockets.items) }
     {
         for _ in 0..self.limit {
             let Some(number) = self.times.slow(self.clock) else {
@@ -167,7 +179,8 @@ impl<R: Net, S: Store, L: PartitionLog + Drop> Edge<R, S, L> {
     /// Closes the socket of a connection, unless its holder has too much unread and its time can begin anew.
     #[tactic(auto, using(crate::proofs::Goes::goes_then, crate::proofs::Goes::goes_none))]
     fn close_unless_put_off(&mut self, alloc: Global, number: u64, turn: &mut Turn)
-        ensures { Goes S.disk R.Stream.contents R.Stream.remaining self.old.host self.new.host }
+        ensures { Goes S.disk R.Stream.contents R.Stream.remaining (seen self.old.host self.old.sockets.items)
+            (seen self.new.host self.new.sockets.items) }
     {
         if !self.may_ask(number) && self.put_off(number) {
             return;
@@ -178,7 +191,7 @@ impl<R: Net, S: Store, L: PartitionLog + Drop> Edge<R, S, L> {
 
     /// A request has its whole time from now on.
     fn put_off(&mut self, number: u64) -> bool
-        ensures { self.new.host ≡ self.old.host }
+        ensures { seen self.new.host self.new.sockets.items ≡ seen self.old.host self.old.sockets.items }
     {
         let Some(place) = self.place_of(number) else {
             return false;
@@ -192,7 +205,8 @@ impl<R: Net, S: Store, L: PartitionLog + Drop> Edge<R, S, L> {
     /// Closes the sockets that are idle for too long.
     #[tactic(auto, using(crate::proofs::Goes::goes_then, crate::proofs::Goes::goes_none))]
     fn close_idle(&mut self, alloc: Global, turn: &mut Turn)
-        ensures { Goes S.disk R.Stream.contents R.Stream.remaining self.old.host self.new.host }
+        ensures { Goes S.disk R.Stream.contents R.Stream.remaining (seen self.old.host self.old.sockets.items)
+            (seen self.new.host self.new.sockets.items) }
     {
         for _ in 0..self.limit {
             let Some(number) = self.times.take_looked(self.clock) else {
@@ -205,7 +219,8 @@ impl<R: Net, S: Store, L: PartitionLog + Drop> Edge<R, S, L> {
     /// Closes the socket of a connection, unless it was used of late.
     #[tactic(auto, using(crate::proofs::Goes::goes_then, crate::proofs::Goes::goes_none))]
     fn close_unless_used(&mut self, alloc: Global, number: u64, turn: &mut Turn)
-        ensures { Goes S.disk R.Stream.contents R.Stream.remaining self.old.host self.new.host }
+        ensures { Goes S.disk R.Stream.contents R.Stream.remaining (seen self.old.host self.old.sockets.items)
+            (seen self.new.host self.new.sockets.items) }
     {
         if self.is_used(number) {
             return;
@@ -216,7 +231,7 @@ impl<R: Net, S: Store, L: PartitionLog + Drop> Edge<R, S, L> {
 
     /// Whether a socket was used of late, or something is waited for, which is looked at again once it may be idle for too long.
     fn is_used(&mut self, number: u64) -> bool
-        ensures { self.new.host ≡ self.old.host }
+        ensures { seen self.new.host self.new.sockets.items ≡ seen self.old.host self.old.sockets.items }
     {
         let Some(place) = self.place_of(number) else {
             return true;
@@ -246,7 +261,8 @@ impl<R: Net, S: Store, L: PartitionLog + Drop> Edge<R, S, L> {
     /// noted, it is closed.
     #[tactic(auto, using(crate::proofs::Goes::goes_then, crate::proofs::Goes::goes_none))]
     fn write_again(&mut self, alloc: Global, number: u64, turn: &mut Turn) -> bool
-        ensures { Goes S.disk R.Stream.contents R.Stream.remaining self.old.host self.new.host }
+        ensures { Goes S.disk R.Stream.contents R.Stream.remaining (seen self.old.host self.old.sockets.items)
+            (seen self.new.host self.new.sockets.items) }
     {
         let Some(place) = self.place_of(number) else {
             return false;
@@ -275,7 +291,7 @@ impl<R: Net, S: Store, L: PartitionLog + Drop> Edge<R, S, L> {
 
     /// Counts bytes that were written, for the tenant that has their socket.
     fn count_written(&mut self, holder: usize, bytes: usize)
-        ensures { self.new.host ≡ self.old.host }
+        ensures { seen self.new.host self.new.sockets.items ≡ seen self.old.host self.old.sockets.items }
     {
         if let Some(traffic) = self.traffic.get_mut(holder) {
             traffic.count_bytes(0, bytes as u64);
@@ -285,7 +301,7 @@ impl<R: Net, S: Store, L: PartitionLog + Drop> Edge<R, S, L> {
     /// Where a socket is closed that made all wait, the others of its user that wait for their turn go behind all: else each of them
     /// could make all wait once more.
     fn put_behind(&mut self, alloc: Global, number: u64)
-        ensures { self.new.host ≡ self.old.host }
+        ensures { seen self.new.host self.new.sockets.items ≡ seen self.old.host self.old.sockets.items }
     {
         let user = self.user_of(number);
         let spare = mem::replace(&mut self.spare, Vec::new(alloc));
@@ -308,7 +324,7 @@ impl<R: Net, S: Store, L: PartitionLog + Drop> Edge<R, S, L> {
 
     /// Those of the connections that are of that user are next, or those that are not.
     fn queue_those(&mut self, numbers: &[u64], user: Option<usize>, are_of_user: bool)
-        ensures { self.new.host ≡ self.old.host }
+        ensures { seen self.new.host self.new.sockets.items ≡ seen self.old.host self.old.sockets.items }
     {
         for number in numbers {
             self.queue_one(*number, user, are_of_user);
@@ -317,7 +333,7 @@ impl<R: Net, S: Store, L: PartitionLog + Drop> Edge<R, S, L> {
 
     /// The same for one connection.
     fn queue_one(&mut self, number: u64, user: Option<usize>, is_of_user: bool)
-        ensures { self.new.host ≡ self.old.host }
+        ensures { seen self.new.host self.new.sockets.items ≡ seen self.old.host self.old.sockets.items }
     {
         if (self.user_of(number) == user) == is_of_user {
             // there is room for each socket once
@@ -331,9 +347,11 @@ impl<R: Net, S: Store, L: PartitionLog + Drop> Edge<R, S, L> {
         ensures commits { self.new.host.commits ≡ self.old.host.commits }
         ensures store { self.new.host.broker.store ≡ self.old.host.broker.store }
         ensures released { holder_of number self.new.shares.sockets ≡ None }
+        ensures shares { self.new.shares ≡ released number self.old.shares }
         ensures replies { self.new.replies ≡ let_go number self.old.replies }
         ensures inputs { self.new.inputs ≡ let_go number self.old.inputs }
-        ensures goes { Goes S.disk R.Stream.contents R.Stream.remaining self.old.host self.new.host }
+        ensures goes { Goes S.disk R.Stream.contents R.Stream.remaining (seen self.old.host self.old.sockets.items)
+            (seen self.new.host self.new.sockets.items) }
     {
         self.strangers.forget(number);
         self.shares.release(number);
@@ -351,8 +369,10 @@ impl<R: Net, S: Store, L: PartitionLog + Drop> Edge<R, S, L> {
     }
 
     /// Where a turn closed some, the sockets whose connections are closed are kept no longer.
+    #[tactic(auto, using(crate::proofs::Goes::goes_then, crate::proofs::Goes::goes_none))]
     fn drop_ended(&mut self, turn: &Turn)
-        ensures { self.new.host ≡ self.old.host }
+        ensures { Goes S.disk R.Stream.contents R.Stream.remaining (seen self.old.host self.old.sockets.items)
+            (seen self.new.host self.new.sockets.items) }
     {
         if turn.closed > 0 {
             self.sockets.retain(|socket| !socket.is_ended());
@@ -365,7 +385,8 @@ impl<R: Net, S: Store, L: PartitionLog + Drop> Edge<R, S, L> {
     pub(super) fn make_room(&mut self, alloc: Global, turn: &mut Turn) -> bool
         ensures sockets { OnTrue result (vec_len self.new.sockets < self.new.limit) }
         ensures strangers { OnTrue result (count_of self.new.shares.tenants self.new.shares.sockets < self.new.stranger_limit) }
-        ensures goes { Goes S.disk R.Stream.contents R.Stream.remaining self.old.host self.new.host }
+        ensures goes { Goes S.disk R.Stream.contents R.Stream.remaining (seen self.old.host self.old.sockets.items)
+            (seen self.new.host self.new.sockets.items) }
     {
         if self.has_room() {
             return true;
@@ -379,11 +400,19 @@ impl<R: Net, S: Store, L: PartitionLog + Drop> Edge<R, S, L> {
         self.has_room()
     }
 
-    /// The socket of a connection is kept no longer.
+    /// The socket of a connection is kept no longer, where its connection is closed.
+    #[tactic(auto, using(crate::proofs::Goes::goes_then, crate::proofs::Goes::goes_none))]
     fn remove(&mut self, number: u64)
-        ensures { self.new.host ≡ self.old.host }
+        ensures { Goes S.disk R.Stream.contents R.Stream.remaining (seen self.old.host self.old.sockets.items)
+            (seen self.new.host self.new.sockets.items) }
     {
-        if let Some(place) = self.place_of(number) {
+        let Some(place) = self.place_of(number) else {
+            return;
+        };
+        let Some(socket) = self.sockets.get(place) else {
+            return;
+        };
+        if socket.is_ended() {
             self.sockets.remove(place);
         }
     }
@@ -406,7 +435,9 @@ pub(super) fn note_reply<T: Read + Write + Drop>(
     before: usize,
     has_taken: bool,
     now: u64,
-) -> Result<(), AllocError> {
+) -> Result<(), AllocError>
+    ensures { socket.new ≡ record socket.old { moved = socket.new.moved; holder = socket.new.holder } }
+{
     let after = socket.unwritten();
     if !has_moved(before, after, has_taken) {
         return Ok(());

@@ -2,13 +2,15 @@
 
 ghost use Rattle.std.specs.Prelude.{◌≡◌, ◌≢◌, ◌-◌, min, true, false, Some, IfErr, IfSome, slice_get, slice_set, vec_len};
 ghost use Rattle.kb_node.specs.Moves.{Goes};
+ghost use Rattle.kb_node.specs.Cores.{seen};
 ghost use Rattle.kb_node.specs.Commits.{may_tell, tells_at_once};
 ghost use Rattle.kb_shares.specs.Ledger.{set_to};
 ghost use Rattle.kb_shares.specs.Shares.{has_room};
-ghost use Rattle.kb_shares.specs.Turns.{joined};
+ghost use Rattle.kb_shares.specs.Turns.{joined, next};
+ghost use Rattle.kb_node.specs.Numbers.{IsInOrder};
 ghost use Rattle.kb_node.specs.TenantTraffic.{with_traffic};
 ghost use Rattle.kb_node.specs.Replies.{kept_for, place_of};
-ghost use Rattle.kb_node.specs.Waiting.{is_long, socket_at};
+ghost use Rattle.kb_node.specs.Waiting.{goes_on, is_long, socket_at};
 
 use crate::committed::Committed;
 use crate::edge::closing::note_reply;
@@ -65,7 +67,8 @@ impl<R: Net, S: Store, L: PartitionLog + Drop> Edge<R, S, L> {
     #[tactic(auto, using(crate::proofs::Goes::goes_then, crate::proofs::Goes::goes_none))]
     pub(super) fn serve_at_once(&mut self, alloc: Global, turn: &mut Turn)
         requires { tells_at_once self.old.host.commits ≡ true }
-        ensures { Goes S.disk R.Stream.contents R.Stream.remaining self.old.host self.new.host }
+        ensures { Goes S.disk R.Stream.contents R.Stream.remaining (seen self.old.host self.old.sockets.items)
+            (seen self.new.host self.new.sockets.items) }
     {
         self.line_up(alloc, true);
         for _ in 0..ROUNDS {
@@ -81,7 +84,8 @@ impl<R: Net, S: Store, L: PartitionLog + Drop> Edge<R, S, L> {
     fn serve_round(&mut self, alloc: Global, turn: &mut Turn)
         requires { tells_at_once self.old.host.commits ≡ true }
         ensures commits { tells_at_once self.new.host.commits ≡ true }
-        ensures goes { Goes S.disk R.Stream.contents R.Stream.remaining self.old.host self.new.host }
+        ensures goes { Goes S.disk R.Stream.contents R.Stream.remaining (seen self.old.host self.old.sockets.items)
+            (seen self.new.host self.new.sockets.items) }
     {
         self.serve(alloc, turn);
         self.hear_speakers();
@@ -92,7 +96,7 @@ impl<R: Net, S: Store, L: PartitionLog + Drop> Edge<R, S, L> {
     /// The sockets that can go on stand in line for their turns, all of them or those alone that may be asked. Where there is no memory for
     /// that, they go on later.
     fn line_up(&mut self, alloc: Global, is_for_all: bool)
-        ensures { self.new.host ≡ self.old.host }
+        ensures { seen self.new.host self.new.sockets.items ≡ seen self.old.host self.old.sockets.items }
     {
         let spare = mem::replace(&mut self.spare, Vec::new(alloc));
         let mut round = mem::replace(&mut self.ready, spare);
@@ -105,7 +109,7 @@ impl<R: Net, S: Store, L: PartitionLog + Drop> Edge<R, S, L> {
 
     /// The socket of a connection stands in line behind the others of its holder, or stays among those that can go on.
     fn line_up_one(&mut self, number: u64, is_for_all: bool)
-        ensures host { self.new.host ≡ self.old.host }
+        ensures seen { seen self.new.host self.new.sockets.items ≡ seen self.old.host self.old.sockets.items }
         ensures waits { self.new.line ≢ self.old.line
             → self.new.line ≡ joined (min (place_of number self.old.shares) 256) number self.old.line }
     {
@@ -127,7 +131,8 @@ impl<R: Net, S: Store, L: PartitionLog + Drop> Edge<R, S, L> {
         turn: &mut Turn,
     ) -> Result<(), StoreFault>
         ensures refused { IfErr result (λ fault. self.new.host.commits.fault ≡ Some fault) }
-        ensures goes { Goes S.disk R.Stream.contents R.Stream.remaining self.old.host self.new.host }
+        ensures goes { Goes S.disk R.Stream.contents R.Stream.remaining (seen self.old.host self.old.sockets.items)
+            (seen self.new.host self.new.sockets.items) }
     {
         self.hand_on(alloc, turn);
         self.hear_speakers();
@@ -143,18 +148,32 @@ impl<R: Net, S: Store, L: PartitionLog + Drop> Edge<R, S, L> {
     fn serve(&mut self, alloc: Global, turn: &mut Turn)
         requires { tells_at_once self.old.host.commits ≡ true }
         ensures commits { tells_at_once self.new.host.commits ≡ true }
-        ensures goes { Goes S.disk R.Stream.contents R.Stream.remaining self.old.host self.new.host }
+        ensures goes { Goes S.disk R.Stream.contents R.Stream.remaining (seen self.old.host self.old.sockets.items)
+            (seen self.new.host self.new.sockets.items) }
     {
         for _ in 0..ROUND {
-            let Some(number) = self.line.next() else {
-                break;
-            };
-            let is_long = self.is_long(self.place_of(number));
-            self.serve_one(alloc, number, turn);
-            if is_long {
+            if !self.serve_next(alloc, turn) {
                 break;
             }
         }
+    }
+
+    /// Serves the next socket in line once, and answers whether the round goes on behind it: there was one, whose request is not long.
+    #[tactic(auto, using(crate::proofs::Goes::goes_then, crate::proofs::Goes::goes_none))]
+    fn serve_next(&mut self, alloc: Global, turn: &mut Turn) -> bool
+        requires { tells_at_once self.old.host.commits ≡ true }
+        ensures commits { tells_at_once self.new.host.commits ≡ true }
+        ensures goes_on { IsInOrder (seen self.old.host self.old.sockets.items)
+            → result ≡ goes_on self.old.sockets.items (next self.old.line) }
+        ensures goes { Goes S.disk R.Stream.contents R.Stream.remaining (seen self.old.host self.old.sockets.items)
+            (seen self.new.host self.new.sockets.items) }
+    {
+        let Some(number) = self.line.next() else {
+            return false;
+        };
+        let is_long = self.is_long(self.place_of(number));
+        self.serve_one(alloc, number, turn);
+        !is_long
     }
 
     /// Whether the request is long that the socket at a place has begun, where there is one.
@@ -178,7 +197,8 @@ impl<R: Net, S: Store, L: PartitionLog + Drop> Edge<R, S, L> {
         // Nothing is handed on where its holder has too much that is unread.
         ensures unasked { has_room (place_of number self.old.shares) 1 self.old.replies.pool ≡ false
             → self.new.host.broker.store ≡ self.old.host.broker.store }
-        ensures goes { Goes S.disk R.Stream.contents R.Stream.remaining self.old.host self.new.host }
+        ensures goes { Goes S.disk R.Stream.contents R.Stream.remaining (seen self.old.host self.old.sockets.items)
+            (seen self.new.host self.new.sockets.items) }
     {
         let may_ask = self.may_ask(number);
         let most = self.longest_request(number);
@@ -210,7 +230,8 @@ impl<R: Net, S: Store, L: PartitionLog + Drop> Edge<R, S, L> {
     /// and those that were not asked come first in the next turn.
     #[tactic(auto, using(crate::proofs::Goes::goes_then, crate::proofs::Goes::goes_none))]
     fn hand_on(&mut self, alloc: Global, turn: &mut Turn)
-        ensures { Goes S.disk R.Stream.contents R.Stream.remaining self.old.host self.new.host }
+        ensures { Goes S.disk R.Stream.contents R.Stream.remaining (seen self.old.host self.old.sockets.items)
+            (seen self.new.host self.new.sockets.items) }
     {
         self.line_up(alloc, true);
         for _ in 0..TOGETHER {
@@ -227,7 +248,8 @@ impl<R: Net, S: Store, L: PartitionLog + Drop> Edge<R, S, L> {
         // Nothing is handed on where its holder has too much that is unread.
         ensures unasked { has_room (place_of number self.old.shares) 1 self.old.replies.pool ≡ false
             → self.new.host.broker.store ≡ self.old.host.broker.store }
-        ensures goes { Goes S.disk R.Stream.contents R.Stream.remaining self.old.host self.new.host }
+        ensures goes { Goes S.disk R.Stream.contents R.Stream.remaining (seen self.old.host self.old.sockets.items)
+            (seen self.new.host self.new.sockets.items) }
     {
         let may_ask = self.may_ask(number);
         self.hand_on_one(alloc, number, may_ask, turn);
@@ -238,7 +260,7 @@ impl<R: Net, S: Store, L: PartitionLog + Drop> Edge<R, S, L> {
     fn put_in_line(&mut self, number: u64, was_asked: bool)
         ensures asked { was_asked ≡ true → self.new.ready ≡ self.old.ready }
         ensures unasked { was_asked ≡ false → self.new.asked ≡ self.old.asked }
-        ensures host { self.new.host ≡ self.old.host }
+        ensures seen { seen self.new.host self.new.sockets.items ≡ seen self.old.host self.old.sockets.items }
     {
         // there is room for each socket once
         let _ = if was_asked {
@@ -252,7 +274,8 @@ impl<R: Net, S: Store, L: PartitionLog + Drop> Edge<R, S, L> {
     #[tactic(auto, using(crate::proofs::Goes::goes_then, crate::proofs::Goes::goes_none, crate::proofs::Goes::goes_carried))]
     fn hand_on_one(&mut self, alloc: Global, number: u64, may_ask: bool, turn: &mut Turn)
         ensures unasked { may_ask ≡ false → self.new.host.broker.store ≡ self.old.host.broker.store }
-        ensures goes { Goes S.disk R.Stream.contents R.Stream.remaining self.old.host self.new.host }
+        ensures goes { Goes S.disk R.Stream.contents R.Stream.remaining (seen self.old.host self.old.sockets.items)
+            (seen self.new.host self.new.sockets.items) }
     {
         let most = self.longest_request(number);
         let Some(place) = self.place_of(number) else {
@@ -286,7 +309,8 @@ impl<R: Net, S: Store, L: PartitionLog + Drop> Edge<R, S, L> {
     fn tell(&mut self, alloc: Global, turn: &mut Turn)
         requires { may_tell self.old.host.commits ≡ true }
         ensures commits { self.new.host.commits ≡ self.old.host.commits }
-        ensures goes { Goes S.disk R.Stream.contents R.Stream.remaining self.old.host self.new.host }
+        ensures goes { Goes S.disk R.Stream.contents R.Stream.remaining (seen self.old.host self.old.sockets.items)
+            (seen self.new.host self.new.sockets.items) }
     {
         let spare = mem::replace(&mut self.spare, Vec::new(alloc));
         let mut round = mem::replace(&mut self.ready, spare);
@@ -301,7 +325,8 @@ impl<R: Net, S: Store, L: PartitionLog + Drop> Edge<R, S, L> {
     #[tactic(auto, using(crate::proofs::Goes::goes_then, crate::proofs::Goes::goes_none))]
     fn tell_asked(&mut self, alloc: Global, turn: &mut Turn)
         requires { may_tell self.old.host.commits ≡ true }
-        ensures { Goes S.disk R.Stream.contents R.Stream.remaining self.old.host self.new.host }
+        ensures { Goes S.disk R.Stream.contents R.Stream.remaining (seen self.old.host self.old.sockets.items)
+            (seen self.new.host self.new.sockets.items) }
     {
         let mut round = mem::replace(&mut self.asked, Vec::new(alloc));
         for number in &round {
@@ -316,7 +341,8 @@ impl<R: Net, S: Store, L: PartitionLog + Drop> Edge<R, S, L> {
     fn tell_one(&mut self, alloc: Global, number: u64, turn: &mut Turn)
         requires { may_tell self.old.host.commits ≡ true }
         ensures commits { self.new.host.commits ≡ self.old.host.commits }
-        ensures goes { Goes S.disk R.Stream.contents R.Stream.remaining self.old.host self.new.host }
+        ensures goes { Goes S.disk R.Stream.contents R.Stream.remaining (seen self.old.host self.old.sockets.items)
+            (seen self.new.host self.new.sockets.items) }
     {
         let Some(place) = self.place_of(number) else {
             return;
@@ -336,8 +362,7 @@ impl<R: Net, S: Store, L: PartitionLog + Drop> Edge<R, S, L> {
     /// Counts for its tenant what was read and written of the socket at a place since it was served, and its request where the API key of
     /// one came. One that was not told before that it has logged in is counted for nobody.
     fn count(&mut self, place: usize, before: Before, turn: &Turn)
-        ensures host { self.new.host ≡ self.old.host }
-        ensures sockets { vec_len self.new.sockets ≡ vec_len self.old.sockets }
+        ensures seen { seen self.new.host self.new.sockets.items ≡ seen self.old.host self.old.sockets.items }
         ensures stranger { before.is_stranger ≡ true → self.new.traffic ≡ self.old.traffic }
         ensures counted { before.is_stranger ≡ false → IfSome (slice_get self.old.sockets.items place)
             (λ s. let holder = place_of s.connection self.old.shares in IfSome (slice_get self.old.traffic.items holder)
@@ -367,7 +392,8 @@ impl<R: Net, S: Store, L: PartitionLog + Drop> Edge<R, S, L> {
     fn note(&mut self, alloc: Global, place: usize, before: Before, next: Next, turn: &mut Turn)
         ensures commits { self.new.host.commits ≡ self.old.host.commits }
         ensures store { self.new.host.broker.store ≡ self.old.host.broker.store }
-        ensures goes { Goes S.disk R.Stream.contents R.Stream.remaining self.old.host self.new.host }
+        ensures goes { Goes S.disk R.Stream.contents R.Stream.remaining (seen self.old.host self.old.sockets.items)
+            (seen self.new.host self.new.sockets.items) }
     {
         self.note_served(place, before);
         if !self.note_denied(alloc, place, turn) {
@@ -384,7 +410,7 @@ impl<R: Net, S: Store, L: PartitionLog + Drop> Edge<R, S, L> {
 
     /// The socket at a place can go on, where it waits for nothing.
     fn queue_next(&mut self, place: usize, next: Next)
-        ensures { self.new.host ≡ self.old.host }
+        ensures { seen self.new.host self.new.sockets.items ≡ seen self.old.host self.old.sockets.items }
     {
         if next == Next::Turn {
             self.queue(place);
@@ -393,7 +419,7 @@ impl<R: Net, S: Store, L: PartitionLog + Drop> Edge<R, S, L> {
 
     /// Notes whether the socket at a place has logged in or ended.
     fn note_served(&mut self, place: usize, before: Before)
-        ensures { self.new.host ≡ self.old.host }
+        ensures { seen self.new.host self.new.sockets.items ≡ seen self.old.host self.old.sockets.items }
     {
         let Some(socket) = self.sockets.get_mut(place) else {
             return;
@@ -420,7 +446,8 @@ impl<R: Net, S: Store, L: PartitionLog + Drop> Edge<R, S, L> {
     fn note_denied(&mut self, alloc: Global, place: usize, turn: &mut Turn) -> bool
         ensures commits { self.new.host.commits ≡ self.old.host.commits }
         ensures store { self.new.host.broker.store ≡ self.old.host.broker.store }
-        ensures goes { Goes S.disk R.Stream.contents R.Stream.remaining self.old.host self.new.host }
+        ensures goes { Goes S.disk R.Stream.contents R.Stream.remaining (seen self.old.host self.old.sockets.items)
+            (seen self.new.host self.new.sockets.items) }
     {
         let Some(socket) = self.sockets.get_mut(place) else {
             return false;
@@ -446,7 +473,8 @@ impl<R: Net, S: Store, L: PartitionLog + Drop> Edge<R, S, L> {
         ensures booked { result ≡ true → IfSome (slice_get self.old.sockets.items place) (λ s. self.new.replies
             ≡ set_to s.connection (place_of s.connection self.old.shares)
             (kept_for (vec_len s.output - s.written) before.promised) self.old.replies) }
-        ensures goes { Goes S.disk R.Stream.contents R.Stream.remaining self.old.host self.new.host }
+        ensures goes { Goes S.disk R.Stream.contents R.Stream.remaining (seen self.old.host self.old.sockets.items)
+            (seen self.new.host self.new.sockets.items) }
     {
         let Some(socket) = self.sockets.get_mut(place) else {
             return false;
@@ -478,7 +506,8 @@ impl<R: Net, S: Store, L: PartitionLog + Drop> Edge<R, S, L> {
         ensures store { self.new.host.broker.store ≡ self.old.host.broker.store }
         ensures booked { result ≡ true → IfSome (slice_get self.old.sockets.items place) (λ s. self.new.inputs
             ≡ set_to s.connection (place_of s.connection self.old.shares) s.input.progress.size self.old.inputs) }
-        ensures goes { Goes S.disk R.Stream.contents R.Stream.remaining self.old.host self.new.host }
+        ensures goes { Goes S.disk R.Stream.contents R.Stream.remaining (seen self.old.host self.old.sockets.items)
+            (seen self.new.host self.new.sockets.items) }
     {
         let Some(socket) = self.sockets.get_mut(place) else {
             return false;
@@ -504,7 +533,14 @@ fn note_times<T: Read + Write + Drop, S: Store, L: PartitionLog + Drop>(
     host: &Committed<S, L>,
     has_moved: bool,
     now: u64,
-) -> Result<(), AllocError> {
+) -> Result<(), AllocError>
+    ensures { socket.new ≡ record socket.old {
+      begun = socket.new.begun;
+      is_anew = socket.new.is_anew;
+      active = socket.new.active;
+      looked = socket.new.looked;
+    } }
+{
     let is_under_way = !socket.is_ended() && socket.is_under_way(host);
     times.note_request(socket, is_under_way, now)?;
     if has_moved || !socket.is_idle(host) {

@@ -1,15 +1,19 @@
 //! How long an edge waits, and for what.
 
-ghost use Rattle.std.specs.Prelude.{◌≡◌, ◌≢◌, ◌<◌, ◌-◌, ◌*◌, ◌^◌, min, true, false, ℕ, [], ◌∷◌};
+ghost use Rattle.std.specs.Prelude.{◌≡◌, ◌≢◌, ◌<◌, ◌-◌, ◌*◌, ◌^◌, min, true, false, ℕ, [], ◌∷◌, IfSome};
 ghost use Rattle.std.specs.Duration.{as_nanos};
+ghost use Rattle.std.specs.List.{list_any};
 ghost use Rattle.kb_shares.specs.Shares.{has_room, own_of, piece_for, used_by};
 ghost use Rattle.kb_broker.specs.Deadline.{IsQuietBefore};
 ghost use Rattle.kb_broker.specs.Hosts.{is_honest};
 ghost use Rattle.kb_node.specs.declared.edge.Accepts.TheVariants.{Ready};
+ghost use Rattle.kb_node.specs.Cores.{seen};
 ghost use Rattle.kb_node.specs.Commits.{next_commit};
 ghost use Rattle.kb_node.specs.Deadlines.{first_deadline, first_end};
+ghost use Rattle.kb_node.specs.Numbers.{IsInOrder, socket_of};
 ghost use Rattle.kb_node.specs.Replies.{place_of};
 ghost use Rattle.kb_node.specs.Waiting.{first_stall_of, least, quiet_millis, stall_of, wait_millis};
+ghost use Rattle.kb_node.specs.Waiting.{fits, is_busy, may_be_asked};
 
 use crate::deadlines::patience;
 use crate::doors::DOOR;
@@ -32,19 +36,57 @@ impl<R: Net, S: Store, L: PartitionLog + Drop> Edge<R, S, L> {
     /// a second at most; and no time where a socket can go on as it is. What was refused is tried again within 100 ms. An edge that was
     /// bound without a watch does not wait.
     pub fn wait(&mut self)
-        ensures { self.new.host ≡ self.old.host }
+        ensures seen { seen self.new.host self.new.sockets.items ≡ seen self.old.host self.old.sockets.items }
+        ensures busy { IsInOrder (seen self.old.host self.old.sockets.items) → is_busy self.old.accepts self.old.line (list_any
+            (may_be_asked self.old.shares self.old.replies.pool self.old.inputs.pool self.old.sockets.items) self.old.ready.items) ≡ true
+            → IfSome self.new.watch (λ w. as_nanos w.longest ≡ 0) }
+        ensures quiet { IsInOrder (seen self.old.host self.old.sockets.items) → is_busy self.old.accepts self.old.line (list_any
+            (may_be_asked self.old.shares self.old.replies.pool self.old.inputs.pool self.old.sockets.items) self.old.ready.items) ≡ false
+            → IfSome self.new.watch (λ w. (next : ℕ)
+            × (is_honest S.disk self.old.host.broker → IsQuietBefore next self.old.host.broker.state)
+            × (as_nanos w.longest ≡ wait_millis self.old.accepts (quiet_millis (least next (next_commit self.old.host.commits
+            ∷ first_deadline self.old.strangers.deadlines.entries
+            ∷ first_end 100 self.old.delays.moments.moments.keys
+            ∷ min (first_end self.old.reply_millis self.old.silences.unread.moments.keys)
+            (first_end 500 self.old.silences.untried.moments.keys)
+            ∷ min (first_end self.old.times.request_millis self.old.times.begun.moments.keys)
+            (first_end self.old.times.idle_millis self.old.times.looked.moments.keys)
+            ∷ first_stall_of self.old.reply_millis self.old.shares self.old.replies.pool self.old.silences.stalls.moments
+            self.old.ready.items ∷ [])) self.old.clock self.old.is_left_due) * 1000000)) }
     {
-        let longest = if self.is_busy() {
+        let longest = self.longest();
+        self.listen(longest);
+    }
+
+    /// How long is waited at most: not at all where there is something to do at once.
+    fn longest(&self) -> Duration
+        ensures busy { IsInOrder (seen self.now.host self.now.sockets.items) → is_busy self.now.accepts self.now.line (list_any
+            (may_be_asked self.now.shares self.now.replies.pool self.now.inputs.pool self.now.sockets.items) self.now.ready.items) ≡ true
+            → as_nanos result ≡ 0 }
+        ensures quiet { IsInOrder (seen self.now.host self.now.sockets.items) → is_busy self.now.accepts self.now.line (list_any
+            (may_be_asked self.now.shares self.now.replies.pool self.now.inputs.pool self.now.sockets.items) self.now.ready.items) ≡ false
+            → (next : ℕ) × (is_honest S.disk self.now.host.broker → IsQuietBefore next self.now.host.broker.state)
+            × (as_nanos result ≡ wait_millis self.now.accepts (quiet_millis (least next (next_commit self.now.host.commits
+            ∷ first_deadline self.now.strangers.deadlines.entries
+            ∷ first_end 100 self.now.delays.moments.moments.keys
+            ∷ min (first_end self.now.reply_millis self.now.silences.unread.moments.keys)
+            (first_end 500 self.now.silences.untried.moments.keys)
+            ∷ min (first_end self.now.times.request_millis self.now.times.begun.moments.keys)
+            (first_end self.now.times.idle_millis self.now.times.looked.moments.keys)
+            ∷ first_stall_of self.now.reply_millis self.now.shares self.now.replies.pool self.now.silences.stalls.moments
+            self.now.ready.items ∷ [])) self.now.clock self.now.is_left_due) * 1000000) }
+    {
+        if self.is_busy() {
             Duration::ZERO
         } else {
             self.longest_wait(self.next_deadline())
-        };
-        self.listen(longest);
+        }
     }
 
     /// What the system tells within so long, of sockets and of listeners.
     pub(super) fn listen(&mut self, longest: Duration)
-        ensures { self.new.host ≡ self.old.host }
+        ensures seen { seen self.new.host self.new.sockets.items ≡ seen self.old.host self.old.sockets.items }
+        ensures longest { IfSome self.new.watch (λ w. w.longest ≡ longest) }
     {
         let Some(mut watch) = self.watch.take() else {
             return;
@@ -61,10 +103,25 @@ impl<R: Net, S: Store, L: PartitionLog + Drop> Edge<R, S, L> {
         ensures accepts { self.now.accepts ≡ Ready → result ≡ true }
         ensures line { self.now.line ≢ [] → result ≡ true }
         ensures nobody { self.now.accepts ≢ Ready → self.now.line ≡ [] → self.now.ready.items ≡ [] → result ≡ false }
+        ensures exact { IsInOrder (seen self.now.host self.now.sockets.items) → result ≡ is_busy self.now.accepts self.now.line
+            (list_any (may_be_asked self.now.shares self.now.replies.pool self.now.inputs.pool self.now.sockets.items)
+            self.now.ready.items) }
     {
-        self.accepts == Accepts::Ready
-            || !self.line.is_empty()
-            || self.ready.iter().any(|number| self.can_ask(*number))
+        self.accepts == Accepts::Ready || !self.line.is_empty() || self.can_ask_any()
+    }
+
+    /// Whether one of the sockets that can go on may be asked.
+    fn can_ask_any(&self) -> bool
+        ensures any { IsInOrder (seen self.now.host self.now.sockets.items) → result ≡ list_any (may_be_asked self.now.shares
+            self.now.replies.pool self.now.inputs.pool self.now.sockets.items) self.now.ready.items }
+        ensures nobody { self.now.ready.items ≡ [] → result ≡ false }
+    {
+        for number in &self.ready {
+            if self.can_ask(*number) {
+                return true;
+            }
+        }
+        false
     }
 
     /// How long may be waited where nothing is to be done before a moment.
@@ -139,14 +196,20 @@ impl<R: Net, S: Store, L: PartitionLog + Drop> Edge<R, S, L> {
     }
 
     /// Whether the socket of a connection may be asked now: its holder has not too much of replies, and the request in front fits.
-    pub(super) fn can_ask(&self, number: u64) -> bool {
+    pub(super) fn can_ask(&self, number: u64) -> bool
+        ensures { IsInOrder (seen self.now.host self.now.sockets.items) → result
+            ≡ may_be_asked self.now.shares self.now.replies.pool self.now.inputs.pool self.now.sockets.items number }
+    {
         self.may_ask(number) && self.may_begin(number)
     }
 
     /// Whether the request in front of the socket of a connection may be handed on: it is begun, or its size is not known, or it fits.
-    fn may_begin(&self, number: u64) -> bool {
-        match self.place_of(number) {
-            Some(place) => self.sockets[place].awaited() as u64 <= self.longest_request(number),
+    fn may_begin(&self, number: u64) -> bool
+        ensures { IsInOrder (seen self.now.host self.now.sockets.items) → result
+            ≡ fits (piece_for (place_of number self.now.shares) self.now.inputs.pool) (socket_of number self.now.sockets.items) }
+    {
+        match self.socket_of(number) {
+            Some(socket) => socket.awaited() as u64 <= self.longest_request(number),
             None => true,
         }
     }
@@ -163,7 +226,7 @@ impl<R: Net, S: Store, L: PartitionLog + Drop> Edge<R, S, L> {
 
     /// What the system tells of a socket or of a listener.
     fn hear(&mut self, event: &Event)
-        ensures { self.new.host ≡ self.old.host }
+        ensures { seen self.new.host self.new.sockets.items ≡ seen self.old.host self.old.sockets.items }
     {
         let number = event.token().0 as u64;
         if number == DOOR {

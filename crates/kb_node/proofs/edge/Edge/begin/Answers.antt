@@ -7,4 +7,7 @@ returns-clause-moment g c = happens_same (c.hear_all.ensures ∙ c.answer_denied
 
 pub returns-clause-tried : goal.returns-clause-tried
 returns-clause-tried g c =
-    ap (λ h. h.tried) (c.hear_all.ensures ∙ c.answer_denied.ensures ∙ c.hear_speakers.ensures) ∙ c.moment.ensures.tried
+    ap (λ x. x.host.tried) (c.hear_all.ensures ∙ c.answer_denied.ensures ∙ c.hear_speakers.ensures) ∙ c.moment.ensures.tried
+
+pub returns-clause-sockets : goal.returns-clause-sockets
+returns-clause-sockets g c = ap (λ x. x.sockets) (c.hear_all.ensures ∙ c.answer_denied.ensures ∙ c.hear_speakers.ensures)

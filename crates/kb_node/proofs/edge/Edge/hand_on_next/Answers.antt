@@ -2,4 +2,4 @@ use Rattle.kb_node.proofs.Goes.{goes_same}
 use Rattle.kb_node.proofs.edge.Edge.hand_on_next.Goals as goal
 
 pub returns-clause-goes : goal.returns-clause-goes
-returns-clause-goes g c = goes_same c.put_in_line.ensures.host c.hand_on_one.ensures.goes
+returns-clause-goes g c = goes_same c.put_in_line.ensures.seen c.hand_on_one.ensures.goes

@@ -1,6 +1,7 @@
 use Rattle.std.proofs.Common.{◌≡◌}
+use Rattle.kb_node.specs.Cores.{seen}
 use Rattle.kb_node.proofs.edge.Edge.line_up.Given as goal
 
--- the broker, and what is known of its commits, stay
+-- the host stays, and of the sockets only what is remembered of their turns changes
 abbrev pub invariant-loop-number : goal.invariant-loop-number
-invariant-loop-number g l = l.self.host ≡ l.fn.self.host
+invariant-loop-number g l = seen l.self.host l.self.sockets.items ≡ seen l.fn.self.host l.fn.self.sockets.items

@@ -1,10 +1,11 @@
+use Rattle.std.proofs.Common.{refl}
 use Rattle.kb_node.proofs.Goes.{goes_committed, goes_still, goes_then}
 use Rattle.kb_node.proofs.edge.Edge.serve_together.Goals as goal
 
 pub returns-in_err-commit-clause-goes : goal.returns-in_err-commit-clause-goes
 returns-in_err-commit-clause-goes g c =
-    goes_then c.hand_on.ensures (goes_then (goes_still c.hear_speakers.ensures) (goes_committed c.commit.ensures.tried c.commit.ensures.commits))
+    goes_then c.hand_on.ensures (goes_then (goes_still c.hear_speakers.ensures) (goes_committed c.commit.ensures.tried c.commit.ensures.commits refl))
 
 pub returns-clause-goes : goal.returns-clause-goes
-returns-clause-goes g c = goes_then c.hand_on.ensures (goes_then (goes_still c.hear_speakers.ensures) (goes_then (goes_committed c.commit.ensures.tried c.commit.ensures.commits)
+returns-clause-goes g c = goes_then c.hand_on.ensures (goes_then (goes_still c.hear_speakers.ensures) (goes_then (goes_committed c.commit.ensures.tried c.commit.ensures.commits refl)
     (goes_then c.tell.ensures.goes c.tell_asked.ensures)))

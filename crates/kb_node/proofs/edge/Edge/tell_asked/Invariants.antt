@@ -1,8 +1,9 @@
 use Rattle.std.proofs.Common.{◌≡◌, true}
 use Rattle.kb_node.specs.Commits.{may_tell}
 use Rattle.kb_node.specs.Moves.{Goes}
+use Rattle.kb_node.specs.Cores.{seen}
 use Rattle.kb_node.proofs.edge.Edge.tell_asked.Given as goal
 
 -- replies may go out, and deeds without a moment lead here
 abbrev pub invariant-loop-number : goal.invariant-loop-number
-invariant-loop-number g l = (may_tell l.self.host.commits ≡ true) × Goes g.S.Store.disk g.R.Stream.Write.contents g.R.Stream.Read.remaining l.fn.self.host l.self.host
+invariant-loop-number g l = (may_tell l.self.host.commits ≡ true) × Goes g.S.Store.disk g.R.Stream.Write.contents g.R.Stream.Read.remaining (seen l.fn.self.host l.fn.self.sockets.items) (seen l.self.host l.self.sockets.items)

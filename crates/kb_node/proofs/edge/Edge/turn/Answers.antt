@@ -3,16 +3,16 @@ use Rattle.kb_node.proofs.edge.Edge.turn.Goals as goal
 
 pub returns-in_err-answer-clause-turn : goal.returns-in_err-answer-clause-turn
 returns-in_err-answer-clause-turn g c =
-    λ _. turned c.begin.ensures.moment c.begin.ensures.tried (goes_then c.close_silent.ensures (goes_then c.accept.ensures c.answer.ensures.goes))
+    λ _. turned c.begin.ensures.moment c.begin.ensures.tried c.begin.ensures.sockets (goes_then c.close_silent.ensures (goes_then c.accept.ensures c.answer.ensures.goes))
 
 pub returns-in_err-answer-clause-run : goal.returns-in_err-answer-clause-run
 returns-in_err-answer-clause-run g c = λ _. run_of
-    (turned c.begin.ensures.moment c.begin.ensures.tried (goes_then c.close_silent.ensures (goes_then c.accept.ensures c.answer.ensures.goes)))
+    (turned c.begin.ensures.moment c.begin.ensures.tried c.begin.ensures.sockets (goes_then c.close_silent.ensures (goes_then c.accept.ensures c.answer.ensures.goes)))
 
 pub returns-clause-turn : goal.returns-clause-turn
 returns-clause-turn g c =
-    λ _. turned c.begin.ensures.moment c.begin.ensures.tried (goes_then c.close_silent.ensures (goes_then c.accept.ensures (goes_then c.answer.ensures.goes c.close_late.ensures)))
+    λ _. turned c.begin.ensures.moment c.begin.ensures.tried c.begin.ensures.sockets (goes_then c.close_silent.ensures (goes_then c.accept.ensures (goes_then c.answer.ensures.goes c.close_late.ensures)))
 
 pub returns-clause-run : goal.returns-clause-run
 returns-clause-run g c = λ _. run_of
-    (turned c.begin.ensures.moment c.begin.ensures.tried (goes_then c.close_silent.ensures (goes_then c.accept.ensures (goes_then c.answer.ensures.goes c.close_late.ensures))))
+    (turned c.begin.ensures.moment c.begin.ensures.tried c.begin.ensures.sockets (goes_then c.close_silent.ensures (goes_then c.accept.ensures (goes_then c.answer.ensures.goes c.close_late.ensures))))

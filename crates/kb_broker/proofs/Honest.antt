@@ -112,9 +112,10 @@ store-is a b e = ap (λ (x : OnStore _). x.store) e
 pub strays-is : {S : Type 0} (a b : OnStore S) → a ≡ b → a.strays ≡ b.strays
 strays-is a b e = ap (λ (x : OnStore _). x.strays) e
 
+pub by_store-is : {S : Type 0} (a b : OnStore S) → a ≡ b → a.by_store ≡ b.by_store
+by_store-is a b e = ap (λ (x : OnStore _). x.by_store) e
+
 -- another state on the same store
-pub stands-on : {S : Type 0} (b : OnStore S) (x y : BrokerState) (store : S) (strays : Option (List ℕ)) → x ≡ y → store ≡ b.store → strays ≡ b.strays → (let a : OnStore S = record { state = x; store = store; strays = strays } in a) ≡ record b { state = y }
-stands-on b x y store strays e f g =
-    ap (λ z. let a : OnStore _ = record { state = z; store = store; strays = strays } in a) e
-    ∙ (ap (λ s. let a : OnStore _ = record { state = y; store = s; strays = strays } in a) f
-    ∙ ap (λ o. let a : OnStore _ = record { state = y; store = b.store; strays = o } in a) g)
+pub stands-on : {S : Type 0} (b : OnStore S) (x y : BrokerState) (store : S) (strays : Option (List ℕ)) (by_store : List ℕ) → x ≡ y → store ≡ b.store → strays ≡ b.strays
+    → by_store ≡ b.by_store → (let a : OnStore S = record { state = x; store = store; strays = strays; by_store = by_store } in a) ≡ record b { state = y }
+stands-on b x y store strays by_store e f g h = λ i. record { state = e i; store = f i; strays = g i; by_store = h i }

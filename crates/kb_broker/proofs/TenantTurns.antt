@@ -21,7 +21,7 @@ use Rattle.kb_tenant_api.specs.declared.answer.Answer.{Answer}
 use Rattle.kb_tenant.specs.declared.answer.Answer.TheVariants as answers
 use Rattle.kb_tenant.specs.declared.node.Node.{Node}
 use Rattle.kb_isolation_spec.specs.Tenant.{Awaited, Records, Group, Wait, is_members, answer, asked, ready, ready_for, kept_after}
-use Rattle.kb_isolation_spec.specs.Session.{Greeting, Greets, BoundTo, Session, can, shut_down, waiting, without_wait, unanswerable}
+use Rattle.kb_isolation_spec.specs.Session.{Greeting, Greets, BoundTo, Session, can, shut_down, waiting, without_wait, unanswerable, in_front}
 use Rattle.kb_isolation_spec.specs.Greeting.{Setup, greeted, for_tenant, node_of}
 use Rattle.kb_isolation_spec.specs.Machine.{Line, after_reaction, told, woken, woken_by, after_turn as served_by_turn, put}
 use Rattle.kb_isolation_spec.proofs.Laws.{can-turn, some-left, greeted-less, served-less}
@@ -65,7 +65,7 @@ answered-now node k l clock n id key version body touched r h =
 -- what stands in front was asked, and answered so: the connection is the machine's
 pub asked-now : (setup : Setup) (t clock n : ℕ) (k m : Kept) (l new : Line) (key version : ℤ) (head : Head) (body : List ℕ) (r : Answer) → IsAsked setup l.session key version head body → m ≡ kept_after (node_of setup t) k clock n key version body → IsAnswer head.correlation_id (answer (node_of setup t) k clock n key version body) r
     → ((key' version' : ℤ) (head' : Head) (body' : List ℕ) (reaction : Reaction) → IsAsked setup l.session key' version' head' body' → IsAnswer head'.correlation_id reaction r → new ≡ with_session l (after_reaction reaction head' version' body' (without_front l.session)))
-    → (new.session ≡ served_by_turn (for_tenant setup t) k clock n l.session) × (m ≡ put (for_tenant setup t) k clock n l.session.unread)
+    → (new.session ≡ served_by_turn (for_tenant setup t) k clock n l.session) × (m ≡ put (for_tenant setup t) k clock n (in_front l.session))
 asked-now setup t clock n k m l new key version head body r asked kept told ok =
     let is = ok key version head body (answer (node_of setup t) k clock n key version body) asked told in
     (ap (λ (x : Line). x.session) is ∙ sym (asked.served t k clock n), kept ∙ sym (asked.put t k clock n))
@@ -135,7 +135,7 @@ asked-on log disk H honest hosts before-honest node us clock t n id key version 
 -- the connection was shut
 pub spent-shut : (l new : Line) → can l.session ≡ true → new ≡ with_session l (shut_down causes.Memory l.session) → IsSpent l.session new.session
 spent-shut l new able is =
-    let some = some-left l.session.unread (can-turn l.session able) in
+    let some = some-left l.session.limit l.session.unread (can-turn l.session able) in
     let left = ap (λ (x : Line). length x.session.unread) is in
     record { less = omega (arith, some, left); stage = λ t w e. ap (λ (x : Line). without_wait x.session.stage) is ∙ stage-shut l.session }
 

@@ -25,7 +25,7 @@ use Rattle.kb_isolation_spec.specs.declared.shut.Shut.TheVariants as causes
 use Rattle.kb_isolation_spec.specs.declared.head.Head.{Head}
 use Rattle.kb_isolation_spec.specs.Stranded.{IsMembersAt, members_of}
 use Rattle.kb_isolation_spec.specs.Tenant.{Awaited, Group, Records, Wait, is_members, ready}
-use Rattle.kb_isolation_spec.specs.Session.{Stage, Greets, BoundTo, Session, shut_down, without_wait, is_free, can}
+use Rattle.kb_isolation_spec.specs.Session.{Stage, Greets, BoundTo, Session, shut_down, without_wait, is_free, can, in_front}
 use Rattle.kb_isolation_spec.specs.Greeting.{Setup, greeted, for_tenant, node_of}
 use Rattle.kb_isolation_spec.specs.Machine.{Line, after_turn, put, woken, first_able, work}
 use Rattle.kb_isolation_spec.specs.Broker.{BrokerState, IsSound, IsUnready, AreUnready, AnyWait, refusals_of}
@@ -90,7 +90,7 @@ abbrev pub IsTakenAt : Type 0 → Setup → ℕ → ℕ → Stage → List Tenan
 IsTakenAt honest setup clock n (Greets handshaken) old new s r = r ≡ greeted setup handshaken s
 IsTakenAt honest setup clock n (BoundTo tenant wait) old new s r =
     IsMet tenant honest old new (λ k l. (r ≡ after_turn (for_tenant setup tenant) k clock n s)
-    × (l ≡ put (for_tenant setup tenant) k clock n s.unread))
+    × (l ≡ put (for_tenant setup tenant) k clock n (in_front s)))
 
 -- The turn of a connection of number n at that stage, also where it is refused, leaves no member more waiting but on that connection,
 -- and of those who waited each waits still or was answered; or it leaves the tenant's groups as they were.

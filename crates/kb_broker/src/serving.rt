@@ -4,7 +4,6 @@ ghost use Rattle.kb_isolation_spec.specs.Greeting.{for_tenant, node_of};
 ghost use Rattle.std.specs.Prelude.{◌≡◌, ◌≢◌, ◌<◌, ◌≤◌, ◌^◌, ◌⊎◌, ℕ, ℤ, List, length, OnOk, OnErr, IfOk, Ok, None, true};
 ghost use Rattle.std.specs.Prelude.{false};
 ghost use Rattle.std.specs.FinMap as fin;
-ghost use Rattle.kb_api_group.specs.Frames.{front};
 ghost use Rattle.kb_tenant_api.specs.Hosted.{kept_of};
 ghost use Rattle.kb_tenant_api.specs.Turns.{IsTurn, IsMet};
 ghost use Rattle.kb_tenant_api.specs.Replies.{Reaction, IsAnswer};
@@ -13,7 +12,7 @@ ghost use Rattle.kb_tenant.specs.Replies as plain;
 ghost use Rattle.kb_tenant.specs.Told.{FailedBy};
 ghost use Rattle.kb_isolation_spec.specs.declared.head.Head.{Head};
 ghost use Rattle.kb_isolation_spec.specs.declared.shut.Shut.TheVariants as causes;
-ghost use Rattle.kb_isolation_spec.specs.Session.{BoundTo, shut_down, can};
+ghost use Rattle.kb_isolation_spec.specs.Session.{BoundTo, shut_down, can, in_front};
 ghost use Rattle.kb_isolation_spec.specs.Machine.{after_reaction, after_turn, put};
 ghost use Rattle.kb_isolation_spec.specs.Broker.{InRange};
 ghost use Rattle.kb_isolation_spec.specs.Tenant.{answer, kept_after, is_past, ready};
@@ -251,7 +250,7 @@ fn serve_bound<L: PartitionLog + Drop, S: Store>(
         (tenants_in L.log S.disk tenants.new)
         (λ k l. let own = for_tenant setup.now tenant in
         (connection.new.session ≡ after_turn own k clock connection.old.number connection.old.session)
-        × (l ≡ put own k clock connection.old.number connection.old.session.unread))) }
+        × (l ≡ put own k clock connection.old.number (in_front connection.old.session)))) }
     ensures told { shelf_is_honest S.disk tenants.new → IsToldAt
         (FailedBy (S.disk tenants.old.shelf.store).failures (S.disk tenants.new.shelf.store).failures tenants.new.shelf.next)
         (IsCatalogFull L.log tenants.new) setup.now clock connection.old.number (BoundTo tenant None)
@@ -290,7 +289,7 @@ fn hand_over(
     answer: Answer,
 ) -> Result<(), AllocError>
     requires bound { connection.old.session.stage ≡ BoundTo tenant None }
-    requires asks { is_tenants_at setup.now.versions (front connection.old.session.unread) ≡ true }
+    requires asks { is_tenants_at setup.now.versions (in_front connection.old.session) ≡ true }
     requires free { fin.get parking.old connection.old.number ≡ None }
     ensures number { connection.new.number ≡ connection.old.number }
     ensures spent { IsSpent connection.old.session connection.new.session }

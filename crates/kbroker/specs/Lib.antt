@@ -1,4 +1,5 @@
 pub mod Causes
 pub mod Observed
 pub mod Pages
+pub mod Refusals
 pub mod Server

@@ -72,6 +72,7 @@ impl<L: PartitionLog + Drop, S: Store> Engine<L, S> {
             } }
         ensures store { self.new.store ≡ self.old.store }
         ensures strays { self.new.strays ≡ self.old.strays }
+        ensures by_store { self.new.by_store ≡ self.old.by_store }
     {
         let connection = &self.connections[i];
         if !connection.has_member() {

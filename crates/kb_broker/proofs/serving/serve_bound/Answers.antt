@@ -9,7 +9,7 @@ use Rattle.kb_tenant_api.specs.Waiters.{AreServed, IsWaitTold}
 use Rattle.kb_tenant.specs.declared.request.Request.{Request}
 use Rattle.kb_isolation_spec.specs.Machine.{Line}
 use Rattle.kb_isolation_spec.specs.Tenant.{answer, kept_after}
-use Rattle.kb_api_group.specs.Frames.{front}
+use Rattle.kb_isolation_spec.specs.Session.{in_front}
 use Rattle.kb_connection.specs.Fronts.{IsAsked, IsOwn, head_at}
 use Rattle.kb_tenant.specs.Told.{FailedBy}
 use Rattle.kb_tenants.specs.Tenants.{shelf_is_honest, IsCatalogFull}
@@ -67,7 +67,7 @@ returns-clause-ok g c = λ honest calm.
     let a = c.args in
     let q = c.in-Ok-Some.request in
     let s = a.connection.now.session in
-    let h = head_at a.setup.now.versions (front s.unread) in
+    let h = head_at a.setup.now.versions (in_front s) in
     let asked = subst (λ found. IfSome found (λ (r : Request). IsAsked a.setup.now s r.api_key r.api_version h r.body.now)) c.in-Ok-Some.field-0-is c.in-Ok-Some.ensures.asked in
     let numbered : q.correlation_id ≡ h.correlation_id = subst (λ found. IfSome found (λ (r : Request). r.correlation_id ≡ h.correlation_id)) c.in-Ok-Some.field-0-is c.in-Ok-Some.ensures.numbered in
     let same : q.connection ≡ a.connection.now.number = subst (λ found. IfSome found (λ (r : Request). r.connection ≡ a.connection.now.number)) c.in-Ok-Some.field-0-is c.in-Ok-Some.ensures.number in
@@ -83,7 +83,7 @@ returns-clause-keyed g c = λ honest.
     let a = c.args in
     let q = c.in-Ok-Some.request in
     let s = a.connection.now.session in
-    let h = head_at a.setup.now.versions (front s.unread) in
+    let h = head_at a.setup.now.versions (in_front s) in
     let asked = subst (λ found. IfSome found (λ (r : Request). IsAsked a.setup.now s r.api_key r.api_version h r.body.now)) c.in-Ok-Some.field-0-is c.in-Ok-Some.ensures.asked in
     let numbered : q.correlation_id ≡ h.correlation_id = subst (λ found. IfSome found (λ (r : Request). r.correlation_id ≡ h.correlation_id)) c.in-Ok-Some.field-0-is c.in-Ok-Some.ensures.numbered in
     let same : q.connection ≡ a.connection.now.number = subst (λ found. IfSome found (λ (r : Request). r.connection ≡ a.connection.now.number)) c.in-Ok-Some.field-0-is c.in-Ok-Some.ensures.number in
@@ -132,7 +132,7 @@ returns-clause-member g c =
     let t = a.tenant in
     let q = c.in-Ok-Some.request in
     let s = a.connection.now.session in
-    let h = head_at a.setup.now.versions (front s.unread) in
+    let h = head_at a.setup.now.versions (in_front s) in
     let asked = subst (λ found. IfSome found (λ (r : Request). IsAsked a.setup.now s r.api_key r.api_version h r.body.now)) c.in-Ok-Some.field-0-is c.in-Ok-Some.ensures.asked in
     let numbered : q.correlation_id ≡ h.correlation_id = subst (λ found. IfSome found (λ (r : Request). r.correlation_id ≡ h.correlation_id)) c.in-Ok-Some.field-0-is c.in-Ok-Some.ensures.numbered in
     let same = subst (λ found. IfSome found (λ (r : Request). r.connection ≡ a.connection.now.number)) c.in-Ok-Some.field-0-is c.in-Ok-Some.ensures.number in
@@ -184,7 +184,7 @@ returns-clause-told g c = λ honest.
     let disk = g.S.Store.disk in
     let ts = tenants_in log disk a.tenants.now in
     let failed = FailedBy (disk a.tenants.now.shelf.store).failures (disk us.shelf.store).failures us.shelf.next in
-    let h = head_at a.setup.now.versions (front s.unread) in
+    let h = head_at a.setup.now.versions (in_front s) in
     let asked = subst (λ found. IfSome found (λ (r : Request). IsAsked a.setup.now s r.api_key r.api_version h r.body.now)) c.in-Ok-Some.field-0-is c.in-Ok-Some.ensures.asked in
     let numbered : q.correlation_id ≡ h.correlation_id = subst (λ found. IfSome found (λ (r : Request). r.correlation_id ≡ h.correlation_id)) c.in-Ok-Some.field-0-is c.in-Ok-Some.ensures.numbered in
     let same : q.connection ≡ a.connection.now.number = subst (λ found. IfSome found (λ (r : Request). r.connection ≡ a.connection.now.number)) c.in-Ok-Some.field-0-is c.in-Ok-Some.ensures.number in
@@ -204,7 +204,7 @@ returns-in_err-hand_over-clause-told g c = λ honest.
     let disk = g.S.Store.disk in
     let ts = tenants_in log disk a.tenants.now in
     let failed = FailedBy (disk a.tenants.now.shelf.store).failures (disk us.shelf.store).failures us.shelf.next in
-    let h = head_at a.setup.now.versions (front s.unread) in
+    let h = head_at a.setup.now.versions (in_front s) in
     let asked = subst (λ found. IfSome found (λ (r : Request). IsAsked a.setup.now s r.api_key r.api_version h r.body.now)) c.in-Ok-Some.field-0-is c.in-Ok-Some.ensures.asked in
     let numbered : q.correlation_id ≡ h.correlation_id = subst (λ found. IfSome found (λ (r : Request). r.correlation_id ≡ h.correlation_id)) c.in-Ok-Some.field-0-is c.in-Ok-Some.ensures.numbered in
     let same : q.connection ≡ a.connection.now.number = subst (λ found. IfSome found (λ (r : Request). r.connection ≡ a.connection.now.number)) c.in-Ok-Some.field-0-is c.in-Ok-Some.ensures.number in

@@ -67,7 +67,7 @@ class Crate:
 
     def __init__(self, crate, edits: List[str], below, scratch: str):
         self.name, self.room = crate.name, Room(crate, below, scratch)
-        # (where rt ci has kept the crate's own library, all of it is proved as it stands)
+        # (where the crate's own library is there, all of it is proved as it stands)
         self.is_proved = below.has(crate)
         # (where there is no code, the definitions are what is tried, and whichever law is false then refuses)
         self.tried = ("src/", "specs/") if source.is_of_laws(crate.folder) else ("src/",)

@@ -1,21 +1,26 @@
 -- The disk that a store with a cache is, and what its cache says of it.
-use Rattle.std.specs.Prelude.{◌≡◌, ◌≤◌, ◌<◌, ◌+◌, ℕ, List, [], length, take, drop, Option, Some, None, Bool, false, cond, ◌⊎◌, ◌||◌, nat_lt, Result, Ok, Err}
+use Rattle.std.specs.Prelude.{◌≡◌, ◌≤◌, ◌<◌, ◌+◌, ℕ, List, [], length, take, drop, Option, Some, None, Bool, false, cond, ◌⊎◌, ◌||◌, nat_lt, true, Result, Ok, Err}
 use Rattle.kb_store.specs.declared.fault.StoreFault.{StoreFault}
-use Rattle.std.specs.List.{AllByRecursion}
+use Rattle.std.specs.BTreeMap.{is_at}
+use Rattle.std.specs.List.{AllByRecursion, list_any}
+use Rattle.std.specs.Ordering.{nat_cmp}
 use Rattle.std.specs.declared.vec.Vec.{Vec}
 use Rattle.lru.specs.LruCache.{LruCache}
 use Rattle.kb_store.specs.Disk.{Disk, IsThere, len_of, bytes_of}
 use Rattle.kb_cache.specs.Kept.{Entry, AreWithin, after_keep, behind_cut, is_kept, reads, seen, total}
 
--- what callers see of the store: the one inside, what is kept of its files, and the limits
+-- what callers see of the store: the one inside, what is kept of its files, the limits, the files that were read since something was
+-- appended, and whether anything was
 pub record Caching (S : Type 0) : Type 0 where
   pub store : S
   pub entries : List Entry
   pub most_entries : ℕ
   pub most_bytes : ℕ
+  pub asked : List ℕ
+  pub writes : Bool
 
-abbrev pub caching : {S : Type 0} → S → List Entry → ℕ → ℕ → Caching S
-caching s es n b = record { store = s; entries = es; most_entries = n; most_bytes = b }
+abbrev pub caching : {S : Type 0} → S → List Entry → ℕ → ℕ → List ℕ → Bool → Caching S
+caching s es n b a w = record { store = s; entries = es; most_entries = n; most_bytes = b; asked = a; writes = w }
 
 -- the entries of a cache that is made at its first use
 abbrev pub entries_in : {A : Type 0} → Option (LruCache (ℕ × ℕ) (Vec ℕ A)) → List Entry
@@ -40,17 +45,35 @@ AreRight d es = AllByRecursion (IsRight d) es
 abbrev pub is_kept_in : {S : Type 0} → Caching S → ℕ → ℕ → ℕ → Bool
 is_kept_in s file at n = is_kept s.entries file at n
 
--- The entries and the limits are as they were.
-pub record StaysThere {S : Type 0} (old new : Caching S) : Type 0 where
+-- The file was read since something was appended.
+abbrev pub is_asked : {S : Type 0} → Caching S → ℕ → Bool
+is_asked s file = list_any (is_at (nat_cmp file)) s.asked
+
+-- The limits and the notes are as they were.
+pub record Stays {S : Type 0} (old new : Caching S) : Type 0 where
+  pub most_entries : new.most_entries ≡ old.most_entries
+  pub most_bytes : new.most_bytes ≡ old.most_bytes
+  pub asked : new.asked ≡ old.asked
+  pub writes : new.writes ≡ old.writes
+
+-- The entries, the limits and the notes are as they were.
+abbrev pub StaysThere : {S : Type 0} → Caching S → Caching S → Type 0
+StaysThere old new = (new.entries ≡ old.entries) × Stays old new
+
+-- The entries and the limits are as they were, and so are the notes, but that something was appended.
+pub record PassesBy {S : Type 0} (old new : Caching S) : Type 0 where
   pub entries : new.entries ≡ old.entries
   pub most_entries : new.most_entries ≡ old.most_entries
   pub most_bytes : new.most_bytes ≡ old.most_bytes
+  pub asked : new.asked ≡ old.asked
+  pub writes : new.writes ≡ true
 
 -- The entries of the file that end behind the length are gone, and the others are in their order.
 pub record Drops {S : Type 0} (old : Caching S) (file len : ℕ) (new : Caching S) : Type 0 where
   pub entries : new.entries ≡ behind_cut file len old.entries
   pub most_entries : new.most_entries ≡ old.most_entries
   pub most_bytes : new.most_bytes ≡ old.most_bytes
+  pub writes : new.writes ≡ old.writes
 
 -- more than a read may have that is kept
 abbrev pub is_long : ℕ → Bool
@@ -66,8 +89,7 @@ after_read old file at n (Err e) bytes = (reads n old.entries file at n).1
 
 pub record ReadsThrough {S : Type 0} (old : Caching S) (file at n : ℕ) (result : Result Bool StoreFault) (bytes : List ℕ) (new : Caching S) : Type 0 where
   pub entries : new.entries ≡ after_read old file at n result bytes
-  pub most_entries : new.most_entries ≡ old.most_entries
-  pub most_bytes : new.most_bytes ≡ old.most_bytes
+  pub rest : Stays old new
 
 -- What is kept after an append: the bytes under the place where they begin, or not, as the answer tells; and nothing more after a
 -- refusal, of the append or of the file's length.
@@ -78,8 +100,7 @@ IsAfterAppend old file at bytes (Err e) es = es ≡ old.entries
 
 pub record WritesThrough {S : Type 0} (old : Caching S) (file at : ℕ) (bytes : List ℕ) (result : Result Bool StoreFault) (new : Caching S) : Type 0 where
   pub entries : IsAfterAppend old file at bytes result new.entries
-  pub most_entries : new.most_entries ≡ old.most_entries
-  pub most_bytes : new.most_bytes ≡ old.most_bytes
+  pub rest : Stays old new
 
 -- a cache that has not been made, or one that has room for so many entries
 abbrev pub HasCap : {A : Type 0} → ℕ → Option (LruCache (ℕ × ℕ) (Vec ℕ A)) → Type 0

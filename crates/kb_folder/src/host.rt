@@ -123,14 +123,28 @@ impl<R: Files<File = File> + AllocGlobal + Clone + Drop> HostFolder<R> {
 
     /// A file, opened.
     pub(crate) fn file(&mut self, file: u64) -> io::Result<&File> {
-        if !self.open.contains(&file) {
-            let path = self.path(file)?;
-            let mut options = OpenOptions::new();
-            options.read(true).write(self.writes);
-            let opened = self.open_with(&options, path.as_str())?;
-            self.keep_open(file, opened)?;
+        self.open_one(file)?;
+        self.opened(file)
+    }
+
+    /// Opens a file, where it is not open. It is the one that was used last then.
+    pub(crate) fn open_one(&mut self, file: u64) -> io::Result<()> {
+        if self.opened(file).is_ok() || self.open.promote(&file) {
+            return Ok(());
         }
-        self.open.get(&file).ok_or(ErrorKind::NotFound.into())
+        let path = self.path(file)?;
+        let mut options = OpenOptions::new();
+        options.read(true).write(self.writes);
+        let opened = self.open_with(&options, path.as_str())?;
+        self.keep_open(file, opened)
+    }
+
+    /// A file, where it is open and was used last. It costs no look-up.
+    pub(crate) fn opened(&self, file: u64) -> io::Result<&File> {
+        match self.open.peek_mru() {
+            Some((last, opened)) if *last == file => Ok(opened),
+            _ => Err(ErrorKind::NotFound.into()),
+        }
     }
 
     /// Opens a file. While the system has no descriptor for it the file that was used least lately is closed, and it is tried again.

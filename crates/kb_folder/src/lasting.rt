@@ -51,9 +51,9 @@ impl<R: Files<File = File> + AllocGlobal + Clone + Drop> HostFolder<R> {
 
     /// A file, opened to be changed.
     pub(crate) fn to_change(&mut self, file: u64) -> io::Result<&File> {
-        self.file(file)?;
+        self.open_one(file)?;
         self.note(file)?;
-        self.file(file)
+        self.opened(file)
     }
 
     /// Notes that a name is to change.

@@ -6,13 +6,16 @@
 #![tactic(auto)]
 
 mod batch;
+mod ids;
 mod judge;
 mod kept;
 mod producer;
+mod promises;
 mod recent;
 mod table;
 mod verdict;
 
 pub use kept::Kept;
+pub use promises::next_id_is_least;
 pub use table::ProducerTable;
 pub use verdict::Verdict;

@@ -1,8 +1,10 @@
 //! The table of a partition's producers.
 ghost use Rattle.std.specs.Prelude.{◌≡◌, ◌≤◌, ◌<◌, ◌∷◌, ◌++◌, [], OnOk, drop};
+ghost use Rattle.kb_producers.specs.Ids.{ids_kept, least_above};
 ghost use Rattle.kb_producers.specs.Verdict.{verdict};
 ghost use Rattle.kb_producers.specs.Table.{TableState, since};
 
+use crate::ids::next_among;
 use crate::judge::judged;
 use crate::kept::Kept;
 use crate::producer::Producer;
@@ -54,6 +56,14 @@ impl ProducerTable {
             Some(producer) => judged(batch, producer.recent.as_slice()),
             None => judged(batch, &[]),
         }
+    }
+
+    /// The least number from 0 on that is above the producer id of each of these batches. It goes over all of them.
+    pub fn next_id(&self) -> u64
+        ensures { result ≡ least_above (ids_kept self.now.kept) }
+    {
+        let (front, back) = self.list.as_slices();
+        next_among(back, next_among(front, 0))
     }
 
     /// Asks for the memory that one more batch takes.

@@ -21,6 +21,7 @@ pub mod Restored
 pub mod Retained
 pub mod RetainedAll
 pub mod Sized
+pub mod SkippedIds
 pub mod Spared
 pub mod Starts
 pub mod StillKept

@@ -105,7 +105,7 @@ module _ {L T : Type 0} (log : L → Log) (old mid : Parts L) (later : Log) (d d
 
   module _ (kept : mid.refusals ≡ old.refusals) (same : d'.honest → Agrees log old d.files → world_of log mid d'.files ≡ world_of log old d.files)
       (is : (g : CatalogFault) → unless (Some g) ≡ (world_of log old d.files, Err g)) where
-    want_told : (f : CatalogFault) → IsLogCause (on_shelf (meta log old) d next) f (on_shelf later d' next') → IsRefused before (after f) (CatalogWant f)
+    pub want_told : (f : CatalogFault) → IsLogCause (on_shelf (meta log old) d next) f (on_shelf later d' next') → IsRefused before (after f) (CatalogWant f)
     want_told catalog.Name cause = absurd cause
     want_told catalog.Exists cause = absurd cause
     want_told catalog.Partitions cause = absurd cause

@@ -11,10 +11,12 @@
 #![tactic(auto)]
 
 mod fault;
+mod ids;
 mod logs;
 mod partition;
 mod partitions;
 mod parts;
+mod promises;
 mod records;
 mod retention;
 mod retention_time;
@@ -28,4 +30,5 @@ pub use fault::PartitionFault;
 pub use partition::Partition;
 pub use partitions::Partitions;
 pub use parts::Parts;
+pub use promises::skipped_ids_are_fresh;
 pub use topic_partition::TopicPartition;

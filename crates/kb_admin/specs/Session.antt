@@ -4,7 +4,8 @@ use Rattle.std.specs.Ordering.{int_eq}
 use Rattle.kb_wire.specs.declared.fault.WireFault.{WireFault}
 use Rattle.kb_wire.specs.declared.fault.ReadFault.{ReadFault}
 use Rattle.kb_wire.specs.declared.fault.ReadFault.TheVariants as read_faults
-use Rattle.kb_api_group.specs.Frames.{Front, Whole, Partial, TooSmall, TooLarge, front}
+use Rattle.kb_api_group.specs.Frames.{Front, Whole, Partial, TooSmall, TooLarge}
+use Rattle.kb_api_group.specs.ClientFrames.{front}
 use Rattle.kb_client.specs.Requests.{handshake_text}
 use Rattle.kb_client.specs.Replies.{body_for}
 use Rattle.kb_admin.specs.declared.fault.AdminFault.{AdminFault}

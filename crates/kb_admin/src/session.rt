@@ -10,7 +10,7 @@ use crate::short_text::ShortText;
 use crate::stage::Stage;
 use crate::task::Task;
 use crate::{replies, requests};
-use kb_api_group::{FrameFeed, Next};
+use kb_api_group::{FrameFeed, Next, REPLY_LIMIT};
 use kb_wire::{Array, ReadFault};
 use std::alloc::{AllocError, Global};
 use std::marker::Model;
@@ -102,13 +102,13 @@ impl Session {
             return Err(AdminFault::Protocol);
         }
         self.unread.push(piece)?;
-        let frame = match self.unread.next() {
+        let frame = match self.unread.next(REPLY_LIMIT) {
             Next::More => return Ok(Heard::More),
             Next::Frame(frame) => frame.as_slice(),
             Next::TooSmall | Next::TooLarge => return Err(AdminFault::Protocol),
         };
         let heard = self.reply(frame);
-        self.unread.skip();
+        self.unread.skip(REPLY_LIMIT);
         if self.unread.unread() > 0 {
             return Err(AdminFault::Protocol);
         }

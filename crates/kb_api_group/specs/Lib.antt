@@ -1,3 +1,4 @@
+pub mod ClientFrames
 pub mod FrameStream
 pub mod Frames
 pub mod Lawful

@@ -11,8 +11,8 @@ use std::marker::Model;
 /// The least size of a request: its key, its version and its correlation id.
 const LEAST_SIZE: i32 = 8;
 
-/// The greatest size of a request that is read.
-const GREATEST_SIZE: i32 = 2_097_152;
+/// The greatest size of a reply that the clients here read.
+pub const REPLY_LIMIT: u32 = 2_097_152;
 
 /// What stands in front of the unread bytes.
 #[derive(Drop)]
@@ -23,7 +23,7 @@ pub enum Next<'a> {
     More,
     /// A size below 8.
     TooSmall,
-    /// A size above 2,097,152.
+    /// A size above the limit.
     TooLarge,
 }
 
@@ -77,18 +77,18 @@ impl FrameFeed {
         self.bytes.len() - self.start
     }
 
-    /// What stands in front. A frame is lent and stays unread until `skip`. It takes no memory.
-    pub fn next(&self) -> Next<'_>
-        ensures { result ≡ answer (front self.now) }
+    /// What stands in front, where no size above `limit` is read. A frame is lent and stays unread until `skip`. It takes no memory.
+    pub fn next(&self, limit: u32) -> Next<'_>
+        ensures { result ≡ answer (front limit self.now) }
     {
-        front_of(&self.bytes[self.start..])
+        front_of(&self.bytes[self.start..], limit)
     }
 
-    /// Leaves the frame in front behind. Where no whole frame stands in front nothing changes. It takes no memory.
-    pub fn skip(&mut self)
-        ensures { self.new ≡ behind (front self.old) self.old }
+    /// Leaves the frame in front behind. Where no whole frame of at most `limit` stands in front nothing changes. It takes no memory.
+    pub fn skip(&mut self, limit: u32)
+        ensures { self.new ≡ behind (front limit self.old) self.old }
     {
-        let size = match self.next() {
+        let size = match self.next(limit) {
             Next::Frame(frame) => frame.as_slice().len(),
             _ => return,
         };
@@ -127,10 +127,10 @@ fn drop_front(bytes: &mut Vec<u8>, n: usize)
     bytes.truncate(unread);
 }
 
-/// What bytes begin with.
+/// What bytes begin with, where no size above `limit` is read.
 #[tactic(auto, unfolding(crate::specs::Frames::front, kb_wire::specs::Codec::octets))]
-fn front_of(bytes: &[u8]) -> Next<'_>
-    ensures { result ≡ answer (front bytes.now) }
+fn front_of(bytes: &[u8], limit: u32) -> Next<'_>
+    ensures { result ≡ answer (front limit bytes.now) }
 {
     let mut cursor = Cursor::new(bytes);
     let Ok(size) = cursor.i32() else {
@@ -139,7 +139,7 @@ fn front_of(bytes: &[u8]) -> Next<'_>
     if size < LEAST_SIZE {
         return Next::TooSmall;
     }
-    if size > GREATEST_SIZE {
+    if size as u32 > limit {
         return Next::TooLarge;
     }
     match cursor.take(size as usize) {
@@ -150,35 +150,35 @@ fn front_of(bytes: &[u8]) -> Next<'_>
 
 /// What stands in front is what the protocol says and nothing else, so the four answers exclude each other.
 pub fn one_front()
-    ensures found { (bytes : List ℕ) → Fronts bytes (front bytes) }
-    ensures only { (bytes : List ℕ) (other : Front) → Fronts bytes other → front bytes ≡ other }
+    ensures found { (limit : ℕ) (bytes : List ℕ) → Fronts limit bytes (front limit bytes) }
+    ensures only { (limit : ℕ) (bytes : List ℕ) (other : Front) → Fronts limit bytes other → front limit bytes ≡ other }
 {}
 
 /// How long a whole frame is, and how many bytes it takes from the front.
 pub fn whole_frame()
-    ensures size { (bytes frame rest : List ℕ) → front bytes ≡ Whole frame rest → IsSize (length frame) }
-    ensures len { (bytes frame rest : List ℕ) → front bytes ≡ Whole frame rest
+    ensures size { (limit : ℕ) (bytes frame rest : List ℕ) → front limit bytes ≡ Whole frame rest → IsSize limit (length frame) }
+    ensures len { (limit : ℕ) (bytes frame rest : List ℕ) → front limit bytes ≡ Whole frame rest
         → length bytes ≡ 4 + length frame + length rest }
 {}
 
 /// More bytes behind change no whole frame and no bad size: a bad size stays in front and is answered again.
 pub fn more_bytes()
-    ensures { (bytes more : List ℕ) → front (bytes ++ more) ≡ with_more (front bytes) bytes more }
+    ensures { (limit : ℕ) (bytes more : List ℕ) → front limit (bytes ++ more) ≡ with_more limit (front limit bytes) bytes more }
 {}
 
 /// In whatever pieces the bytes came and whenever frames were taken, those frames are the ones of the bytes joined, and
 /// what is unread is what stands behind them.
 pub fn any_pieces()
-    ensures split { (old new : List ℕ) (events : List Event) → Run old events new
-        → Splits (old ++ joined events) (taken events) new }
-    ensures same { (old new other : List ℕ) (events others : List Event) → Run old events new
-        → Run old others other → joined events ≡ joined others → IsStuck new → IsStuck other
+    ensures split { (limit : ℕ) (old new : List ℕ) (events : List Event) → Run limit old events new
+        → Splits limit (old ++ joined events) (taken events) new }
+    ensures same { (limit : ℕ) (old new other : List ℕ) (events others : List Event) → Run limit old events new
+        → Run limit old others other → joined events ≡ joined others → IsStuck limit new → IsStuck limit other
         → (taken events ≡ taken others) × (new ≡ other) }
 {}
 
 /// A stream has one reading: where no frame stands in front of either rest, the frames are the same.
 pub fn one_reading()
-    ensures { (stream rest other : List ℕ) (frames others : List (List ℕ)) → Splits stream frames rest
-        → Splits stream others other → IsStuck rest → IsStuck other
+    ensures { (limit : ℕ) (stream rest other : List ℕ) (frames others : List (List ℕ)) → Splits limit stream frames rest
+        → Splits limit stream others other → IsStuck limit rest → IsStuck limit other
         → (frames ≡ others) × (rest ≡ other) }
 {}

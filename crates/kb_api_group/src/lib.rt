@@ -33,7 +33,9 @@ pub use describe_groups::{
     DescribeGroupsReply, DescribeGroupsRequest, DescribedGroup, DescribedMember,
 };
 pub use find_coordinator::{FindCoordinatorReply, FindCoordinatorRequest};
-pub use frames::{FrameFeed, Next, any_pieces, more_bytes, one_front, one_reading, whole_frame};
+pub use frames::{
+    FrameFeed, Next, REPLY_LIMIT, any_pieces, more_bytes, one_front, one_reading, whole_frame,
+};
 pub use header::{RequestHeader, RequestStart};
 pub use heartbeat::{HeartbeatReply, HeartbeatRequest};
 pub use join_group::{JoinGroupReply, JoinGroupRequest, JoinMember, JoinProtocol};

@@ -5,7 +5,8 @@ use Rattle.std.specs.Ordering.{int_eq}
 use Rattle.kb_wire.specs.ErrorCode.{code_of}
 use Rattle.kb_wire.specs.declared.error_code.ErrorCode.TheVariants.{SaslAuthenticationFailed, TopicAlreadyExists}
 use Rattle.kb_wire.specs.declared.fault.WireFault.{WireFault}
-use Rattle.kb_api_group.specs.Frames.{Front, Whole, Partial, TooSmall, TooLarge, front}
+use Rattle.kb_api_group.specs.Frames.{Front, Whole, Partial, TooSmall, TooLarge}
+use Rattle.kb_api_group.specs.ClientFrames.{front}
 use Rattle.kb_client.specs.declared.fault.ClientFault.{ClientFault}
 use Rattle.kb_client.specs.declared.fault.ClientFault.TheVariants as faults
 use Rattle.kb_client.specs.declared.stage.ProducerId.{ProducerId}

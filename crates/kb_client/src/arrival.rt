@@ -1,16 +1,14 @@
 //! What came since a request.
 
 ghost use Rattle.std.specs.Prelude.{◌≡◌};
-ghost use Rattle.kb_api_group.specs.Frames.{front};
+ghost use Rattle.kb_api_group.specs.ClientFrames.{front};
 ghost use Rattle.kb_client.specs.Fetched.{arrival_of};
 
+use kb_api_group::REPLY_LIMIT;
 use kb_wire::{Blob, Cursor};
 
 /// The least size of a frame.
 const LEAST_SIZE: i32 = 8;
-
-/// The greatest size of a frame that is read.
-const GREATEST_SIZE: i32 = 2_097_152;
 
 /// What the bytes are that came since a request.
 #[derive(Drop)]
@@ -33,7 +31,7 @@ impl<'a> Arrival<'a> {
         let Ok(size) = cursor.i32() else {
             return Arrival::Part;
         };
-        if size < LEAST_SIZE || size > GREATEST_SIZE {
+        if size < LEAST_SIZE || size as u32 > REPLY_LIMIT {
             return Arrival::Fault;
         }
         let Ok(frame) = cursor.take(size as usize) else {

@@ -1,7 +1,7 @@
 //! The consumer: the lines of a partition, each once and in order.
 
 ghost use Rattle.std.specs.Prelude.{◌≡◌, ◌≤◌, ◌++◌, true, None, List, ℕ, [], length, string_bytes, IfOk, OnOk, OnErr};
-ghost use Rattle.kb_api_group.specs.Frames.{front};
+ghost use Rattle.kb_api_group.specs.ClientFrames.{front};
 ghost use Rattle.kb_client.specs.Fetched.{arrival_of, fetched_partition};
 ghost use Rattle.kb_client.specs.declared.fetching.Fetching.TheVariants.{Ended};
 ghost use Rattle.kb_client.specs.Consumer.{Hears, fresh, connected, entered, heard, fetched, given, read_at, fed, fault_at, is_finished};

@@ -7,7 +7,7 @@ ghost use Rattle.kb_client.specs.Producer.{Inputs, TakesLine, OutputsText, IsReq
 ghost use Rattle.kb_client.specs.Producer.{Stands};
 ghost use Rattle.kb_client.specs.Stages.{fault_of};
 ghost use Rattle.kb_client.specs.Reactions.{reacted};
-ghost use Rattle.kb_api_group.specs.Frames.{front};
+ghost use Rattle.kb_api_group.specs.ClientFrames.{front};
 
 use crate::fault::ClientFault;
 use crate::line::{Line, MAX_LINE_BYTES};
@@ -18,7 +18,7 @@ use crate::replies::{
 use crate::requests;
 use crate::stage::{Ending, ProducerId, Stage};
 use crate::target::{Login, Target};
-use kb_api_group::{FrameFeed, Next};
+use kb_api_group::{FrameFeed, Next, REPLY_LIMIT};
 use std::alloc::{AllocError, Global};
 use std::collections::VecDeque;
 use std::marker::Model;
@@ -287,13 +287,13 @@ impl ProducerCore {
     fn read(&mut self)
         ensures { self.new ≡ read_at (front self.old.unread) self.old }
     {
-        let frame = match self.unread.next() {
+        let frame = match self.unread.next(REPLY_LIMIT) {
             Next::More => return,
             Next::Frame(frame) => frame.as_slice(),
             Next::TooSmall | Next::TooLarge => return self.end(Ending::Protocol),
         };
         let reaction = self.reaction(frame);
-        self.unread.skip();
+        self.unread.skip(REPLY_LIMIT);
         if self.unread.unread() > 0 {
             return self.end(Ending::Protocol);
         }

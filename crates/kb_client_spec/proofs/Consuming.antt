@@ -8,7 +8,8 @@ use Rattle.kb_wire.specs.Codec.{int32}
 use Rattle.kb_wire.specs.ErrorCode.{code_of}
 use Rattle.kb_wire.specs.declared.api_key.TheConstants.{FETCH, SASL_HANDSHAKE, SASL_AUTHENTICATE}
 use Rattle.kb_wire.specs.declared.error_code.ErrorCode.TheVariants.{SaslAuthenticationFailed}
-use Rattle.kb_api_group.specs.Frames.{Whole, Partial, front}
+use Rattle.kb_api_group.specs.Frames.{Whole, Partial}
+use Rattle.kb_api_group.specs.ClientFrames.{front}
 use Rattle.kb_api_group.specs.Layouts.{request_header}
 use Rattle.kb_api_group.specs.declared.plain.PlainLogin.{PlainLogin}
 use Rattle.kb_client.specs.declared.fault.ClientFault.{ClientFault}

@@ -2,7 +2,8 @@
 use Rattle.std.proofs.Common.{◌≡◌, ℕ, Bool, true, false, List, [], ◌∷◌, ◌++◌, length, map, Option, Some, None, refl, inl, inr}
 use Rattle.std.specs.Prelude.{FitsSigned, ◌⊎◌}
 use Rattle.std.specs.Int.{w32}
-use Rattle.kb_api_group.specs.Frames.{Whole, front}
+use Rattle.kb_api_group.specs.Frames.{Whole}
+use Rattle.kb_api_group.specs.ClientFrames.{front}
 use Rattle.kb_client.specs.declared.stage.ProducerId.{ProducerId}
 use Rattle.kb_client.specs.declared.stage.Ending.TheVariants as endings
 use Rattle.kb_client.specs.declared.stage.Stage.{Stage}

@@ -9,7 +9,8 @@ use Rattle.kb_wire.specs.Codec.{int32}
 use Rattle.kb_wire.specs.ErrorCode.{code_of}
 use Rattle.kb_wire.specs.declared.api_key.TheConstants.{PRODUCE, SASL_HANDSHAKE, CREATE_TOPICS, INIT_PRODUCER_ID, SASL_AUTHENTICATE}
 use Rattle.kb_wire.specs.declared.error_code.ErrorCode.TheVariants.{SaslAuthenticationFailed, TopicAlreadyExists}
-use Rattle.kb_api_group.specs.Frames.{Whole, Partial, front}
+use Rattle.kb_api_group.specs.Frames.{Whole, Partial}
+use Rattle.kb_api_group.specs.ClientFrames.{front}
 use Rattle.kb_api_group.specs.Layouts.{request_header}
 use Rattle.kb_batch.specs.BatchLaws.{is_accepted, batch_small}
 use Rattle.kb_batch.specs.Header.{base_sequence_of}

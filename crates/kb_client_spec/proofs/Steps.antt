@@ -1,7 +1,8 @@
 -- Each event but the receiver's own leaves what holds.
 use Rattle.std.proofs.Common.{◌≡◌, ℕ, zero, suc, Bool, true, false, cond, List, [], ◌∷◌, ◌++◌, take, drop, Option, Some, None, refl, sym, ap, subst, ◌∙◌, append_assoc, inl, inr}
 use Rattle.std.proofs.lemmas.List.{append-nil, take-append-drop}
-use Rattle.kb_api_group.specs.Frames.{Whole, Partial, front}
+use Rattle.kb_api_group.specs.Frames.{Whole, Partial}
+use Rattle.kb_api_group.specs.ClientFrames.{front}
 use Rattle.kb_client.specs.declared.fault.ClientFault.{ClientFault}
 use Rattle.kb_client.specs.declared.stage.ProducerId.{ProducerId}
 use Rattle.kb_client.specs.declared.stage.Stage.{Stage}

@@ -9,7 +9,9 @@ use Rattle.std.proofs.lemmas.List.{append-nil, length-append}
 use Rattle.kb_wire.specs.Codec.{Codec, int, int16, int32, int64, counted, nullable_counted, sized, nullable, octets, utf8, items, string, nullable_string, blob, nullable_blob, array, whole, ◌⊗◌}
 use Rattle.kb_wire.specs.Fits.{blob_fits, null_string_fits}
 use Rattle.kb_wire.specs.Laws.{IsLawful, blob_lawful}
-use Rattle.kb_api_group.specs.Frames.{Front, Whole, Partial, TooSmall, TooLarge, front}
+use Rattle.kb_api_group.specs.Frames.{Front, Whole, Partial, TooSmall, TooLarge}
+use Rattle.kb_api_group.specs.Frames as frames
+use Rattle.kb_api_group.specs.ClientFrames.{REPLY_LIMIT, front}
 use Rattle.kb_api_group.specs.FrameStream.{with_more, IsFrame}
 use Rattle.kb_api_group.specs.Layouts.{request_header}
 use Rattle.kb_api_group.specs.Lawful.{request_header_lawful}
@@ -89,21 +91,21 @@ none_len c = omega (arith, length-append (int32.written (pos 0)) [], int32_len (
 -- ---- frames
 
 pub front_nothing : front [] ≡ Partial
-unfolding front int
+unfolding frames.front int
 front_nothing = refl
 
-frame_text : (m : List ℕ) → 8 ≤ length m → length m ≤ 2097152 → IsFrame (blob.written m) m
+frame_text : (m : List ℕ) → 8 ≤ length m → length m ≤ REPLY_LIMIT → IsFrame REPLY_LIMIT (blob.written m) m
 unfolding sized counted octets
 frame_text m least most = record { size = (least, most); spelled = blob_lawful.again m (tt, tt) (blob_fits m (omega (arith, most))) }
 
-pub front_text : (m : List ℕ) → 8 ≤ length m → length m ≤ 2097152 → front (blob.written m) ≡ Whole m []
-front_text m least most = front-only (blob.written m) (Whole m []) (blob.written m, frame_text m least most, sym (append-nil (blob.written m)))
+pub front_text : (m : List ℕ) → 8 ≤ length m → length m ≤ REPLY_LIMIT → front (blob.written m) ≡ Whole m []
+front_text m least most = front-only REPLY_LIMIT (blob.written m) (Whole m []) (blob.written m, frame_text m least most, sym (append-nil (blob.written m)))
 
 behind_nothing : (r y : List ℕ) → r ++ y ≡ [] → y ≡ []
 behind_nothing [] y e = e
 behind_nothing (b ∷ r) y e = absurd cc
 
-partial_by : (F : Front) (x y m : List ℕ) → with_more F x y ≡ Whole m [] → (y ≡ [] → ⊥) → F ≡ Partial
+partial_by : (F : Front) (x y m : List ℕ) → with_more REPLY_LIMIT F x y ≡ Whole m [] → (y ≡ [] → ⊥) → F ≡ Partial
 partial_by (Whole f r) x y m e some = let none : r ++ y ≡ [] = cc in absurd (some (behind_nothing r y none))
 partial_by Partial x y m e some = refl
 partial_by TooSmall x y m e some = absurd cc
@@ -111,7 +113,7 @@ partial_by TooLarge x y m e some = absurd cc
 
 -- a part of a frame is less than a frame
 pub front_part : (x y m : List ℕ) → front (x ++ y) ≡ Whole m [] → (y ≡ [] → ⊥) → front x ≡ Partial
-front_part x y m e some = partial_by (front x) x y m (sym (more_bytes x y) ∙ e) some
+front_part x y m e some = partial_by (front x) x y m (sym (more_bytes REPLY_LIMIT x y) ∙ e) some
 
 -- ---- requests
 

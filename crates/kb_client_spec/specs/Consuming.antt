@@ -6,7 +6,8 @@ use Rattle.std.specs.Ordering.{int_eq}
 use Rattle.kb_wire.specs.Codec.{whole}
 use Rattle.kb_wire.specs.declared.api_key.TheConstants.{FETCH}
 use Rattle.kb_wire.specs.declared.fault.WireFault.{WireFault}
-use Rattle.kb_api_group.specs.Frames.{Front, Whole, Partial, TooSmall, TooLarge, front}
+use Rattle.kb_api_group.specs.Frames.{Front, Whole, Partial, TooSmall, TooLarge}
+use Rattle.kb_api_group.specs.ClientFrames.{front}
 use Rattle.kb_api_group.specs.Layouts.{request_header}
 use Rattle.kb_api_group.specs.declared.header.RequestHeader.{RequestHeader}
 use Rattle.kb_api_group.specs.declared.plain.PlainLogin.{PlainLogin}

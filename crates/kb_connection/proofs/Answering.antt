@@ -4,7 +4,6 @@ use Rattle.std.proofs.Common.{◌∙◌, subst, arith, nat_lt, Result, Ok, Err, 
 use Rattle.std.proofs.lemmas.Bool.Decides.{nat_tests}
 use Rattle.std.specs.declared.vec.Vec.{Vec}
 use Rattle.kb_tenant_state.specs.declared.topic_partition.TopicPartition.{TopicPartition}
-use Rattle.kb_api_group.specs.Frames.{front}
 use Rattle.kb_api_group.specs.FrameStream.{behind}
 use Rattle.kb_api_group.specs.declared.api_versions.ApiVersion.{ApiVersion}
 use Rattle.kb_wire.specs.Codec.{int, int32}
@@ -19,10 +18,11 @@ use Rattle.kb_isolation_spec.specs.declared.shut.Shut.TheVariants as causes
 use Rattle.kb_isolation_spec.specs.declared.head.Head.{Head}
 use Rattle.kb_isolation_spec.specs.Greeting.{Setup}
 use Rattle.kb_isolation_spec.specs.Tenant.{Wait}
-use Rattle.kb_isolation_spec.specs.Session.{Stage, Greets, BoundTo, Session, shut_down, replied, throttled, unanswerable, without_wait, is_free}
+use Rattle.kb_isolation_spec.specs.Session.{Stage, Greets, BoundTo, Session, shut_down, replied, throttled, unanswerable, without_wait, is_free, in_front}
 use Rattle.kb_isolation_spec.proofs.Laws.{replied-le}
 use Rattle.kb_isolation_spec.specs.Machine.{Line, after_reaction, plainly, told}
 use Rattle.kb_isolation_spec.proofs.Owners.{stage-replied, stage-shut}
+use Rattle.kb_isolation_spec.proofs.RequestLimits.{limit-replied}
 use Rattle.kb_isolation_spec.proofs.Turns.{free-replied, free-without}
 use Rattle.kb_connection.specs.Fronts.{IsAsked, head_at, is_tenants_at}
 use Rattle.kb_connection.specs.TenantAnswers.{body_of, given, given_reply, is_quiet, parked, reply_to, spoken, spoken_reply}
@@ -135,27 +135,27 @@ served_is : (head : Head) (version : ℤ) (body : List ℕ) (reaction : service.
 served_is head version body (Plain reaction) answer s no_wait h = answer_is head version body reaction answer s no_wait h
 served_is head version body Rebalances answer s no_wait h = absurd h
 
-pub gives : {E : Type 0} (setup : Setup) (result : Result (Unit {0}) E) (l m new : Line) (key version : ℤ) (head in_front : Head) (body : List ℕ) (reaction : service.Reaction) (all : AnyAnswer) (answer : Answer) → all ≡ any.Plain answer → IsNoWait answer → m ≡ with_session l (without_front l.session)
-    → ((versions : List ApiVersion) → in_front ≡ head_at versions (front l.session.unread))
-    → OnOk result (new ≡ with_session m (given in_front answer m.session)) → IsAsked setup l.session key version head body → service.IsAnswer head.correlation_id reaction all
+pub gives : {E : Type 0} (setup : Setup) (result : Result (Unit {0}) E) (l m new : Line) (key version : ℤ) (head first : Head) (body : List ℕ) (reaction : service.Reaction) (all : AnyAnswer) (answer : Answer) → all ≡ any.Plain answer → IsNoWait answer → m ≡ with_session l (without_front l.session)
+    → ((versions : List ApiVersion) → first ≡ head_at versions (in_front l.session))
+    → OnOk result (new ≡ with_session m (given first answer m.session)) → IsAsked setup l.session key version head body → service.IsAnswer head.correlation_id reaction all
     → OnOk result (new ≡ with_session l (after_reaction reaction head version body (without_front l.session)))
-gives setup (Ok u) l m new key version head in_front body reaction all answer is no_wait left stands done asks h =
-    done ∙ ap (λ (x : Line). with_session x (given in_front answer x.session)) left
+gives setup (Ok u) l m new key version head first body reaction all answer is no_wait left stands done asks h =
+    done ∙ ap (λ (x : Line). with_session x (given first answer x.session)) left
     ∙ ap (λ (x : Head). with_session l (given x answer (without_front l.session))) (stands setup.versions ∙ head_asked setup l.session key version head body asks)
     ∙ ap (with_session l) (served_is head version body reaction answer (without_front l.session) no_wait (subst (service.IsAnswer head.correlation_id reaction) is h))
-gives setup (Err fault) l m new key version head in_front body reaction all answer is no_wait left stands done asks h = tt
+gives setup (Err fault) l m new key version head first body reaction all answer is no_wait left stands done asks h = tt
 
 -- 3. The request's bytes are gone
 
-less : (versions : List ApiVersion) (l new : Line) → is_tenants_at versions (front l.session.unread) ≡ true → length new.session.unread ≤ length (behind (front l.session.unread) l.session.unread) → length new.session.unread < length l.session.unread
-less versions l new asks few = let fewer = fewer-behind versions l.session.unread asks in omega arith
+less : (versions : List ApiVersion) (l new : Line) → is_tenants_at versions (in_front l.session) ≡ true → length new.session.unread ≤ length (behind (in_front l.session) l.session.unread) → length new.session.unread < length l.session.unread
+less versions l new asks few = let fewer = fewer-behind versions l.session asks in omega arith
 
 unread_parked : (fetch : Option FetchWait) (asked : Option (Head × ℤ × ℤ × List ℕ)) (s : Session) → (parked fetch asked s).unread ≡ s.unread
 unread_parked fetch None s = refl
 unread_parked fetch (Some a) s = refl
 
 pub less_parked : {E : Type 0} (versions : List ApiVersion) (result : Result (Unit {0}) E) (l new : Line) (fetch : Option FetchWait) (asked : Option (Head × ℤ × ℤ × List ℕ)) → OnOk result (new ≡ with_session l (parked fetch asked (without_front l.session)))
-    → OnErr result (new ≡ with_session l (shut_down causes.Memory l.session)) → is_tenants_at versions (front l.session.unread) ≡ true → length new.session.unread < length l.session.unread
+    → OnErr result (new ≡ with_session l (shut_down causes.Memory l.session)) → is_tenants_at versions (in_front l.session) ≡ true → length new.session.unread < length l.session.unread
 less_parked versions (Ok u) l new fetch asked ok err asks = less versions l new asks (omega (arith, ap (λ (x : Line). length x.session.unread) ok, ap length (unread_parked fetch asked (without_front l.session))))
 less_parked versions (Err fault) l new fetch asked ok err asks = less versions l new asks (omega (arith, ap (λ (x : Line). length x.session.unread) err))
 
@@ -172,7 +172,7 @@ stage_given head answers.NoReply s = refl
 stage_given head answers.Shut s = stage-shut s
 
 pub less_given : {E : Type 0} (versions : List ApiVersion) (result : Result (Unit {0}) E) (l m new : Line) (head : Head) (answer : Answer) → m ≡ with_session l (without_front l.session) → OnOk result (new ≡ with_session m (given head answer m.session))
-    → OnErr result (new ≡ with_session m (shut_down causes.Memory m.session)) → is_tenants_at versions (front l.session.unread) ≡ true → length new.session.unread < length l.session.unread
+    → OnErr result (new ≡ with_session m (shut_down causes.Memory m.session)) → is_tenants_at versions (in_front l.session) ≡ true → length new.session.unread < length l.session.unread
 less_given versions (Ok u) l m new head answer left ok err asks =
     less versions l new asks (omega (arith, ap (λ (x : Line). length x.session.unread) ok, unread_given head answer m.session, ap (λ (x : Line). length x.session.unread) left))
 less_given versions (Err fault) l m new head answer left ok err asks = less versions l new asks (omega (arith, ap (λ (x : Line). length x.session.unread) err))
@@ -255,14 +255,14 @@ puts (Ok u) l m new head answer same done =
     ap (λ (x : Line). x.session.output) done ∙ spoken_is head answer m.session ∙ ap (λ bytes. bytes ++ spoken head (any.Plain answer)) same
 puts (Err fault) l m new head answer same done = tt
 
-pub puts_given : {E : Type 0} (setup : Setup) (result : Result (Unit {0}) E) (l m new : Line) (key version : ℤ) (head in_front : Head) (body : List ℕ) (all : AnyAnswer) (answer : Answer)
+pub puts_given : {E : Type 0} (setup : Setup) (result : Result (Unit {0}) E) (l m new : Line) (key version : ℤ) (head first : Head) (body : List ℕ) (all : AnyAnswer) (answer : Answer)
     → all ≡ any.Plain answer → m ≡ with_session l (without_front l.session)
-    → ((versions : List ApiVersion) → in_front ≡ head_at versions (front l.session.unread))
-    → OnOk result (new ≡ with_session m (given in_front answer m.session)) → IsAsked setup l.session key version head body
+    → ((versions : List ApiVersion) → first ≡ head_at versions (in_front l.session))
+    → OnOk result (new ≡ with_session m (given first answer m.session)) → IsAsked setup l.session key version head body
     → OnOk result (new.session.output ≡ l.session.output ++ spoken head all)
-puts_given setup result l m new key version head in_front body all answer is left stands done asks =
+puts_given setup result l m new key version head first body all answer is left stands done asks =
     subst (λ (x : Head). PutsOut x result l new all) (stands setup.versions ∙ head_asked setup l.session key version head body asks)
-    (subst (PutsOut in_front result l new) (sym is) (puts result l m new in_front answer (ap (λ (x : Line). x.session.output) left) done))
+    (subst (PutsOut first result l new) (sym is) (puts result l m new first answer (ap (λ (x : Line). x.session.output) left) done))
 
 output_parked : (fetch : Option FetchWait) (asked : Option (Head × ℤ × ℤ × List ℕ)) (s : Session) → (parked fetch asked s).output ≡ s.output
 output_parked fetch None s = refl
@@ -374,3 +374,35 @@ pub unread_woken : {E : Type 0} (result : Result (Unit {0}) E) (l m new : Line) 
 unread_woken (Ok u) l m new head answer left ok err =
     omega (arith, ap (λ (x : Line). length x.session.unread) ok, unread_given head answer m.session, ap length left)
 unread_woken (Err fault) l m new head answer left ok err = omega (arith, ap (λ (x : Line). length x.session.unread) err)
+
+-- 8. What is left of the limit of a request
+
+limit_reply : (head : Head) (reply : List ℕ) (s : Session) → (given_reply head reply s).limit ≡ s.limit
+limit_reply head reply s = by head.is_throttled
+  where
+    by : (t : Bool) → (let x : Session = if t then replied head (body_of reply) s else record s { output = s.output ++ reply } in x).limit ≡ s.limit
+    by true = limit-replied head (body_of reply) s
+    by false = refl
+
+limit_given : (head : Head) (answer : Answer) (s : Session) → (given head answer s).limit ≡ s.limit
+limit_given head (answers.Reply reply) s = limit_reply head reply.items s
+limit_given head (answers.Wait deadline limit keys) s = refl
+limit_given head answers.NoReply s = refl
+limit_given head answers.Shut s = refl
+
+limit_parked : (fetch : Option FetchWait) (asked : Option (Head × ℤ × ℤ × List ℕ)) (s : Session) → (parked fetch asked s).limit ≡ s.limit
+limit_parked fetch None s = refl
+limit_parked fetch (Some a) s = refl
+
+-- no answer changes it
+pub same_limit : {E : Type 0} (result : Result (Unit {0}) E) (l m new : Line) (head : Head) (answer : Answer) → m.session.limit ≡ l.session.limit
+    → OnOk result (new ≡ with_session m (given head answer m.session)) → OnErr result (new ≡ with_session m (shut_down causes.Memory m.session))
+    → new.session.limit ≡ l.session.limit
+same_limit (Ok u) l m new head answer left ok err = ap (λ (x : Line). x.session.limit) ok ∙ (limit_given head answer m.session ∙ left)
+same_limit (Err fault) l m new head answer left ok err = ap (λ (x : Line). x.session.limit) err ∙ left
+
+pub same_limit_parked : {E : Type 0} (result : Result (Unit {0}) E) (l new : Line) (fetch : Option FetchWait) (asked : Option (Head × ℤ × ℤ × List ℕ))
+    → OnOk result (new ≡ with_session l (parked fetch asked (without_front l.session))) → OnErr result (new ≡ with_session l (shut_down causes.Memory l.session))
+    → new.session.limit ≡ l.session.limit
+same_limit_parked (Ok u) l new fetch asked ok err = ap (λ (x : Line). x.session.limit) ok ∙ limit_parked fetch asked (without_front l.session)
+same_limit_parked (Err fault) l new fetch asked ok err = ap (λ (x : Line). x.session.limit) err

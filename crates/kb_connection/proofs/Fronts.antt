@@ -8,7 +8,7 @@ use Rattle.kb_api_group.specs.declared.api_versions.ApiVersion.{ApiVersion}
 use Rattle.kb_tenant_api.specs.Hosted.{Kept}
 use Rattle.kb_isolation_spec.specs.declared.head.Head.{Head}
 use Rattle.kb_isolation_spec.specs.Requests.{Asked, Versions, OtherVersions, Handshake, Authenticate, Another, Malformed, Request, request}
-use Rattle.kb_isolation_spec.specs.Session.{Session}
+use Rattle.kb_isolation_spec.specs.Session.{Session, in_front}
 use Rattle.kb_isolation_spec.specs.Greeting.{Setup, for_tenant}
 use Rattle.kb_isolation_spec.specs.Machine.{after_turn, served_at, served_by, put, kept_at, kept_by}
 use Rattle.kb_isolation_spec.proofs.Laws.{front-rest}
@@ -34,9 +34,9 @@ kept_own_at setup kept clock n Partial h = refl
 kept_own_at setup kept clock n TooSmall h = refl
 kept_own_at setup kept clock n TooLarge h = refl
 
-is_own : (setup : Setup) (s : Session) → is_tenants_at setup.versions (front s.unread) ≡ false → IsOwn setup s
+is_own : (setup : Setup) (s : Session) → is_tenants_at setup.versions (in_front s) ≡ false → IsOwn setup s
 unfolding put
-is_own setup s h = record { own = h; put = λ tenant kept clock n. kept_own_at (for_tenant setup tenant) kept clock n (front s.unread) h }
+is_own setup s h = record { own = h; put = λ tenant kept clock n. kept_own_at (for_tenant setup tenant) kept clock n (in_front s) h }
 
 -- no whole frame stands in front
 unless_frame : (versions : List ApiVersion) (next : Next) (f : Front) → next ≡ answer f → ((frame : List ℕ) → next ≡ answers.Frame frame → ⊥) → is_tenants_at versions f ≡ false
@@ -45,8 +45,8 @@ unless_frame versions next Partial e none = refl
 unless_frame versions next TooSmall e none = refl
 unless_frame versions next TooLarge e none = refl
 
-pub own_unless_frame : (setup : Setup) (s : Session) (unread : List ℕ) (next : Next) → unread ≡ s.unread → next ≡ answer (front unread) → ((frame : List ℕ) → next ≡ answers.Frame frame → ⊥) → IsOwn setup s
-own_unless_frame setup s unread next same e none = is_own setup s (unless_frame setup.versions next (front s.unread) (e ∙ ap (λ b. answer (front b)) same) none)
+pub own_unless_frame : (setup : Setup) (s : Session) (f : Front) (next : Next) → f ≡ in_front s → next ≡ answer f → ((frame : List ℕ) → next ≡ answers.Frame frame → ⊥) → IsOwn setup s
+own_unless_frame setup s f next same e none = is_own setup s (unless_frame setup.versions next (in_front s) (e ∙ ap answer same) none)
 
 -- what a frame asks is known by the frame
 at_frame : (versions : List ApiVersion) (bytes : List ℕ) (a : Asked) (f : Front) → answers.Frame bytes ≡ answer f → (request versions bytes).asked ≡ a → is_tenants_at versions f ≡ is_tenants a
@@ -64,14 +64,14 @@ unless_another (asked.Another key version body) none = absurd (none key version 
 unless_another asked.Malformed none = refl
 
 -- the frame in front asks nothing of the tenant
-pub own_unless_another : (setup : Setup) (s : Session) (unread frame bytes : List ℕ) (r : ReadRequest) → unread ≡ s.unread → answers.Frame frame ≡ answer (front unread) → bytes ≡ frame → request_of r ≡ request setup.versions bytes → ((key version : ℤ) (body : List ℕ) → r.asked ≡ asked.Another key version body → ⊥) → IsOwn setup s
-own_unless_another setup s unread frame bytes r same e read is none =
-    let in_front : answers.Frame bytes ≡ answer (front s.unread) = ap answers.Frame read ∙ e ∙ ap (λ b. answer (front b)) same in
-    is_own setup s (at_frame setup.versions bytes (asked_of r.asked) (front s.unread) in_front (sym (ap (λ (q : Request). q.asked) is)) ∙ unless_another r.asked none)
+pub own_unless_another : (setup : Setup) (s : Session) (f : Front) (frame bytes : List ℕ) (r : ReadRequest) → f ≡ in_front s → answers.Frame frame ≡ answer f → bytes ≡ frame → request_of r ≡ request setup.versions bytes → ((key version : ℤ) (body : List ℕ) → r.asked ≡ asked.Another key version body → ⊥) → IsOwn setup s
+own_unless_another setup s f frame bytes r same e read is none =
+    let stands : answers.Frame bytes ≡ answer (in_front s) = ap answers.Frame read ∙ e ∙ ap answer same in
+    is_own setup s (at_frame setup.versions bytes (asked_of r.asked) (in_front s) stands (sym (ap (λ (q : Request). q.asked) is)) ∙ unless_another r.asked none)
 
 -- and so what it asks is served without the tenant
-pub own_frame : (setup : Setup) (s : Session) (unread frame bytes : List ℕ) → unread ≡ s.unread → answers.Frame frame ≡ answer (front unread) → bytes ≡ frame → IsOwn setup s → is_tenants (request setup.versions bytes).asked ≡ false
-own_frame setup s unread frame bytes same e read own = sym (at_frame setup.versions bytes (request setup.versions bytes).asked (front s.unread) (ap answers.Frame read ∙ e ∙ ap (λ b. answer (front b)) same) refl) ∙ own.own
+pub own_frame : (setup : Setup) (s : Session) (f : Front) (frame bytes : List ℕ) → f ≡ in_front s → answers.Frame frame ≡ answer f → bytes ≡ frame → IsOwn setup s → is_tenants (request setup.versions bytes).asked ≡ false
+own_frame setup s f frame bytes same e read own = sym (at_frame setup.versions bytes (request setup.versions bytes).asked (in_front s) (ap answers.Frame read ∙ e ∙ ap answer same) refl) ∙ own.own
 
 -- 2. A request of the tenant
 
@@ -99,29 +99,29 @@ head_whole versions bytes Partial e = cc
 head_whole versions bytes TooSmall e = cc
 head_whole versions bytes TooLarge e = cc
 
-is_asked : (setup : Setup) (s : Session) (bytes : List ℕ) (key version : ℤ) (head : Head) (body : List ℕ) → answers.Frame bytes ≡ answer (front s.unread) → request setup.versions bytes ≡ record { head = head; asked = Another key version body } → IsAsked setup s key version head body
+is_asked : (setup : Setup) (s : Session) (bytes : List ℕ) (key version : ℤ) (head : Head) (body : List ℕ) → answers.Frame bytes ≡ answer (in_front s) → request setup.versions bytes ≡ record { head = head; asked = Another key version body } → IsAsked setup s key version head body
 unfolding after_turn served_by put
 is_asked setup s bytes key version head body e is = record {
-  tenants = at_frame setup.versions bytes (Another key version body) (front s.unread) e (ap (λ (q : Request). q.asked) is);
-  asked = asked_whole setup.versions bytes (front s.unread) e ∙ ap (λ (q : Request). asked_under q.head q.asked) is;
-  served = λ tenant kept clock n. served_whole (for_tenant setup tenant) kept clock n s bytes (front s.unread) e ∙ ap (λ (q : Request). served_by (for_tenant setup tenant) kept clock n q.head q.asked (without_front s)) is;
-  put = λ tenant kept clock n. kept_whole (for_tenant setup tenant) kept clock n bytes (front s.unread) e ∙ ap (λ (q : Request). kept_by (for_tenant setup tenant) kept clock n q.asked) is;
+  tenants = at_frame setup.versions bytes (Another key version body) (in_front s) e (ap (λ (q : Request). q.asked) is);
+  asked = asked_whole setup.versions bytes (in_front s) e ∙ ap (λ (q : Request). asked_under q.head q.asked) is;
+  served = λ tenant kept clock n. served_whole (for_tenant setup tenant) kept clock n s bytes (in_front s) e ∙ ap (λ (q : Request). served_by (for_tenant setup tenant) kept clock n q.head q.asked (without_front s)) is;
+  put = λ tenant kept clock n. kept_whole (for_tenant setup tenant) kept clock n bytes (in_front s) e ∙ ap (λ (q : Request). kept_by (for_tenant setup tenant) kept clock n q.asked) is;
 }
 
 -- the frame in front asks something of the tenant, and this is handed out
-pub is_handed : (setup : Setup) (s : Session) (unread frame bytes : List ℕ) (r : ReadRequest) (key version key_out version_out : ℤ) (body body_out : List ℕ) → unread ≡ s.unread → answers.Frame frame ≡ answer (front unread) → bytes ≡ frame → request_of r ≡ request setup.versions bytes → r.asked ≡ asked.Another key version body → key_out ≡ key → version_out ≡ version → body_out ≡ body → IsAsked setup s key_out version_out (head_at setup.versions (front s.unread)) body_out
-is_handed setup s unread frame bytes r key version key_out version_out body body_out same e read is another k v b =
-    let in_front : answers.Frame bytes ≡ answer (front s.unread) = ap answers.Frame read ∙ e ∙ ap (λ x. answer (front x)) same in
+pub is_handed : (setup : Setup) (s : Session) (f : Front) (frame bytes : List ℕ) (r : ReadRequest) (key version key_out version_out : ℤ) (body body_out : List ℕ) → f ≡ in_front s → answers.Frame frame ≡ answer f → bytes ≡ frame → request_of r ≡ request setup.versions bytes → r.asked ≡ asked.Another key version body → key_out ≡ key → version_out ≡ version → body_out ≡ body → IsAsked setup s key_out version_out (head_at setup.versions (in_front s)) body_out
+is_handed setup s f frame bytes r key version key_out version_out body body_out same e read is another k v b =
+    let stands : answers.Frame bytes ≡ answer (in_front s) = ap answers.Frame read ∙ e ∙ ap answer same in
     let asks : asked_of r.asked ≡ Another key_out version_out body_out = ap asked_of another ∙ ap (λ x. Another x version body) (sym k) ∙ ap (λ x. Another key_out x body) (sym v) ∙ ap (λ x. Another key_out version_out x) (sym b) in
-    let head : r.head ≡ head_at setup.versions (front s.unread) = ap (λ (q : Request). q.head) is ∙ sym (head_whole setup.versions bytes (front s.unread) in_front) in
-    let first : request setup.versions bytes ≡ record { head = head_at setup.versions (front s.unread); asked = asked_of r.asked } = sym is ∙ ap (λ x. record { head = x; asked = asked_of r.asked }) head in
-    is_asked setup s bytes key_out version_out (head_at setup.versions (front s.unread)) body_out in_front (first ∙ ap (λ x. record { head = head_at setup.versions (front s.unread); asked = x }) asks)
+    let head : r.head ≡ head_at setup.versions (in_front s) = ap (λ (q : Request). q.head) is ∙ sym (head_whole setup.versions bytes (in_front s) stands) in
+    let first : request setup.versions bytes ≡ record { head = head_at setup.versions (in_front s); asked = asked_of r.asked } = sym is ∙ ap (λ x. record { head = x; asked = asked_of r.asked }) head in
+    is_asked setup s bytes key_out version_out (head_at setup.versions (in_front s)) body_out stands (first ∙ ap (λ x. record { head = head_at setup.versions (in_front s); asked = x }) asks)
 
 -- and under this number
-pub is_numbered : (setup : Setup) (s : Session) (unread frame bytes : List ℕ) (r : ReadRequest) (id : ℤ) → unread ≡ s.unread → answers.Frame frame ≡ answer (front unread) → bytes ≡ frame → request_of r ≡ request setup.versions bytes → id ≡ r.head.correlation_id → id ≡ (head_at setup.versions (front s.unread)).correlation_id
-is_numbered setup s unread frame bytes r id same e read is number =
-    let in_front : answers.Frame bytes ≡ answer (front s.unread) = ap answers.Frame read ∙ e ∙ ap (λ x. answer (front x)) same in
-    number ∙ ap (λ (q : Request). q.head.correlation_id) is ∙ ap (λ (h : Head). h.correlation_id) (sym (head_whole setup.versions bytes (front s.unread) in_front))
+pub is_numbered : (setup : Setup) (s : Session) (f : Front) (frame bytes : List ℕ) (r : ReadRequest) (id : ℤ) → f ≡ in_front s → answers.Frame frame ≡ answer f → bytes ≡ frame → request_of r ≡ request setup.versions bytes → id ≡ r.head.correlation_id → id ≡ (head_at setup.versions (in_front s)).correlation_id
+is_numbered setup s f frame bytes r id same e read is number =
+    let stands : answers.Frame bytes ≡ answer (in_front s) = ap answers.Frame read ∙ e ∙ ap answer same in
+    number ∙ ap (λ (q : Request). q.head.correlation_id) is ∙ ap (λ (h : Head). h.correlation_id) (sym (head_whole setup.versions bytes (in_front s) stands))
 
 -- what is kept of a tenant's request for its reply
 under_head : (head kept : Head) (a : Asked) (key version : ℤ) (body : List ℕ) → asked_under head a ≡ Some (kept, key, version, body) → head ≡ kept
@@ -139,16 +139,16 @@ head_at_is versions Partial key version head body e = cc
 head_at_is versions TooSmall key version head body e = cc
 head_at_is versions TooLarge key version head body e = cc
 
-pub head_asked : (setup : Setup) (s : Session) (key version : ℤ) (head : Head) (body : List ℕ) → IsAsked setup s key version head body → head_at setup.versions (front s.unread) ≡ head
-head_asked setup s key version head body h = head_at_is setup.versions (front s.unread) key version head body h.asked
+pub head_asked : (setup : Setup) (s : Session) (key version : ℤ) (head : Head) (body : List ℕ) → IsAsked setup s key version head body → head_at setup.versions (in_front s) ≡ head
+head_asked setup s key version head body h = head_at_is setup.versions (in_front s) key version head body h.asked
 
 -- 3. A request of the tenant takes bytes when it is left behind
 
-fewer : (versions : List ApiVersion) (unread : List ℕ) (f : Front) → front unread ≡ f → is_tenants_at versions f ≡ true → length (behind f unread) < length unread
-fewer versions unread (Whole frame rest) e h = front-rest unread frame rest e
-fewer versions unread Partial e h = cc
-fewer versions unread TooSmall e h = cc
-fewer versions unread TooLarge e h = cc
+fewer : (versions : List ApiVersion) (limit : ℕ) (unread : List ℕ) (f : Front) → front limit unread ≡ f → is_tenants_at versions f ≡ true → length (behind f unread) < length unread
+fewer versions limit unread (Whole frame rest) e h = front-rest limit unread frame rest e
+fewer versions limit unread Partial e h = cc
+fewer versions limit unread TooSmall e h = cc
+fewer versions limit unread TooLarge e h = cc
 
-pub fewer-behind : (versions : List ApiVersion) (unread : List ℕ) → is_tenants_at versions (front unread) ≡ true → length (behind (front unread) unread) < length unread
-fewer-behind versions unread h = fewer versions unread (front unread) refl h
+pub fewer-behind : (versions : List ApiVersion) (s : Session) → is_tenants_at versions (in_front s) ≡ true → length (behind (in_front s) s.unread) < length s.unread
+fewer-behind versions s h = fewer versions s.limit s.unread (in_front s) refl h

@@ -9,12 +9,12 @@ use Rattle.kb_isolation_spec.specs.Session.{Stage, Greets, BoundTo, is_free, wit
 use Rattle.kb_connection.specs.View.{IsLimited}
 
 -- the request in front was left behind
-pub limited-behind : (unread : List ℕ) (stage : Stage) (shut : Bool) → IsLimited unread stage shut → IsLimited (behind (front unread) unread) stage shut
-limited-behind unread stage shut h = by (front unread) refl
+pub limited-behind : (limit : ℕ) (unread : List ℕ) (stage : Stage) (shut : Bool) → IsLimited limit unread stage shut → IsLimited limit (behind (front limit unread) unread) stage shut
+limited-behind limit unread stage shut h = by (front limit unread) refl
   where
-    by : (f : Front) → front unread ≡ f → IsLimited (behind f unread) stage shut
+    by : (f : Front) → front limit unread ≡ f → IsLimited limit (behind f unread) stage shut
     by (Whole frame rest) e =
-        let less = front-rest unread frame rest e in
+        let less = front-rest limit unread frame rest e in
         let within = h.0 in
         (omega arith, λ s. (let none : length unread ≡ 0 = ap length (h.1 s) in absurd (omega arith)), h.2)
     by Partial e = h
@@ -26,11 +26,11 @@ pub free-without : (st : Stage) → is_free (without_wait st) ≡ true
 free-without (Greets h) = refl
 free-without (BoundTo t w) = refl
 
-none-front : front [] ≡ Partial
+none-front : (limit : ℕ) → front limit [] ≡ Partial
 unfolding front int
-none-front = refl
+none-front limit = refl
 
 -- a connection in front of which a frame stands was not shut
-pub framed-open : (unread bytes : List ℕ) (stage : Stage) (shut : Bool) → IsLimited unread stage shut → answers.Frame bytes ≡ answer (front unread) → shut ≡ false
-framed-open unread bytes stage false h e = refl
-framed-open unread bytes stage true h e = let none : answers.Frame bytes ≡ answer Partial = e ∙ (ap (λ u. answer (front u)) (h.1 refl) ∙ ap answer none-front) in absurd (cc)
+pub framed-open : (limit : ℕ) (unread bytes : List ℕ) (stage : Stage) (shut : Bool) → IsLimited limit unread stage shut → answers.Frame bytes ≡ answer (front limit unread) → shut ≡ false
+framed-open limit unread bytes stage false h e = refl
+framed-open limit unread bytes stage true h e = let none : answers.Frame bytes ≡ answer Partial = e ∙ (ap (λ u. answer (front limit u)) (h.1 refl) ∙ ap answer (none-front limit)) in absurd (cc)

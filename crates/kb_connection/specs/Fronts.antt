@@ -1,11 +1,11 @@
 -- Whose the request is that stands in front of a bound connection: its tenant's, or a matter of the connection alone.
 use Rattle.std.specs.Prelude.{◌≡◌, ℕ, ℤ, List, Bool, true, false, Option, Some, None}
-use Rattle.kb_api_group.specs.Frames.{Front, Whole, Partial, TooSmall, TooLarge, front}
+use Rattle.kb_api_group.specs.Frames.{Front, Whole, Partial, TooSmall, TooLarge}
 use Rattle.kb_tenant_api.specs.Hosted.{Kept}
 use Rattle.kb_api_group.specs.declared.api_versions.ApiVersion.{ApiVersion}
 use Rattle.kb_isolation_spec.specs.declared.head.Head.{Head}
 use Rattle.kb_isolation_spec.specs.Requests.{Asked, Versions, OtherVersions, Handshake, Authenticate, Another, Malformed, request}
-use Rattle.kb_isolation_spec.specs.Session.{Session}
+use Rattle.kb_isolation_spec.specs.Session.{Session, in_front}
 use Rattle.kb_isolation_spec.specs.Versions.{no_head}
 use Rattle.kb_isolation_spec.specs.Tenant.{answer, kept_after}
 use Rattle.kb_isolation_spec.specs.Greeting.{Setup, for_tenant, node_of}
@@ -51,14 +51,14 @@ head_at versions TooLarge = no_head
 
 -- no request of the tenant stands in front: what any tenant keeps stays
 pub record IsOwn (setup : Setup) (s : Session) : Type 0 where
-  pub own : is_tenants_at setup.versions (front s.unread) ≡ false
-  pub put : (tenant : ℕ) (kept : Kept) (clock n : ℕ) → put (for_tenant setup tenant) kept clock n s.unread ≡ kept
+  pub own : is_tenants_at setup.versions (in_front s) ≡ false
+  pub put : (tenant : ℕ) (kept : Kept) (clock n : ℕ) → put (for_tenant setup tenant) kept clock n (in_front s) ≡ kept
 
 -- this request of the tenant stands in front, whichever tenant it is
 pub record IsAsked (setup : Setup) (s : Session) (key version : ℤ) (head : Head) (body : List ℕ) : Type 0 where
-  pub tenants : is_tenants_at setup.versions (front s.unread) ≡ true
-  pub asked : asked_at setup.versions (front s.unread) ≡ Some (head, key, version, body)
+  pub tenants : is_tenants_at setup.versions (in_front s) ≡ true
+  pub asked : asked_at setup.versions (in_front s) ≡ Some (head, key, version, body)
   pub served : (tenant : ℕ) (kept : Kept) (clock n : ℕ) → after_turn (for_tenant setup tenant) kept clock n s
       ≡ after_reaction (answer (node_of setup tenant) kept clock n key version body) head version body (without_front s)
   pub put : (tenant : ℕ) (kept : Kept) (clock n : ℕ)
-      → put (for_tenant setup tenant) kept clock n s.unread ≡ kept_after (node_of setup tenant) kept clock n key version body
+      → put (for_tenant setup tenant) kept clock n (in_front s) ≡ kept_after (node_of setup tenant) kept clock n key version body

@@ -4,9 +4,8 @@ use Rattle.kb_wire.specs.declared.fault.ReadFault.{ReadFault}
 use Rattle.kb_wire.specs.declared.fault.ReadFault.TheVariants as faults
 use Rattle.kb_isolation_spec.specs.Tenant.{Awaited, Records, Group, Wait}
 use Rattle.kb_isolation_spec.specs.Requests.{Asked, Versions, OtherVersions, Handshake, Authenticate, Another, Malformed, Request}
-use Rattle.kb_isolation_spec.specs.Session.{Greeting, Unshaken, Shaken, Bare, Stage, Greets, BoundTo, Session, LIMIT, is_free}
+use Rattle.kb_isolation_spec.specs.Session.{Greeting, Unshaken, Shaken, Bare, Stage, Greets, BoundTo, Session, unread_limit, in_front, is_free}
 use Rattle.kb_isolation_spec.specs.Machine.{Line}
-use Rattle.kb_api_group.specs.Frames.{front}
 use Rattle.kb_api_group.specs.FrameStream.{behind}
 use Rattle.kb_connection.specs.declared.request.Asked.TheVariants as asked
 use Rattle.kb_connection.specs.declared.request.Asked.{Asked as Read}
@@ -71,17 +70,19 @@ with_session l s = record { number = l.number; session = s }
 
 -- a connection without the request in front
 abbrev pub without_front : Session → Session
-without_front s = record s { unread = behind (front s.unread) s.unread }
+without_front s = record s { unread = behind (in_front s) s.unread }
 
 -- whether a connection has something to tell: output that was not taken, or that it was shut
 abbrev pub speaks : Session → Bool
 speaks s = not (length s.output == 0) || s.shut
 
--- a connection has at most so many unread bytes, and one that was shut has none and waits for nothing
-abbrev pub IsLimited : List ℕ → Stage → Bool → Type 0
-IsLimited unread stage shut = (length unread ≤ LIMIT) × (shut ≡ true → unread ≡ []) × (shut ≡ true → is_free stage ≡ true)
+-- a connection on which no request above that size is read has at most so many unread bytes, and one that was shut has none and waits
+-- for nothing
+abbrev pub IsLimited : ℕ → List ℕ → Stage → Bool → Type 0
+IsLimited limit unread stage shut =
+    (length unread ≤ unread_limit limit) × (shut ≡ true → unread ≡ []) × (shut ≡ true → is_free stage ≡ true)
 
 -- and so has each open connection of that number
 abbrev pub IsLimitedIn : Option Session → Type 0
 IsLimitedIn None = Unit {0}
-IsLimitedIn (Some s) = IsLimited s.unread s.stage s.shut
+IsLimitedIn (Some s) = IsLimited s.limit s.unread s.stage s.shut

@@ -3,11 +3,10 @@
 ghost use Rattle.std.specs.Prelude.{◌≡◌, ◌<◌, ◌≤◌, ◌^◌, ◌++◌, ℕ, ℤ, List, length, true, false, option_map, IfOk, IfSome, IfNone, OnOk};
 ghost use Rattle.std.specs.Prelude.{OnErr, ◌⊎◌};
 ghost use Rattle.std.specs.Option.{is_some};
-ghost use Rattle.kb_api_group.specs.Frames.{front};
 ghost use Rattle.kb_tenant_api.specs.Hosted.{Kept};
 ghost use Rattle.kb_tenant_api.specs.Replies.{Reaction as Reacts, IsAnswer};
 ghost use Rattle.kb_tenant.specs.Replies as tenant;
-ghost use Rattle.kb_isolation_spec.specs.Session.{Session, Greets, BoundTo, fresh, room, overruns, fed, replied, shut_down, without_wait, waiting};
+ghost use Rattle.kb_isolation_spec.specs.Session.{Session, Greets, BoundTo, fresh, in_front, room, overruns, fed, replied, shut_down, without_wait, waiting};
 ghost use Rattle.kb_isolation_spec.specs.declared.head.Head.{Head};
 ghost use Rattle.kb_isolation_spec.specs.declared.shut.Shut.TheVariants as causes;
 ghost use Rattle.kb_isolation_spec.specs.Tenant.{Wait};
@@ -29,6 +28,7 @@ use crate::reply::{
     versions_body,
 };
 use crate::request::{Asked, Request, unanswerable};
+use crate::room::unread_limit;
 use crate::setup::Setup;
 use crate::stage::{Awaited, FetchWait, Phase, Stage, Waiting};
 use crate::version::{NO_HEAD, head_of_frame};
@@ -39,9 +39,6 @@ use kb_wire::{ErrorCode, Text};
 use std::alloc::{AllocError, Global};
 use std::marker::Model;
 use std::mem;
-
-/// How many unread bytes a connection may have: a size and the largest request, twice.
-const UNREAD_LIMIT: usize = 4_194_312;
 
 /// The greatest size of a reply, which is an INT32.
 const REPLY_LIMIT: usize = 2_147_483_647;
@@ -54,6 +51,7 @@ const EMPTY_FRAME: [u8; 4] = [0, 0, 0, 0];
 pub struct Connection {
     number: u64,
     stage: Stage,
+    limit: u32,
     unread: FrameFeed,
     output: Vec<u8>,
     shut: Option<Shut>,
@@ -71,6 +69,7 @@ impl Model for Connection {
       number = c.number;
       session = record {
         stage = stage_with_wait c.stage;
+        limit = c.limit;
         unread = c.unread;
         output = c.output.items;
         shut = is_some c.shut;
@@ -79,17 +78,18 @@ impl Model for Connection {
       };
     } };
 
-    ghost invariant = { λ c. IsLimited c.unread (stage_with_wait c.stage) (is_some c.shut) };
+    ghost invariant = { λ c. IsLimited c.limit c.unread (stage_with_wait c.stage) (is_some c.shut) };
 }
 
 impl Connection {
-    /// A connection that has said nothing. It takes no memory.
-    pub fn new(alloc: Global, number: u64) -> Connection
-        ensures { result ≡ record { number = number; session = fresh } }
+    /// A connection that has said nothing, on which no request of more than `limit` bytes is read. It takes no memory.
+    pub fn new(alloc: Global, number: u64, limit: u32) -> Connection
+        ensures { result ≡ record { number = number; session = fresh limit } }
     {
         Connection {
             number,
             stage: Stage::Greets(Greeting::Unshaken),
+            limit,
             unread: FrameFeed::new(alloc),
             output: Vec::new(alloc),
             shut: None,
@@ -167,9 +167,9 @@ impl Connection {
     /// How many more bytes it takes.
     pub fn room(&self) -> usize
         ensures room { result ≡ room self.now.session }
-        ensures limited { IsLimited self.now.session.unread self.now.session.stage self.now.session.shut }
+        ensures limited { IsLimited self.now.session.limit self.now.session.unread self.now.session.stage self.now.session.shut }
     {
-        UNREAD_LIMIT.saturating_sub(self.unread.unread())
+        unread_limit(self.limit).saturating_sub(self.unread.unread())
     }
 
     /// Whether a piece is longer than its room, where it was not shut: then the piece shuts it.
@@ -184,7 +184,7 @@ impl Connection {
     pub fn can_turn(&self) -> bool
         ensures { result ≡ can self.now.session }
     {
-        self.waiting().is_none() && !matches!(self.unread.next(), Next::More)
+        self.waiting().is_none() && !matches!(self.unread.next(self.limit), Next::More)
     }
 
     /// Takes the output.
@@ -225,7 +225,7 @@ impl Connection {
     fn skip(&mut self)
         ensures { self.new ≡ with_session self.old (without_front self.old.session) }
     {
-        self.unread.skip();
+        self.unread.skip(self.limit);
     }
 
     /// Takes a piece. One longer than the room shuts it, and where the piece cannot be kept it is shut too.
@@ -260,7 +260,7 @@ impl Connection {
         ensures ok { OnOk result (self.new ≡ with_session self.old (greeted setup.now (greeting_of greeting) self.old.session)) }
         ensures err { OnErr result (self.new ≡ with_session self.old (shut_down causes.Memory self.old.session)) }
     {
-        match self.unread.next() {
+        match self.unread.next(self.limit) {
             Next::More => Ok(()),
             Next::TooSmall => {
                 self.shut_down(Shut::TooShort);
@@ -287,14 +287,14 @@ impl Connection {
         ensures none { IfOk result (λ found. IfNone found (IsOwn setup.now self.now.session)) }
         ensures asked { IfOk result (λ found. IfSome found (λ asked.
             IsAsked setup.now self.now.session asked.api_key asked.api_version
-            (head_at setup.now.versions (front self.now.session.unread)) asked.body.now)) }
+            (head_at setup.now.versions (in_front self.now.session)) asked.body.now)) }
         ensures numbered { IfOk result (λ found. IfSome found (λ asked.
-            asked.correlation_id ≡ (head_at setup.now.versions (front self.now.session.unread)).correlation_id)) }
+            asked.correlation_id ≡ (head_at setup.now.versions (in_front self.now.session)).correlation_id)) }
         ensures number { IfOk result (λ found. IfSome found (λ asked. asked.connection ≡ self.now.number)) }
         // none stands in front of one that was shut
         ensures unshut { IfOk result (λ found. IfSome found (λ asked. self.now.session.shut ≡ false)) }
     {
-        let Next::Frame(frame) = self.unread.next() else {
+        let Next::Frame(frame) = self.unread.next(self.limit) else {
             return Ok(None);
         };
         let Request { head, asked } = Request::read(
@@ -316,7 +316,7 @@ impl Connection {
 
     /// Leaves the tenant's request in front behind, and gives the tenant's answer to it. Where the answer is to wait, what it
     /// takes to answer the request is kept until `wake` ends the wait. Where memory is refused it is shut.
-    #[tactic(auto, using(crate::proofs::Answering::gives, crate::proofs::Answering::less_given, crate::proofs::Answering::less_parked, crate::proofs::Answering::free_given, crate::proofs::Answering::puts_given, crate::proofs::Answering::puts_parked, crate::proofs::Answering::stage_kept))]
+    #[tactic(auto, using(crate::proofs::Answering::gives, crate::proofs::Answering::less_given, crate::proofs::Answering::less_parked, crate::proofs::Answering::free_given, crate::proofs::Answering::puts_given, crate::proofs::Answering::puts_parked, crate::proofs::Answering::same_limit_parked, crate::proofs::Answering::stage_kept))]
     pub fn answer(&mut self, alloc: Global, setup: &Setup, answer: Answer) -> Result<(), AllocError>
         ensures ok { (key version : ℤ) (head : Head) (body : List ℕ) (reaction : Reacts)
             → IsAsked setup.now self.old.session key version head body → IsAnswer head.correlation_id reaction answer → OnOk result
@@ -327,7 +327,8 @@ impl Connection {
             → OnOk result (self.new.session.output ≡ self.old.session.output ++ spoken head answer) }
         ensures number { self.new.number ≡ self.old.number }
         ensures stage { without_wait self.new.session.stage ≡ without_wait self.old.session.stage }
-        ensures shrinks { is_tenants_at setup.now.versions (front self.old.session.unread) ≡ true
+        ensures limit { self.new.session.limit ≡ self.old.session.limit }
+        ensures shrinks { is_tenants_at setup.now.versions (in_front self.old.session) ≡ true
             → length self.new.session.unread < length self.old.session.unread }
         ensures free { is_wait answer ≡ false → is_free self.old.session.stage ≡ true → is_free self.new.session.stage ≡ true }
     {
@@ -350,7 +351,7 @@ impl Connection {
 
     /// Gives an answer to the request that waits on it: a reply ends the wait, and no reply leaves it waiting. Where memory is
     /// refused it is shut.
-    #[tactic(auto, using(crate::proofs::Answering::ends, crate::proofs::Answering::tells, crate::proofs::Answering::puts_ending, crate::proofs::Answering::puts_told, crate::proofs::Answering::stage_ended, crate::proofs::Answering::stage_told, crate::proofs::Answering::stage_loud, crate::proofs::Answering::unread_woken))]
+    #[tactic(auto, using(crate::proofs::Answering::ends, crate::proofs::Answering::tells, crate::proofs::Answering::puts_ending, crate::proofs::Answering::puts_told, crate::proofs::Answering::stage_ended, crate::proofs::Answering::stage_told, crate::proofs::Answering::stage_loud, crate::proofs::Answering::same_limit, crate::proofs::Answering::unread_woken))]
     pub fn wake(&mut self, answer: kb_tenant::Answer) -> Result<(), AllocError>
         ensures ok { (t : ℕ) (wait : Wait) (reaction : tenant.Reaction) → self.old.session.stage ≡ BoundTo t (Some wait)
             → tenant.IsAnswer wait.head.correlation_id reaction answer
@@ -361,6 +362,7 @@ impl Connection {
             → OnOk result (self.new.session.output ≡ self.old.session.output ++ spoken wait.head (any.Plain answer)) }
         ensures number { self.new.number ≡ self.old.number }
         ensures stage { without_wait self.new.session.stage ≡ without_wait self.old.session.stage }
+        ensures limit { self.new.session.limit ≡ self.old.session.limit }
         ensures waits { (self.new.session.stage ≡ self.old.session.stage) ⊎ (self.new.session.stage ≡ without_wait self.old.session.stage) }
         ensures same { is_quiet answer ≡ true → self.new ≡ self.old }
         ensures ends { is_quiet answer ≡ false → self.new.session.stage ≡ without_wait self.old.session.stage }
@@ -385,9 +387,9 @@ impl Connection {
 
     /// What of the request in front is kept for its reply.
     fn head_in_front(&self) -> Head
-        ensures { (versions : List ApiVersion) → result ≡ head_at versions (front self.now.session.unread) }
+        ensures { (versions : List ApiVersion) → result ≡ head_at versions (in_front self.now.session) }
     {
-        match self.unread.next() {
+        match self.unread.next(self.limit) {
             Next::Frame(frame) => head_of_frame(frame.as_slice()),
             Next::More | Next::TooSmall | Next::TooLarge => NO_HEAD,
         }
@@ -402,7 +404,7 @@ impl Connection {
         fetch: Option<FetchWait>,
     ) -> Result<(), AllocError>
         ensures ok { OnOk result (self.new ≡ with_session self.old
-            (parked fetch (asked_at setup.now.versions (front self.old.session.unread)) (without_front self.old.session))) }
+            (parked fetch (asked_at setup.now.versions (in_front self.old.session)) (without_front self.old.session))) }
         ensures err { OnErr result (self.new ≡ with_session self.old (shut_down causes.Memory self.old.session)) }
     {
         let request = self.request_in_front(alloc, setup, fetch);
@@ -429,7 +431,7 @@ impl Connection {
         fetch: Option<FetchWait>,
     ) -> Result<Option<Waiting>, AllocError>
         ensures found { IfOk result (λ found. option_map wait_of found
-            ≡ option_map (wait_for fetch) (asked_at setup.now.versions (front self.now.session.unread))) }
+            ≡ option_map (wait_for fetch) (asked_at setup.now.versions (in_front self.now.session))) }
         ensures unshut { IfOk result (λ found. IfSome found (λ request. self.now.session.shut ≡ false)) }
     {
         let Some(request) = self.request(alloc, setup)? else {
@@ -506,7 +508,7 @@ impl Connection {
             → OnOk result (self.new ≡ with_session self.old (after_turn (for_tenant setup.now tenant) kept clock n self.old.session)) }
         ensures err { OnErr result (self.new ≡ with_session self.old (shut_down causes.Memory self.old.session)) }
     {
-        match self.unread.next() {
+        match self.unread.next(self.limit) {
             Next::More => Ok(()),
             Next::TooSmall => {
                 self.shut_down(Shut::TooShort);

@@ -14,6 +14,7 @@ mod greeting;
 mod reaction;
 mod reply;
 mod request;
+mod room;
 mod setup;
 mod stage;
 mod tenant_node;

@@ -1,4 +1,4 @@
-//! What is fixed while a broker runs: the versions that it lists, its users, and the node of each tenant.
+//! What is fixed while a broker runs: the versions that it lists, its users, the node of each tenant, and how long a request may be.
 
 ghost use Rattle.std.specs.Prelude.{◌≡◌};
 ghost use Rattle.kb_wire.specs.Codec.{array, string};
@@ -48,6 +48,7 @@ pub struct Setup {
     accounts: Vec<Account>,
     nodes: Vec<TenantNode>,
     node: TenantNode,
+    request_bytes: u32,
 }
 
 impl Model for Setup {
@@ -62,28 +63,37 @@ impl Model for Setup {
       users = s.accounts.items;
       nodes = s.nodes.items;
       node = s.node;
+      request_bytes = s.request_bytes;
     } };
 
     ghost invariant = { λ s. (array api_version).Fits s.versions };
 }
 
 impl Setup {
-    /// What is fixed: the versions that are listed, the users, the nodes of the tenants by their places, and the node of a place that no
-    /// tenant has.
+    /// What is fixed: the versions that are listed, the users, the nodes of the tenants by their places, the node of a place that no
+    /// tenant has, and the greatest size of a request.
     pub fn new(
         versions: Array<ApiVersion>,
         accounts: Vec<Account>,
         nodes: Vec<TenantNode>,
         node: TenantNode,
+        request_bytes: u32,
     ) -> Setup
         requires versions { (array api_version).Fits versions }
-        ensures { result ≡ record { versions = versions; users = accounts.items; nodes = nodes.items; node = node } }
+        ensures { result ≡ record {
+          versions = versions;
+          users = accounts.items;
+          nodes = nodes.items;
+          node = node;
+          request_bytes = request_bytes;
+        } }
     {
         Setup {
             versions,
             accounts,
             nodes,
             node,
+            request_bytes,
         }
     }
 
@@ -96,6 +106,13 @@ impl Setup {
             Some(node) => node.told(),
             None => self.node.told(),
         }
+    }
+
+    /// The greatest size of a request that is read, in bytes.
+    pub fn request_bytes(&self) -> u32
+        ensures { result ≡ self.now.request_bytes }
+    {
+        self.request_bytes
     }
 
     /// The versions that are listed. They fit a reply.

@@ -23,10 +23,12 @@ type Newer = (i16, i16, i16, i16, bool);
 
 /// The versions that a tenant is asked in as in another one, or where a throttle time stands in front of its answer (Kafka protocol
 /// guide, "The Messages").
-const NEWER: [Newer; 22] = [
+const NEWER: [Newer; 24] = [
     (api_key::PRODUCE, 4, 4, 3, false),
     (api_key::PRODUCE, 6, 6, 5, false),
     (api_key::FETCH, 6, 6, 5, false),
+    (api_key::FETCH, 7, 8, 7, true),
+    (api_key::FETCH, 9, 9, 9, true),
     (api_key::LIST_OFFSETS, 2, 3, 2, true),
     (api_key::OFFSET_COMMIT, 3, 4, 2, true),
     (api_key::OFFSET_COMMIT, 5, 5, 5, true),

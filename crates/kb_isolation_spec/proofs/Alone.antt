@@ -67,7 +67,7 @@ pub unborn-purge : (p : ℕ → Bool) (setup : Setup) (n : ℕ) (es : List Happe
 unborn-purge p setup n [] h = refl
 unborn-purge p setup n (Opens m ∷ es) h =
     let rest = unborn-purge p setup n es h in
-    let born = destiny-purge p setup n fresh es h in
+    let born = destiny-purge p setup n (fresh setup.request_bytes) es h in
     grind (arith, nat_tests, rest, born)
 unborn-purge p setup n (Comes m piece ∷ es) h = let rest = unborn-purge p setup n es h in grind (arith, rest)
 unborn-purge p setup n (Closes m ∷ es) h = let rest = unborn-purge p setup n es h in grind (arith, rest)

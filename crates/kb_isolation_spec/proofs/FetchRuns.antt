@@ -1,7 +1,7 @@
 -- In a whole run of a machine each fetch is answered with whole batches.
 use Rattle.std.proofs.Common.{ℕ, zero, suc, max, List, [], ◌∷◌, Bool, true, false, cond, Option, Some, None}
 use Rattle.std.specs.List.{AllByRecursion}
-use Rattle.kb_api_group.specs.Frames.{Front, Whole, Partial, TooSmall, TooLarge, front}
+use Rattle.kb_api_group.specs.Frames.{Front, Whole, Partial, TooSmall, TooLarge}
 use Rattle.kb_tenant_state.specs.World as tenants
 use Rattle.kb_tenant_state.specs.Calls.{all_places, retain, retain_each}
 use Rattle.kb_tenant_state.specs.declared.topic_partition.TopicPartition.{TopicPartition}
@@ -11,7 +11,7 @@ use Rattle.kb_tenant.proofs.Small.{retained_small}
 use Rattle.kb_tenant_api.proofs.Laws.{served_small}
 use Rattle.kb_isolation_spec.specs.Requests.{Asked, Versions, OtherVersions, Handshake, Authenticate, Another, Malformed, request}
 use Rattle.kb_isolation_spec.specs.Tenant.{kept_after}
-use Rattle.kb_isolation_spec.specs.Session.{Stage, Greets, BoundTo, Session, fed, overruns, has_member}
+use Rattle.kb_isolation_spec.specs.Session.{Stage, Greets, BoundTo, Session, fed, overruns, has_member, in_front}
 use Rattle.kb_isolation_spec.specs.Greeting.{Setup, for_tenant}
 use Rattle.kb_isolation_spec.specs.Machine.{Happening, Opens, Comes, Closes, Moment, Line, View, put, kept_by, kept_at, each, on, find_line, first_able, all_woken, turn_at, turn_of, turn, again, work, turns, kept_without, kept_closed, kept_fed, step}
 use Rattle.kb_isolation_spec.specs.Left.{last_world}
@@ -66,17 +66,17 @@ small-at setup kept clock n TooSmall small = small
 small-at setup kept clock n TooLarge small = small
 small-at setup kept clock n Partial small = small
 
-small-put : (setup : Setup) (kept : Kept) (clock n : ℕ) (unread : List ℕ) → HasSmallLogs kept.world → HasSmallLogs (put setup kept clock n unread).world
+small-put : (setup : Setup) (kept : Kept) (clock n : ℕ) (f : Front) → HasSmallLogs kept.world → HasSmallLogs (put setup kept clock n f).world
 unfolding put
-small-put setup kept clock n unread small = small-at setup kept clock n (front unread) small
+small-put setup kept clock n f small = small-at setup kept clock n f small
 
-small-turn_at : (w : View) (n : ℕ) (unread : List ℕ) (stage : Stage) → IsSmall w → IsSmall (turn_at w n unread stage)
-small-turn_at w n unread (Greets greeting) small = small
-small-turn_at w n unread (BoundTo tenant wait) small = small-put (for_tenant w.setup tenant) w.kept w.clock n unread small
+small-turn_at : (w : View) (n : ℕ) (f : Front) (stage : Stage) → IsSmall w → IsSmall (turn_at w n f stage)
+small-turn_at w n f (Greets greeting) small = small
+small-turn_at w n f (BoundTo tenant wait) small = small-put (for_tenant w.setup tenant) w.kept w.clock n f small
 
 small-turn_of : (w : View) (o : Option Line) → IsSmall w → IsSmall (turn_of w o)
 small-turn_of w None small = small
-small-turn_of w (Some l) small = small-turn_at w l.number l.session.unread l.session.stage small
+small-turn_of w (Some l) small = small-turn_at w l.number (in_front l.session) l.session.stage small
 
 small-turn : (w : View) → IsSmall w → IsSmall (turn w)
 unfolding turn
@@ -121,7 +121,7 @@ all-wake w small = each-line (λ (l : Line). WakesWithBatches w l.number l.sessi
 
 turn-gives : (w : View) (l : Line) (stage : Stage) → IsSmall w → TurnGivesBatches w l stage
 turn-gives w l (Greets greeting) small = tt
-turn-gives w l (BoundTo tenant wait) small = (serves w tenant l.number l.session small, all-wake (after_request w tenant l) (small-put (for_tenant w.setup tenant) w.kept w.clock l.number l.session.unread small))
+turn-gives w l (BoundTo tenant wait) small = (serves w tenant l.number l.session small, all-wake (after_request w tenant l) (small-put (for_tenant w.setup tenant) w.kept w.clock l.number (in_front l.session) small))
 
 next-gives : (w : View) (o : Option Line) → IsSmall w → NextGivesBatches w o
 next-gives w None small = tt

@@ -1,7 +1,7 @@
 -- A fetch is answered with whole batches, at once and after a wait.
 use Rattle.std.proofs.Common.{◌≡◌, ℕ, ℤ, List, Option, Some, Ok, refl, sym, ◌∙◌, ap, subst, inl, inr}
 use Rattle.kb_wire.specs.declared.api_key.TheConstants.{FETCH}
-use Rattle.kb_api_group.specs.Frames.{Whole, front}
+use Rattle.kb_api_group.specs.Frames.{Whole}
 use Rattle.kb_api_data.specs.declared.fetch.FetchRequest.{FetchRequest}
 use Rattle.kb_tenant.specs.Batches.{HasSmallLogs, HoldsBatches}
 use Rattle.kb_tenant.specs.Fetch.{asked_fetch}
@@ -14,7 +14,7 @@ use Rattle.kb_tenant_api.proofs.Laws.{served-holds}
 use Rattle.kb_isolation_spec.specs.declared.head.Head.{Head}
 use Rattle.kb_isolation_spec.specs.Requests.{Another, request}
 use Rattle.kb_isolation_spec.specs.Tenant.{Wait, Records, answer, ready}
-use Rattle.kb_isolation_spec.specs.Session.{BoundTo, Session, without_wait}
+use Rattle.kb_isolation_spec.specs.Session.{BoundTo, Session, without_wait, in_front}
 use Rattle.kb_isolation_spec.specs.Greeting.{Setup}
 use Rattle.kb_isolation_spec.specs.Machine.{after_reaction, served_by, served_at, after_turn, told, woken_by, woken}
 use Rattle.kb_isolation_spec.specs.Fetches.{GetsBatches}
@@ -36,13 +36,13 @@ answered_by setup kept clock n head version body s r small read (Plain Shuts) e 
 answered_by setup kept clock n head version body s r small read Rebalances e = inr refl
 
 -- a fetch that takes its turn
-pub served-batches : (setup : Setup) (kept : Kept) (clock n : ℕ) (s : Session) (frame rest : List ℕ) (version : ℤ) (body : List ℕ) (r : FetchRequest) → HasSmallLogs kept.world → front s.unread ≡ Whole frame rest → (request setup.versions frame).asked ≡ Another FETCH version body → asked_fetch version body ≡ Ok r
+pub served-batches : (setup : Setup) (kept : Kept) (clock n : ℕ) (s : Session) (frame rest : List ℕ) (version : ℤ) (body : List ℕ) (r : FetchRequest) → HasSmallLogs kept.world → in_front s ≡ Whole frame rest → (request setup.versions frame).asked ≡ Another FETCH version body → asked_fetch version body ≡ Ok r
     → GetsBatches kept.world version r (request setup.versions frame).head (record s { unread = rest }) (after_turn setup kept clock n s)
 unfolding after_turn served_by
 served-batches setup kept clock n s frame rest version body r small at asks read =
     let head = (request setup.versions frame).head in
     let from : Session = record s { unread = rest } in
-    let is : served_at setup kept clock n s (front s.unread) ≡ after_reaction (answer setup.node kept clock n FETCH version body) head version body from =
+    let is : served_at setup kept clock n s (in_front s) ≡ after_reaction (answer setup.node kept clock n FETCH version body) head version body from =
     ap (served_at setup kept clock n s) at ∙ ap (λ a. served_by setup kept clock n head a from) asks in
     subst (GetsBatches kept.world version r head from) (sym is) (answered_by setup kept clock n head version body from r small read (answer setup.node kept clock n FETCH version body) refl)
 

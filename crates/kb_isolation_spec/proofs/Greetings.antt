@@ -5,7 +5,7 @@ use Rattle.std.proofs.lemmas.Bool.Decides.{nat_tests}
 use Rattle.kb_wire.specs.Codec.{int}
 use Rattle.kb_api_group.specs.Frames.{front}
 use Rattle.kb_tenant_api.specs.Hosted.{Kept, passed}
-use Rattle.kb_isolation_spec.specs.Session.{Greeting, Stage, Greets, BoundTo, Session, fresh, overruns, fed, can, is_turn}
+use Rattle.kb_isolation_spec.specs.Session.{Greeting, Stage, Greets, BoundTo, Session, fresh, overruns, fed, can, is_turn, in_front}
 use Rattle.kb_isolation_spec.specs.Greeting.{Setup, greeted}
 use Rattle.kb_isolation_spec.specs.Machine.{Happening, Opens, Comes, Closes, Moment, Line, View, Sent, woken_by, those, each, on, first_able, turn_at, turn, turns, again, kept_without, kept_closed, kept_fed, step, run, sent, by_number, find_line}
 use Rattle.kb_isolation_spec.specs.Owners.{greet_turn, greet_turn_at, heard, whose, destiny, unborn, fate_from, purge}
@@ -41,11 +41,11 @@ turn-lone_by : (w : View) (n : ℕ) (s : Session) (h : Greeting) (b : Bool) → 
 unfolding greet_turn can
 turn-lone_by w n s h true e c =
     turn-some (lone w n s) (record { number = n; session = s }) (able-lone n s true c)
-    ∙ (ap (turn_at (lone w n s) n s.unread) e
+    ∙ (ap (turn_at (lone w n s) n (in_front s)) e
     ∙ (ap (λ ls. record w { lines = ls }) (each-lone n (greeted w.setup h) s)
     ∙ ap (lone w n) (sym (ap (greet_turn_at w.setup s) e))))
 turn-lone_by w n s h false e c =
-    let f : is_turn (front s.unread) ≡ false = grind (arith, e, c) in
+    let f : is_turn (in_front s) ≡ false = grind (arith, e, c) in
     turn-none (lone w n s) (able-lone n s false c) ∙ ap (lone w n) (sym (ap (greet_turn_at w.setup s) e ∙ greeted-still w.setup h s f))
 
 turn-lone : (w : View) (n : ℕ) (s : Session) (st : Stage) → s.stage ≡ st → whose st ≡ None → turn (lone w n s) ≡ lone w n (greet_turn w.setup s)
@@ -179,20 +179,20 @@ run-lone n last (Moment now ∷ es) w s le r c d =
     ap (run (purge (only n) es)) (moment-lone w n s now (now-unbound w.setup n s es s.stage refl d) c)
     ∙ run-lone n last es (record w { kept = passed (max w.clock now) w.kept; clock = max w.clock now }) s le r.1 c d
 
-fresh-still : can fresh ≡ false
+fresh-still : (limit : ℕ) → can (fresh limit) ≡ false
 unfolding can front int
-fresh-still = refl
+fresh-still limit = refl
 
 run-unborn : (n last : ℕ) (es : List Happening) (w : View) → IsRun last es → unborn w.setup n es ≡ None → run (purge (only n) es) (empty w) ≡ sent_by n (once_opened w.setup n es)
 run-unborn n last [] w r d = refl
 run-unborn n last (Opens m ∷ es) w r d = by (eqb m n) refl (run-unborn n m es w r.1)
   where
-    by : (b : Bool) → eqb m n ≡ b → (unborn w.setup n es ≡ None → run (purge (only n) es) (empty w) ≡ sent_by n (once_opened w.setup n es)) → run (cond b (Opens m ∷ purge (only n) es) (purge (only n) es)) (empty w) ≡ sent_by n (cond b (Some (greeting w.setup fresh (pieces_of n es))) (once_opened w.setup n es))
+    by : (b : Bool) → eqb m n ≡ b → (unborn w.setup n es ≡ None → run (purge (only n) es) (empty w) ≡ sent_by n (once_opened w.setup n es)) → run (cond b (Opens m ∷ purge (only n) es) (purge (only n) es)) (empty w) ≡ sent_by n (cond b (Some (greeting w.setup (fresh w.setup.request_bytes) (pieces_of n es))) (once_opened w.setup n es))
     by true e rest =
         let is : m ≡ n = grind (arith, nat_tests) in
-        ap (λ k. run (purge (only n) es) (lone w k fresh)) is
-        ∙ run-lone n m es w fresh (omega arith) r.1 fresh-still ((cond-none (eqb m n) (destiny w.setup n fresh es) (unborn w.setup n es) d).0 e)
-    by false e rest = rest ((cond-none (eqb m n) (destiny w.setup n fresh es) (unborn w.setup n es) d).1 e)
+        ap (λ k. run (purge (only n) es) (lone w k (fresh w.setup.request_bytes))) is
+        ∙ run-lone n m es w (fresh w.setup.request_bytes) (omega arith) r.1 (fresh-still w.setup.request_bytes) ((cond-none (eqb m n) (destiny w.setup n (fresh w.setup.request_bytes) es) (unborn w.setup n es) d).0 e)
+    by false e rest = rest ((cond-none (eqb m n) (destiny w.setup n (fresh w.setup.request_bytes) es) (unborn w.setup n es) d).1 e)
 run-unborn n last (Comes m piece ∷ es) w r d = by (eqb m n) (run-unborn n last es w r d)
   where
     by : (b : Bool) → run (purge (only n) es) (empty w) ≡ sent_by n (once_opened w.setup n es) → run (cond b (Comes m piece ∷ purge (only n) es) (purge (only n) es)) (empty w) ≡ sent_by n (once_opened w.setup n es)

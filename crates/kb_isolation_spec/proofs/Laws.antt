@@ -13,7 +13,7 @@ use Rattle.kb_tenant.specs.Replies as tenant
 use Rattle.kb_tenant.specs.Replies.{Replies, Waits, Silent, Shuts, framed, reply_size}
 use Rattle.kb_tenant_api.specs.Replies.{Reaction, Plain, Rebalances}
 use Rattle.kb_isolation_spec.specs.Tenant.{answer, ready}
-use Rattle.kb_isolation_spec.specs.Session.{Greeting, Unshaken, Shaken, Bare, Stage, Greets, BoundTo, Session, shut_down, replied, throttled, unanswerable, is_turn, can}
+use Rattle.kb_isolation_spec.specs.Session.{Greeting, Unshaken, Shaken, Bare, Stage, Greets, BoundTo, Session, shut_down, replied, throttled, unanswerable, is_turn, can, in_front}
 use Rattle.kb_isolation_spec.specs.Greeting.{Setup, for_tenant, greeted_by, greeted_frame, greeted_at, greeted, greeting_after, shaken, authenticated, logged_in, bare_login, bound, login}
 use Rattle.kb_isolation_spec.specs.Machine.{Line, View, plainly, after_reaction, served_by, served_at, after_turn, put, told, woken_by, woken, each, on, those, first_able, turn_at, turn_of, turn, again, work, turns}
 
@@ -42,9 +42,9 @@ first-can (k ∷ ls) l h = grind (arith, nat_tests, first-can ls l)
 last-rest : (n : ℕ) (behind frame rest : List ℕ) → Whole (take n behind) (drop n behind) ≡ Whole frame rest → length rest ≤ length behind
 last-rest n behind frame rest e = let d : drop n behind ≡ rest = cc in omega (arith, ap length d, length-drop n behind)
 
-by-rest : (z : ℤ) (behind frame rest : List ℕ) → front_by z behind ≡ Whole frame rest → length rest ≤ length behind
-by-rest (negsuc n) behind frame rest e = cc
-by-rest (pos n) behind frame rest e = cases n behind frame rest (nat_lt n 8) (nat_lt 2097152 n) (nat_lt (length behind) n) e
+by-rest : (limit : ℕ) (z : ℤ) (behind frame rest : List ℕ) → front_by limit z behind ≡ Whole frame rest → length rest ≤ length behind
+by-rest limit (negsuc n) behind frame rest e = cc
+by-rest limit (pos n) behind frame rest e = cases n behind frame rest (nat_lt n 8) (nat_lt limit n) (nat_lt (length behind) n) e
   where
     cases : (n : ℕ) (behind frame rest : List ℕ) (a b c : Bool) → cond a TooSmall (cond b TooLarge (cond c Partial (Whole (take n behind) (drop n behind)))) ≡ Whole frame rest → length rest ≤ length behind
     cases n behind frame rest true b c e = cc
@@ -52,24 +52,24 @@ by-rest (pos n) behind frame rest e = cases n behind frame rest (nat_lt n 8) (na
     cases n behind frame rest false false true e = cc
     cases n behind frame rest false false false e = last-rest n behind frame rest e
 
-front-rest_by : (unread frame rest : List ℕ) (b : Bool) → nat_lt (length unread) 4 ≡ b → front unread ≡ Whole frame rest → length rest < length unread
+front-rest_by : (limit : ℕ) (unread frame rest : List ℕ) (b : Bool) → nat_lt (length unread) 4 ≡ b → front limit unread ≡ Whole frame rest → length rest < length unread
 unfolding front int
-front-rest_by unread frame rest true h e = let f : Partial ≡ Whole frame rest = rw h at e in cc
-front-rest_by unread frame rest false h e =
+front-rest_by limit unread frame rest true h e = let f : Partial ≡ Whole frame rest = rw h at e in cc
+front-rest_by limit unread frame rest false h e =
     let le : 4 ≤ length unread = grind (arith, nat_tests) in
     let size = cast_signed w32 (from_be_bytes w32 (take 4 unread)) in
-    let f : front_by size (drop 4 unread) ≡ Whole frame rest = rw h at e in
-    let g = by-rest size (drop 4 unread) frame rest f in
+    let f : front_by limit size (drop 4 unread) ≡ Whole frame rest = rw h at e in
+    let g = by-rest limit size (drop 4 unread) frame rest f in
     omega (arith, g, length-drop 4 unread)
 
 -- what stands behind a frame is shorter
-pub front-rest : (unread frame rest : List ℕ) → front unread ≡ Whole frame rest → length rest < length unread
-front-rest unread frame rest e = front-rest_by unread frame rest (nat_lt (length unread) 4) refl e
+pub front-rest : (limit : ℕ) (unread frame rest : List ℕ) → front limit unread ≡ Whole frame rest → length rest < length unread
+front-rest limit unread frame rest e = front-rest_by limit unread frame rest (nat_lt (length unread) 4) refl e
 
-pub some-left : (unread : List ℕ) → is_turn (front unread) ≡ true → 0 < length unread
+pub some-left : (limit : ℕ) (unread : List ℕ) → is_turn (front limit unread) ≡ true → 0 < length unread
 unfolding front int
-some-left [] h = cc
-some-left (b ∷ unread) h = omega arith
+some-left limit [] h = cc
+some-left limit (b ∷ unread) h = omega arith
 
 pub replied-le : (head : Head) (body : List ℕ) (s : Session) → length (replied head body s).unread ≤ length s.unread
 unfolding replied
@@ -133,19 +133,19 @@ greeted_frame-le setup Unshaken frame s = let r = request setup.versions frame i
 greeted_frame-le setup Shaken frame s = let r = request setup.versions frame in greeted_by-le setup true r.head r.asked s
 greeted_frame-le setup Bare frame s = bare_login-le (login setup.users frame) s
 
-greeted_at-less : (setup : Setup) (h : Greeting) (s : Session) (f : Front) → front s.unread ≡ f → is_turn f ≡ true → length (greeted_at setup h s f).unread < length s.unread
+greeted_at-less : (setup : Setup) (h : Greeting) (s : Session) (f : Front) → in_front s ≡ f → is_turn f ≡ true → length (greeted_at setup h s f).unread < length s.unread
 greeted_at-less setup h s (Whole frame rest) e t =
     let le = greeted_frame-le setup h frame (record s { unread = rest }) in
-    let lt = front-rest s.unread frame rest e in
+    let lt = front-rest s.limit s.unread frame rest e in
     omega arith
-greeted_at-less setup h s TooSmall e t = some-left s.unread (ap is_turn e)
-greeted_at-less setup h s TooLarge e t = some-left s.unread (ap is_turn e)
+greeted_at-less setup h s TooSmall e t = some-left s.limit s.unread (ap is_turn e)
+greeted_at-less setup h s TooLarge e t = some-left s.limit s.unread (ap is_turn e)
 greeted_at-less setup h s Partial e t = cc
 
 -- a greeting connection's turn takes bytes
-pub greeted-less : (setup : Setup) (h : Greeting) (s : Session) → is_turn (front s.unread) ≡ true → length (greeted setup h s).unread < length s.unread
+pub greeted-less : (setup : Setup) (h : Greeting) (s : Session) → is_turn (in_front s) ≡ true → length (greeted setup h s).unread < length s.unread
 unfolding greeted
-greeted-less setup h s t = greeted_at-less setup h s (front s.unread) refl t
+greeted-less setup h s t = greeted_at-less setup h s (in_front s) refl t
 
 greeted_at-still : (setup : Setup) (h : Greeting) (s : Session) (f : Front) → is_turn f ≡ false → greeted_at setup h s f ≡ s
 greeted_at-still setup h s (Whole frame rest) t = cc
@@ -154,24 +154,24 @@ greeted_at-still setup h s TooLarge t = cc
 greeted_at-still setup h s Partial t = refl
 
 -- or changes nothing
-pub greeted-still : (setup : Setup) (h : Greeting) (s : Session) → is_turn (front s.unread) ≡ false → greeted setup h s ≡ s
+pub greeted-still : (setup : Setup) (h : Greeting) (s : Session) → is_turn (in_front s) ≡ false → greeted setup h s ≡ s
 unfolding greeted
-greeted-still setup h s t = greeted_at-still setup h s (front s.unread) t
+greeted-still setup h s t = greeted_at-still setup h s (in_front s) t
 
-served_at-less : (setup : Setup) (kept : Kept) (clock n : ℕ) (s : Session) (f : Front) → front s.unread ≡ f → is_turn f ≡ true → length (served_at setup kept clock n s f).unread < length s.unread
+served_at-less : (setup : Setup) (kept : Kept) (clock n : ℕ) (s : Session) (f : Front) → in_front s ≡ f → is_turn f ≡ true → length (served_at setup kept clock n s f).unread < length s.unread
 served_at-less setup kept clock n s (Whole frame rest) e t =
     let r = request setup.versions frame in
     let le = served_by-le setup kept clock n r.head r.asked (record s { unread = rest }) in
-    let lt = front-rest s.unread frame rest e in
+    let lt = front-rest s.limit s.unread frame rest e in
     omega arith
-served_at-less setup kept clock n s TooSmall e t = some-left s.unread (ap is_turn e)
-served_at-less setup kept clock n s TooLarge e t = some-left s.unread (ap is_turn e)
+served_at-less setup kept clock n s TooSmall e t = some-left s.limit s.unread (ap is_turn e)
+served_at-less setup kept clock n s TooLarge e t = some-left s.limit s.unread (ap is_turn e)
 served_at-less setup kept clock n s Partial e t = cc
 
 -- a bound connection's turn takes bytes
-pub served-less : (setup : Setup) (kept : Kept) (clock n : ℕ) (s : Session) → is_turn (front s.unread) ≡ true → length (after_turn setup kept clock n s).unread < length s.unread
+pub served-less : (setup : Setup) (kept : Kept) (clock n : ℕ) (s : Session) → is_turn (in_front s) ≡ true → length (after_turn setup kept clock n s).unread < length s.unread
 unfolding after_turn
-served-less setup kept clock n s t = served_at-less setup kept clock n s (front s.unread) refl t
+served-less setup kept clock n s t = served_at-less setup kept clock n s (in_front s) refl t
 
 served_at-still : (setup : Setup) (kept : Kept) (clock n : ℕ) (s : Session) (f : Front) → is_turn f ≡ false → served_at setup kept clock n s f ≡ s
 served_at-still setup kept clock n s (Whole frame rest) t = cc
@@ -179,11 +179,11 @@ served_at-still setup kept clock n s TooSmall t = cc
 served_at-still setup kept clock n s TooLarge t = cc
 served_at-still setup kept clock n s Partial t = refl
 
-served-still : (setup : Setup) (kept : Kept) (clock n : ℕ) (s : Session) → is_turn (front s.unread) ≡ false → after_turn setup kept clock n s ≡ s
+served-still : (setup : Setup) (kept : Kept) (clock n : ℕ) (s : Session) → is_turn (in_front s) ≡ false → after_turn setup kept clock n s ≡ s
 unfolding after_turn
-served-still setup kept clock n s t = served_at-still setup kept clock n s (front s.unread) t
+served-still setup kept clock n s t = served_at-still setup kept clock n s (in_front s) t
 
-pub can-turn : (s : Session) → can s ≡ true → is_turn (front s.unread) ≡ true
+pub can-turn : (s : Session) → can s ≡ true → is_turn (in_front s) ≡ true
 unfolding can
 can-turn s h = grind arith
 
@@ -198,13 +198,13 @@ le_by false x y p q = let e = ap (λ (s : Session). length s.unread) (q refl) in
 
 pub greeted-takes : (setup : Setup) (h : Greeting) → Takes (greeted setup h)
 greeted-takes setup h = record {
-  le = λ s. le_by (is_turn (front s.unread)) (greeted setup h s) s (greeted-less setup h s) (greeted-still setup h s);
+  le = λ s. le_by (is_turn (in_front s)) (greeted setup h s) s (greeted-less setup h s) (greeted-still setup h s);
   less = λ s c. greeted-less setup h s (can-turn s c);
 }
 
 pub served-takes : (setup : Setup) (kept : Kept) (clock n : ℕ) → Takes (after_turn setup kept clock n)
 served-takes setup kept clock n = record {
-  le = λ s. le_by (is_turn (front s.unread)) (after_turn setup kept clock n s) s (served-less setup kept clock n s) (served-still setup kept clock n s);
+  le = λ s. le_by (is_turn (in_front s)) (after_turn setup kept clock n s) s (served-less setup kept clock n s) (served-still setup kept clock n s);
   less = λ s c. served-less setup kept clock n s (can-turn s c);
 }
 
@@ -240,10 +240,10 @@ pub work-woken : (kept : Kept) (clock : ℕ) (ls : List Line) → work (each (λ
 work-woken kept clock [] = omega arith
 work-woken kept clock (l ∷ ls) = let h = woken_by-le kept clock l.number l.session l.session.stage in omega (arith, h, work-woken kept clock ls)
 
-work-turn_at : (w : View) (l : Line) (st : Stage) → first_able w.lines ≡ Some l → work (turn_at w l.number l.session.unread st).lines < work w.lines
+work-turn_at : (w : View) (l : Line) (st : Stage) → first_able w.lines ≡ Some l → work (turn_at w l.number (in_front l.session) st).lines < work w.lines
 work-turn_at w l (Greets h) f = work-on l.number (greeted w.setup h) (greeted-takes w.setup h) w.lines l f refl
 work-turn_at w l (BoundTo u wait) f =
-    let e = work-woken (put (for_tenant w.setup u) w.kept w.clock l.number l.session.unread) w.clock (each (on l.number (after_turn (for_tenant w.setup u) w.kept w.clock l.number)) w.lines) in
+    let e = work-woken (put (for_tenant w.setup u) w.kept w.clock l.number (in_front l.session)) w.clock (each (on l.number (after_turn (for_tenant w.setup u) w.kept w.clock l.number)) w.lines) in
     let lt = work-on l.number (after_turn (for_tenant w.setup u) w.kept w.clock l.number) (served-takes (for_tenant w.setup u) w.kept w.clock l.number) w.lines l f refl in
     omega (arith, e, lt)
 
@@ -253,7 +253,7 @@ pub turn-none : (w : View) → first_able w.lines ≡ None → turn w ≡ w
 unfolding turn
 turn-none w h = ap (turn_of w) h
 
-pub turn-some : (w : View) (l : Line) → first_able w.lines ≡ Some l → turn w ≡ turn_at w l.number l.session.unread l.session.stage
+pub turn-some : (w : View) (l : Line) → first_able w.lines ≡ Some l → turn w ≡ turn_at w l.number (in_front l.session) l.session.stage
 unfolding turn
 turn-some w l h = ap (turn_of w) h
 

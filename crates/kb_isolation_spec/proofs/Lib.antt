@@ -16,6 +16,7 @@ pub mod Isolation
 pub mod Alone
 pub mod Quiet
 pub mod Ranges
+pub mod RequestLimits
 pub mod Runs
 pub mod Sets
 pub mod Steps

@@ -1,7 +1,7 @@
 -- In a whole run of a tenant's machine no count of what it has passes its limit.
 use Rattle.std.proofs.Common.{◌≡◌, ◌∙◌, ◌++◌, ℕ, zero, suc, max, List, [], ◌∷◌, Bool, true, false, cond, Option, Some, None, refl, sym, ap, subst}
 use Rattle.std.proofs.lemmas.List.{append-nil}
-use Rattle.kb_api_group.specs.Frames.{Front, Whole, Partial, TooSmall, TooLarge, front}
+use Rattle.kb_api_group.specs.Frames.{Front, Whole, Partial, TooSmall, TooLarge}
 use Rattle.kb_tenant_state.specs.World as tenants
 use Rattle.kb_tenant.specs.LimitsKept.{AreLimitsKept, HasOrderedCommits}
 use Rattle.kb_tenant.specs.declared.limits.DataLimits.{DataLimits}
@@ -11,7 +11,7 @@ use Rattle.kb_tenant_api.specs.Hosted.{Kept, left, passed}
 use Rattle.kb_tenant_api.proofs.LimitsKept.{served_stays}
 use Rattle.kb_isolation_spec.specs.Requests.{Asked, Versions, OtherVersions, Handshake, Authenticate, Another, Malformed, request}
 use Rattle.kb_isolation_spec.specs.Tenant.{Wait, kept_after}
-use Rattle.kb_isolation_spec.specs.Session.{Stage, Greets, BoundTo, Session, fed, has_member, overruns}
+use Rattle.kb_isolation_spec.specs.Session.{Stage, Greets, BoundTo, Session, fed, has_member, overruns, in_front}
 use Rattle.kb_isolation_spec.specs.Greeting.{Setup, for_tenant, node_of}
 use Rattle.kb_isolation_spec.specs.Machine.{Happening, Opens, Comes, Closes, Moment, Line, Sent, View, again, all_woken, each, find_line, first_able, kept_at, kept_by, kept_closed, kept_fed, kept_without, on, put, step, turn, turn_at, turns, work}
 use Rattle.kb_isolation_spec.specs.Owners.{purge}
@@ -68,20 +68,20 @@ stays-at setup kept clock n TooSmall = stays_same setup.node.limits kept.world
 stays-at setup kept clock n TooLarge = stays_same setup.node.limits kept.world
 stays-at setup kept clock n Partial = stays_same setup.node.limits kept.world
 
-stays-put : (setup : Setup) (kept : Kept) (clock n : ℕ) (unread : List ℕ) → Keeps setup.node.limits kept (put setup kept clock n unread)
+stays-put : (setup : Setup) (kept : Kept) (clock n : ℕ) (f : Front) → Keeps setup.node.limits kept (put setup kept clock n f)
 unfolding put
-stays-put setup kept clock n unread = stays-at setup kept clock n (front unread)
+stays-put setup kept clock n f = stays-at setup kept clock n f
 
 -- ---- a turn
 
 abbrev limits_of : View → ℕ → DataLimits
 limits_of w t = (node_of w.setup t).limits
 
-stays-turn_at : (w : View) (t n : ℕ) (unread : List ℕ) (stage : Stage) → ((u : ℕ) (wait : Option Wait) → stage ≡ BoundTo u wait → u ≡ t) → Keeps (limits_of w t) w.kept (turn_at w n unread stage).kept
-stays-turn_at w t n unread (Greets greeting) own = stays_same (limits_of w t) w.kept.world
-stays-turn_at w t n unread (BoundTo u wait) own =
-    let after : Kept = put (for_tenant w.setup u) w.kept w.clock n unread in
-    subst (λ v. Keeps (limits_of w v) w.kept after) (own u wait refl) (stays-put (for_tenant w.setup u) w.kept w.clock n unread)
+stays-turn_at : (w : View) (t n : ℕ) (f : Front) (stage : Stage) → ((u : ℕ) (wait : Option Wait) → stage ≡ BoundTo u wait → u ≡ t) → Keeps (limits_of w t) w.kept (turn_at w n f stage).kept
+stays-turn_at w t n f (Greets greeting) own = stays_same (limits_of w t) w.kept.world
+stays-turn_at w t n f (BoundTo u wait) own =
+    let after : Kept = put (for_tenant w.setup u) w.kept w.clock n f in
+    subst (λ v. Keeps (limits_of w v) w.kept after) (own u wait refl) (stays-put (for_tenant w.setup u) w.kept w.clock n f)
 
 stays-turn : (w : View) (t : ℕ) → ((l : Line) (u : ℕ) (wait : Option Wait) → first_able w.lines ≡ Some l → l.session.stage ≡ BoundTo u wait → u ≡ t) → Keeps (limits_of w t) w.kept (turn w).kept
 stays-turn w t own = by (first_able w.lines) refl
@@ -90,7 +90,7 @@ stays-turn w t own = by (first_able w.lines) refl
     by None e = subst (λ (v : View). Keeps (limits_of w t) w.kept v.kept) (sym (turn-none w e)) (stays_same (limits_of w t) w.kept.world)
     by (Some l) e =
         subst (λ (v : View). Keeps (limits_of w t) w.kept v.kept) (sym (turn-some w l e))
-        (stays-turn_at w t l.number l.session.unread l.session.stage (λ u wait at. own l u wait e at))
+        (stays-turn_at w t l.number (in_front l.session) l.session.stage (λ u wait at. own l u wait e at))
 
 -- the turn of a connection that is bound to a tenant
 pub turn-kept : (w : View) (l : Line) (t : ℕ) (wait : Option Wait) → first_able w.lines ≡ Some l → l.session.stage ≡ BoundTo t wait → HasOrderedCommits w.kept.world

@@ -7,7 +7,7 @@ use Rattle.std.specs.Option.{option_map}
 use Rattle.std.specs.Str.{bytes_eq}
 use Rattle.kb_api_group.specs.Plain.{plain}
 use Rattle.kb_api_group.specs.declared.plain.PlainLogin.{PlainLogin}
-use Rattle.kb_api_group.specs.Frames.{Front, Whole, Partial, TooSmall, TooLarge, front}
+use Rattle.kb_api_group.specs.Frames.{Front, Whole, Partial, TooSmall, TooLarge}
 use Rattle.kb_tenant.specs.Replies as tenant
 use Rattle.kb_tenant.specs.Replies.{Replies, Waits, Silent, Shuts}
 use Rattle.kb_tenant_api.specs.Hosted.{Kept, passed}
@@ -19,7 +19,7 @@ use Rattle.kb_isolation_spec.specs.declared.shut.Shut.{Shut}
 use Rattle.kb_isolation_spec.specs.declared.shut.Shut.TheVariants as causes
 use Rattle.kb_isolation_spec.specs.Requests.{Asked, Versions, OtherVersions, Handshake, Authenticate, Another, Malformed, request, unserved}
 use Rattle.kb_isolation_spec.specs.Tenant.{Wait, answer, ready}
-use Rattle.kb_isolation_spec.specs.Session.{Greeting, Unshaken, Shaken, Bare, Stage, Greets, BoundTo, Session, can, fresh, fed, replied, room, shut_down, unanswerable, without_wait}
+use Rattle.kb_isolation_spec.specs.Session.{Greeting, Unshaken, Shaken, Bare, Stage, Greets, BoundTo, Session, can, fresh, fed, replied, room, shut_down, unanswerable, without_wait, in_front}
 use Rattle.kb_isolation_spec.specs.Greeting.{Setup, User, for_tenant, known_from, known_or, login, login_by, bound, failed, failed_reply, logged_in, bare_login, greeting_after, shaken, authenticated, greeted_by, greeted_frame, greeted_at, greeted}
 use Rattle.kb_isolation_spec.specs.Machine.{Happening, Opens, Comes, Closes, Moment, Line, View, plainly, after_reaction, served_by, served_at, after_turn, put, told, woken, woken_by, each, on, those, find_line, first_able, all_woken, turn_at, turn_of, turn, again, work, turns, kept_closed, kept_fed, step}
 use Rattle.kb_isolation_spec.specs.Broker.{Rising, IsRun}
@@ -114,7 +114,7 @@ has-frame setup Bare g frame s e = has-bare setup.users (login setup.users frame
 -- the turn of one that greets
 pub has-greeted : (setup : Setup) (h : Greeting) (s : Session) → s.stage ≡ Greets h → Has setup.users (greeted setup h s)
 unfolding greeted
-has-greeted setup h s e = by (front s.unread)
+has-greeted setup h s e = by (in_front s)
   where
     by : (f : Front) → Has setup.users (greeted_at setup h s f)
     by (Whole frame rest) = has-frame setup h h frame (record s { unread = rest }) e
@@ -144,7 +144,7 @@ login-served_by setup kept clock n head Malformed s = refl
 -- the turn of one that is bound
 pub login-served : (setup : Setup) (kept : Kept) (clock n : ℕ) (s : Session) → (after_turn setup kept clock n s).login ≡ s.login
 unfolding after_turn
-login-served setup kept clock n s = by (front s.unread)
+login-served setup kept clock n s = by (in_front s)
   where
     by : (f : Front) → (served_at setup kept clock n s f).login ≡ s.login
     by (Whole frame rest) = login-served_by setup kept clock n (request setup.versions frame).head (request setup.versions frame).asked (record s { unread = rest })
@@ -229,7 +229,7 @@ good-woken last w g = record {
   have = all-each w.setup.users (λ k s. woken w.kept w.clock k s) (λ n s h. has-woken w.setup.users w.kept w.clock n s h) w.lines g.have;
 }
 
-good-turn_at : (last : ℕ) (w : View) (l : Line) → first_able w.lines ≡ Some l → IsGood last w → (st : Stage) → l.session.stage ≡ st → IsGood last (turn_at w l.number l.session.unread st)
+good-turn_at : (last : ℕ) (w : View) (l : Line) → first_able w.lines ≡ Some l → IsGood last w → (st : Stage) → l.session.stage ≡ st → IsGood last (turn_at w l.number (in_front l.session) st)
 good-turn_at last w l e g (Greets h) is = record {
   rising = rising-each 0 last (on l.number (greeted w.setup h)) w.lines g.rising;
   have = all-first w.setup.users last (greeted w.setup h) w.lines l g.rising e (has-greeted w.setup h l.session is) g.have;
@@ -237,7 +237,7 @@ good-turn_at last w l e g (Greets h) is = record {
 good-turn_at last w l e g (BoundTo t wait) is =
     let setup = for_tenant w.setup t in
     let f : Session → Session = after_turn setup w.kept w.clock l.number in
-    good-woken last (record w { kept = put setup w.kept w.clock l.number l.session.unread; lines = each (on l.number f) w.lines }) (record {
+    good-woken last (record w { kept = put setup w.kept w.clock l.number (in_front l.session); lines = each (on l.number f) w.lines }) (record {
       rising = rising-each 0 last (on l.number f) w.lines g.rising;
       have = all-on w.setup.users l.number f (λ s h. has-served w.setup.users setup w.kept w.clock l.number s h) w.lines g.have;
     })
@@ -262,7 +262,7 @@ setup-turn_of : (w : View) (o : Option Line) → (turn_of w o).setup ≡ w.setup
 setup-turn_of w None = refl
 setup-turn_of w (Some l) = by l.session.stage
   where
-    by : (st : Stage) → (turn_at w l.number l.session.unread st).setup ≡ w.setup
+    by : (st : Stage) → (turn_at w l.number (in_front l.session) st).setup ≡ w.setup
     by (Greets h) = refl
     by (BoundTo t wait) = refl
 
@@ -278,7 +278,7 @@ setup-turns : (w : View) → (turns w).setup ≡ w.setup
 unfolding turns
 setup-turns w = setup-again (work w.lines) w
 
-setup-step : (e : Happening) (w : View) → (step e w).setup ≡ w.setup
+pub setup-step : (e : Happening) (w : View) → (step e w).setup ≡ w.setup
 setup-step (Opens n) w = refl
 setup-step (Comes n piece) w = setup-turns (record w { kept = kept_fed piece w.clock n (find_line n w.lines) w.kept; lines = each (on n (fed piece)) w.lines })
 setup-step (Closes n) w = refl
@@ -294,7 +294,7 @@ have-last last es w r run h = by last es w run (record { rising = r; have = h })
     by : (last : ℕ) (es : List Happening) (w : View) → IsRun last es → IsGood last w → HaveLoggedIn w.setup.users (last_world es w).lines
     by last [] w run g = g.have
     by last (Opens n ∷ es) w run g =
-        let l : Line = record { number = n; session = fresh } in
+        let l : Line = record { number = n; session = fresh w.setup.request_bytes } in
         by n es (step (Opens n) w) run.1 (record {
           rising = rising-push 0 last n w.lines l g.rising run.0 refl;
           have = all-push _ w.lines l g.have tt;

@@ -11,7 +11,7 @@ use Rattle.kb_tenant.specs.Serve.{looked, looked_at}
 use Rattle.kb_tenant_api.specs.Hosted.{Kept}
 use Rattle.kb_isolation_spec.specs.declared.head.Head.{Head}
 use Rattle.kb_isolation_spec.specs.Tenant.{Records, Wait, ready}
-use Rattle.kb_isolation_spec.specs.Session.{BoundTo, Session, replied, without_wait}
+use Rattle.kb_isolation_spec.specs.Session.{BoundTo, Session, replied, without_wait, in_front}
 use Rattle.kb_isolation_spec.specs.Machine.{View, Line, Happening, again, all_woken, first_able, told, turn, turn_at, turns, woken, woken_by, work}
 use Rattle.kb_isolation_spec.specs.Owners.{concerns, purge}
 use Rattle.kb_isolation_spec.specs.Fetches.{AllTurnsGiveBatches, AllWakeWithBatches, NextGivesBatches, ServesBatches, TurnGivesBatches, TurnsGiveBatches, after_request}
@@ -53,7 +53,7 @@ turns-again w = refl
 
 -- the turn of a bound connection
 pub turn-bound : (w : View) (l : Line) (tenant : ℕ) (wait : Option Wait) → first_able w.lines ≡ Some l → l.session.stage ≡ BoundTo tenant wait → turn w ≡ all_woken (after_request w tenant l)
-turn-bound w l tenant wait first bound = turn-some w l first ∙ ap (turn_at w l.number l.session.unread) bound
+turn-bound w l tenant wait first bound = turn-some w l first ∙ ap (turn_at w l.number (in_front l.session)) bound
 
 pub next-serves : (w : View) (l : Line) (tenant : ℕ) (wait : Option Wait) → first_able w.lines ≡ Some l → l.session.stage ≡ BoundTo tenant wait
     → NextGivesBatches w (first_able w.lines) → ServesBatches w tenant l.number l.session × AllWakeWithBatches (after_request w tenant l)

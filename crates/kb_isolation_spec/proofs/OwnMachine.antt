@@ -7,7 +7,8 @@ use Rattle.kb_tenant.specs.Replies.{Replies, Waits, Silent, Shuts}
 use Rattle.kb_tenant_api.specs.Hosted.{Kept, passed}
 use Rattle.kb_isolation_spec.specs.declared.head.Head.{Head}
 use Rattle.kb_isolation_spec.specs.Tenant.{Wait, ready}
-use Rattle.kb_isolation_spec.specs.Session.{Greeting, Stage, Greets, BoundTo, Session, can, fed, fresh, without_wait}
+use Rattle.kb_api_group.specs.Frames.{Front}
+use Rattle.kb_isolation_spec.specs.Session.{Greeting, Stage, Greets, BoundTo, Session, can, fed, fresh, without_wait, in_front}
 use Rattle.kb_isolation_spec.specs.Greeting.{Setup, for_tenant, greeted}
 use Rattle.kb_isolation_spec.specs.Machine.{Happening, Opens, Comes, Closes, Moment, Line, View, after_turn, again, all_woken, each, find_line, first_able, kept_fed, on, put, step, those, told, turn, turn_at, turns, woken, woken_by, work}
 use Rattle.kb_isolation_spec.specs.Calls.{other_than}
@@ -118,7 +119,7 @@ module _ (t last : ℕ) (es : List Happening) where
     own = own-woken w.setup t es w.kept w.clock w.lines h.own;
   }
 
-  turning_at : (w : View) (l : Line) → IsTurning t last es w → first_able w.lines ≡ Some l → (st : Stage) → l.session.stage ≡ st → IsTurning t last es (turn_at w l.number l.session.unread st)
+  turning_at : (w : View) (l : Line) → IsTurning t last es w → first_able w.lines ≡ Some l → (st : Stage) → l.session.stage ≡ st → IsTurning t last es (turn_at w l.number (in_front l.session) st)
   turning_at w l h able (Greets greeting) e = record {
     rising = rising-each (on l.number (greeted w.setup greeting)) 0 last w.lines h.rising;
     own = own-on w.setup t es last (greeted w.setup greeting) w.lines l h.rising able (end-greeted w.setup greeting l.session e) h.own;
@@ -126,7 +127,7 @@ module _ (t last : ℕ) (es : List Happening) where
   turning_at w l h able (BoundTo u wait) e =
       let setup = for_tenant w.setup u in
       let f : Session → Session = after_turn setup w.kept w.clock l.number in
-      let v : View = record w { kept = put setup w.kept w.clock l.number l.session.unread; lines = each (on l.number f) w.lines } in
+      let v : View = record w { kept = put setup w.kept w.clock l.number (in_front l.session); lines = each (on l.number f) w.lines } in
       woken-turning v (record {
         rising = rising-each (on l.number f) 0 last w.lines h.rising;
         own = own-on w.setup t es last f w.lines l h.rising able
@@ -159,13 +160,13 @@ module _ (t last : ℕ) (es : List Happening) where
 setup-turn : (w : View) → (turn w).setup ≡ w.setup
 setup-turn w = by (first_able w.lines) refl
   where
-    at : (n : ℕ) (unread : List ℕ) (st : Stage) → (turn_at w n unread st).setup ≡ w.setup
-    at n unread (Greets h) = refl
-    at n unread (BoundTo u wait) = refl
+    at : (n : ℕ) (f : Front) (st : Stage) → (turn_at w n f st).setup ≡ w.setup
+    at n f (Greets h) = refl
+    at n f (BoundTo u wait) = refl
 
     by : (o : Option Line) → first_able w.lines ≡ o → (turn w).setup ≡ w.setup
     by None e = ap (λ (v : View). v.setup) (turn-none w e)
-    by (Some l) e = ap (λ (v : View). v.setup) (turn-some w l e) ∙ at l.number l.session.unread l.session.stage
+    by (Some l) e = ap (λ (v : View). v.setup) (turn-some w l e) ∙ at l.number (in_front l.session) l.session.stage
 
 pub turn-setup : (w : View) → (turn w).setup ≡ w.setup
 turn-setup w = setup-turn w
@@ -227,8 +228,8 @@ after_turns t last es w h run later =
 
 pub machine-step : (t last : ℕ) (e : Happening) (es : List Happening) (w : View) → IsMachineOf t last (e ∷ es) w → IsMachineOf t (last_after e last) es (step e w)
 machine-step t last (Opens n) es w h = record {
-  rising = rising-push 0 last n w.lines (record { number = n; session = fresh }) h.rising h.in_order.0 refl;
-  settled = first-push w.lines (record { number = n; session = fresh }) h.settled can-fresh;
+  rising = rising-push 0 last n w.lines (record { number = n; session = fresh w.setup.request_bytes }) h.rising h.in_order.0 refl;
+  settled = first-push w.lines (record { number = n; session = fresh w.setup.request_bytes }) h.settled (can-fresh w.setup.request_bytes);
   in_order = h.in_order.1;
   own = owns-opens w.setup t last n every es w.lines h.in_order.0 h.own;
 }

@@ -89,7 +89,7 @@ below-destiny k setup n s (Comes m piece ∷ es) us r =
 
 below-unborn : (k : ℕ) (setup : Setup) (n : ℕ) (es : List Happening) → AreUsers k setup.users → IsBelow k (unborn setup n es)
 below-unborn k setup n [] us = tt
-below-unborn k setup n (Opens m ∷ es) us = below-if k (destiny setup n fresh es) (unborn setup n es) (eqb m n) (below-destiny k setup n fresh es us tt) (below-unborn k setup n es us)
+below-unborn k setup n (Opens m ∷ es) us = below-if k (destiny setup n (fresh setup.request_bytes) es) (unborn setup n es) (eqb m n) (below-destiny k setup n (fresh setup.request_bytes) es us tt) (below-unborn k setup n es us)
 below-unborn k setup n (Moment m ∷ es) us = below-unborn k setup n es us
 below-unborn k setup n (Closes m ∷ es) us = below-unborn k setup n es us
 below-unborn k setup n (Comes m piece ∷ es) us = below-unborn k setup n es us

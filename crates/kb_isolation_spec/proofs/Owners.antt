@@ -3,7 +3,7 @@ use Rattle.std.proofs.Common.{◌≡◌, ℕ, ℤ, zero, suc, ◌<◌, ◌≤◌
 use Rattle.std.specs.Prelude.{◌⊎◌, cond, nat_lt}
 use Rattle.std.specs.List.{AllByRecursion}
 use Rattle.std.proofs.lemmas.Bool.Decides.{nat_tests}
-use Rattle.kb_api_group.specs.Frames.{Front, Whole, Partial, TooSmall, TooLarge, front}
+use Rattle.kb_api_group.specs.Frames.{Front, Whole, Partial, TooSmall, TooLarge}
 use Rattle.kb_isolation_spec.specs.declared.shut.Shut.TheVariants as causes
 use Rattle.kb_isolation_spec.specs.declared.head.Head.{Head}
 use Rattle.kb_isolation_spec.specs.Requests.{Asked, Versions, OtherVersions, Handshake, Authenticate, Another, Malformed, request}
@@ -12,7 +12,7 @@ use Rattle.kb_tenant.specs.Replies as tenant
 use Rattle.kb_tenant.specs.Replies.{Replies, Waits, Silent, Shuts, framed, reply_size}
 use Rattle.kb_tenant_api.specs.Replies.{Reaction, Plain, Rebalances}
 use Rattle.kb_isolation_spec.specs.Tenant.{Wait, Records, Group, answer}
-use Rattle.kb_isolation_spec.specs.Session.{Greeting, Stage, Greets, BoundTo, Session, fed, shut_down, without_wait, waiting, can, is_turn, room, replied, throttled, unanswerable}
+use Rattle.kb_isolation_spec.specs.Session.{Greeting, Stage, Greets, BoundTo, Session, fed, shut_down, without_wait, waiting, can, is_turn, room, replied, throttled, unanswerable, in_front}
 use Rattle.kb_isolation_spec.specs.Greeting.{Setup, for_tenant, greeted}
 use Rattle.kb_isolation_spec.specs.Machine.{Happening, Opens, Comes, Closes, Moment, Line, View, plainly, after_reaction, served_by, served_at, after_turn, put, each, on, those, first_able, all_woken, turn_at, turn, turns, again}
 use Rattle.kb_isolation_spec.specs.Owners.{greet_turn, greet_turn_at, heard, destiny, whose, Fits, Owns, Pairwise}
@@ -21,7 +21,7 @@ use Rattle.kb_isolation_spec.proofs.Laws.{those-each, first-those, turn-some, tu
 -- 1. The greeting, as far as the bytes go
 
 -- a greeting turn takes bytes, or changes nothing
-step_at : (setup : Setup) (s : Session) (h : Greeting) (b : Bool) → s.stage ≡ Greets h → is_turn (front s.unread) ≡ b → (greet_turn setup s ≡ s) ⊎ (length (greet_turn setup s).unread < length s.unread)
+step_at : (setup : Setup) (s : Session) (h : Greeting) (b : Bool) → s.stage ≡ Greets h → is_turn (in_front s) ≡ b → (greet_turn setup s ≡ s) ⊎ (length (greet_turn setup s).unread < length s.unread)
 unfolding greet_turn
 step_at setup s h true e f =
     let lt = greeted-less setup h s f in
@@ -32,7 +32,7 @@ step_at setup s h false e f = inl (ap (greet_turn_at setup s) e ∙ greeted-stil
 step_by : (setup : Setup) (s : Session) (st : Stage) → s.stage ≡ st → (greet_turn setup s ≡ s) ⊎ (length (greet_turn setup s).unread < length s.unread)
 unfolding greet_turn
 step_by setup s (BoundTo u w) e = inl (ap (greet_turn_at setup s) e)
-step_by setup s (Greets h) e = step_at setup s h (is_turn (front s.unread)) e refl
+step_by setup s (Greets h) e = step_at setup s h (is_turn (in_front s)) e refl
 
 still : (setup : Setup) (n : ℕ) (s : Session) → greet_turn setup s ≡ s → again (greet_turn setup) n s ≡ s
 still setup zero s h = refl
@@ -70,7 +70,7 @@ heard-still_by : (setup : Setup) (s : Session) (st : Stage) → s.stage ≡ st �
 unfolding heard greet_turn can
 heard-still_by setup s (BoundTo u w) e c = heard-bound setup s u w e
 heard-still_by setup s (Greets h) e c =
-    let f : is_turn (front s.unread) ≡ false = grind (arith, e, c) in
+    let f : is_turn (in_front s) ≡ false = grind (arith, e, c) in
     still setup (length s.unread) s (ap (greet_turn_at setup s) e ∙ greeted-still setup h s f)
 
 pub heard-still : (setup : Setup) (s : Session) → can s ≡ false → heard setup s ≡ s
@@ -143,7 +143,7 @@ stage-served_by setup kept clock n head Malformed s = stage-shut s
 -- a bound connection's turn leaves it bound
 pub stage-served : (setup : Setup) (kept : Kept) (clock n : ℕ) (s : Session) → without_wait (after_turn setup kept clock n s).stage ≡ without_wait s.stage
 unfolding after_turn
-stage-served setup kept clock n s = by (front s.unread)
+stage-served setup kept clock n s = by (in_front s)
   where
     by : (f : Front) → without_wait (served_at setup kept clock n s f).stage ≡ without_wait s.stage
     by (Whole frame rest) = stage-served_by setup kept clock n (request setup.versions frame).head (request setup.versions frame).asked (record s { unread = rest })
@@ -221,14 +221,14 @@ view-greeting mine w all l h false m f g e = ap (λ ls. turns (record w { lines 
 view-greeting mine w all l h true m f g e =
     let able : first_able w.lines ≡ Some l = ap first_able e ∙ first-those mine all l f m in
     let lines : those mine (each (on l.number (greeted w.setup h)) all) ≡ each (on l.number (greeted w.setup h)) w.lines = those-each mine (on l.number (greeted w.setup h)) all ∙ ap (each (on l.number (greeted w.setup h))) (sym e) in
-    let taken : turn w ≡ turn_at w l.number l.session.unread (Greets h) = turn-some w l able ∙ ap (turn_at w l.number l.session.unread) g in
+    let taken : turn w ≡ turn_at w l.number (in_front l.session) (Greets h) = turn-some w l able ∙ ap (turn_at w l.number (in_front l.session)) g in
     ap (λ ls. turns (record w { lines = ls })) lines ∙ (ap turns (sym taken) ∙ turns-turn w)
 
 -- a turn for the tenant itself is the machine's turn
 pub view-served : (mine : ℕ → Bool) (w : View) (all : List Line) (l : Line) (t : ℕ) (wait : Option Wait) → first_able all ≡ Some l → l.session.stage ≡ BoundTo t wait → w.lines ≡ those mine all → mine l.number ≡ true →
-    turns (all_woken (record w { kept = put (for_tenant w.setup t) w.kept w.clock l.number l.session.unread; lines = those mine (each (on l.number (after_turn (for_tenant w.setup t) w.kept w.clock l.number)) all) })) ≡ turns w
+    turns (all_woken (record w { kept = put (for_tenant w.setup t) w.kept w.clock l.number (in_front l.session); lines = those mine (each (on l.number (after_turn (for_tenant w.setup t) w.kept w.clock l.number)) all) })) ≡ turns w
 view-served mine w all l t wait f g e m =
     let able : first_able w.lines ≡ Some l = ap first_able e ∙ first-those mine all l f m in
     let lines : those mine (each (on l.number (after_turn (for_tenant w.setup t) w.kept w.clock l.number)) all) ≡ each (on l.number (after_turn (for_tenant w.setup t) w.kept w.clock l.number)) w.lines = those-each mine (on l.number (after_turn (for_tenant w.setup t) w.kept w.clock l.number)) all ∙ ap (each (on l.number (after_turn (for_tenant w.setup t) w.kept w.clock l.number))) (sym e) in
-    let taken : turn w ≡ turn_at w l.number l.session.unread (BoundTo t wait) = turn-some w l able ∙ ap (turn_at w l.number l.session.unread) g in
-    ap (λ ls. turns (all_woken (record w { kept = put (for_tenant w.setup t) w.kept w.clock l.number l.session.unread; lines = ls }))) lines ∙ (ap turns (sym taken) ∙ turns-turn w)
+    let taken : turn w ≡ turn_at w l.number (in_front l.session) (BoundTo t wait) = turn-some w l able ∙ ap (turn_at w l.number (in_front l.session)) g in
+    ap (λ ls. turns (all_woken (record w { kept = put (for_tenant w.setup t) w.kept w.clock l.number (in_front l.session); lines = ls }))) lines ∙ (ap turns (sym taken) ∙ turns-turn w)

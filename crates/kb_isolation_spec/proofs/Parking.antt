@@ -19,8 +19,9 @@ use Rattle.kb_tenant_state.specs.World.{World}
 use Rattle.kb_tenant_state.specs.declared.topic_partition.TopicPartition.{TopicPartition}
 use Rattle.kb_tenant.specs.OffsetCommit.{asked_commit}
 use Rattle.kb_tenant.specs.CreateTopics.{checked_all, created_all, creations_in, made_of}
+use Rattle.kb_tenant.specs.DescribeConfigs.{configs_in, configs_of}
 use Rattle.kb_tenant.specs.Entries.{commit_entries, describe_groups_entries, within}
-use Rattle.kb_tenant.specs.Fetch.{asked_fetch, bounded, deadline_of, fetch_answer, places_of, fetched_in}
+use Rattle.kb_tenant.specs.Fetch.{asked_code, asked_fetch, bounded, deadline_of, fetch_answer, places_of, fetched_in}
 use Rattle.kb_tenant.specs.Produce.{produced, produced_in, is_due}
 use Rattle.kb_tenant.specs.Limits.{is_past}
 use Rattle.kb_tenant.specs.Metadata.{metadata_in, metadata_of}
@@ -56,11 +57,11 @@ plain-either : (version : ℤ) (body : List ℕ) (clock : ℕ) (b : Bool) (o p :
 plain-either version body clock true o p first second = first
 plain-either version body clock false o p first second = second
 
-fetch-parks : (w : World) (clock : ℕ) (version : ℤ) (body : List ℕ) (own : Option ℕ) (r : FetchRequest) → asked_fetch version body ≡ Ok r → ParksPlain version body clock (of_fetch version own w clock r)
+fetch-parks : (w : World) (clock : ℕ) (version : ℤ) (body : List ℕ) (own : Option ℕ) (r : FetchRequest) → asked_fetch version body ≡ Ok r → ParksPlain version body clock (of_fetch version (asked_code version body) own w clock r)
 unfolding looked
 fetch-parks w clock version body own r read = by (fetch_answer w clock (bounded own r) (deadline_of clock r)) refl
   where
-    by : (o : Option FetchReplyV5) → fetch_answer w clock (bounded own r) (deadline_of clock r) ≡ o → ParksPlain version body clock (stays w (fetch_reaction version own w clock (bounded own r) o))
+    by : (o : Option FetchReplyV5) → fetch_answer w clock (bounded own r) (deadline_of clock r) ≡ o → ParksPlain version body clock (stays w (fetch_reaction version (asked_code version body) own w clock (bounded own r) o))
     by (Some reply) e deadline limit places f = absurd (cc)
     by None e deadline limit places f =
         let until : deadline_of clock r ≡ deadline = cc in
@@ -97,6 +98,7 @@ plain-parks node w clock n key version body =
       delete_topics = λ r read deadline limit places e. absurd (cc);
       delete_records = λ r read deadline limit places e. absurd (cc);
       init_producer_id = λ r read deadline limit places e. absurd (cc);
+      describe_configs = λ r read. short-parks version body clock w node.limits.reply_bytes (configs_in version (configs_of w.known.topics r));
       shut = λ deadline limit places e. absurd (cc);
     })
 

@@ -2,12 +2,12 @@
 use Rattle.std.proofs.Common.{◌≡◌, ◌∙◌, ◌≤◌, ℕ, ℤ, zero, suc, List, ◌++◌, length, Bool, true, false, cond, nat_lt, Option, Some, None, Result, Err, refl, sym, ap, arith}
 use Rattle.std.proofs.lemmas.Bool.Decides.{nat_tests}
 use Rattle.std.proofs.lemmas.List.{length-append}
-use Rattle.kb_api_group.specs.Frames.{Whole, front}
+use Rattle.kb_api_group.specs.Frames.{Whole}
 use Rattle.kb_isolation_spec.specs.declared.shut.Shut.TheVariants as causes
 use Rattle.kb_isolation_spec.specs.declared.head.Head.{Head}
 use Rattle.kb_isolation_spec.specs.declared.login.Known.{Known}
 use Rattle.kb_isolation_spec.specs.declared.login.Login.TheVariants as logins
-use Rattle.kb_isolation_spec.specs.Session.{Stage, Bare, Greets, BoundTo, Session, LIMIT, room, without_wait, shut_down, fed, has_member, overruns}
+use Rattle.kb_isolation_spec.specs.Session.{Stage, Bare, Greets, BoundTo, Session, unread_limit, room, without_wait, shut_down, fed, has_member, overruns, in_front}
 use Rattle.kb_isolation_spec.specs.Requests.{Another, Authenticate}
 use Rattle.kb_coordinator.specs.Calls as groups
 use Rattle.kb_tenant_api.specs.Hosted.{Kept, left}
@@ -17,12 +17,12 @@ use Rattle.kb_isolation_spec.specs.Owners.{whose}
 use Rattle.kb_isolation_spec.proofs.Laws.{login-replied, work-turn, again-none}
 use Rattle.kb_isolation_spec.proofs.Owners.{stage-served}
 
-fed_by : (shut over : Bool) (piece : List ℕ) (s : Session) → s.shut ≡ shut → nat_lt (room s) (length piece) ≡ over → length s.unread ≤ LIMIT → length (cond shut s (cond over (shut_down causes.Overrun s) (record s { unread = s.unread ++ piece }))).unread ≤ LIMIT
+fed_by : (shut over : Bool) (piece : List ℕ) (s : Session) → s.shut ≡ shut → nat_lt (room s) (length piece) ≡ over → length s.unread ≤ unread_limit s.limit → length (cond shut s (cond over (shut_down causes.Overrun s) (record s { unread = s.unread ++ piece }))).unread ≤ unread_limit s.limit
 fed_by true over piece s e o h = h
 fed_by false true piece s e o h = omega arith
 fed_by false false piece s e o h = let fits : length piece ≤ room s = grind (arith, nat_tests, o) in let long = length-append s.unread piece in omega (arith, h, fits, long)
 
-pub fed-limit : (piece : List ℕ) (s : Session) → length s.unread ≤ LIMIT → length (fed piece s).unread ≤ LIMIT
+pub fed-limit : (piece : List ℕ) (s : Session) → length s.unread ≤ unread_limit s.limit → length (fed piece s).unread ≤ unread_limit s.limit
 unfolding fed
 fed-limit piece s h = fed_by s.shut (nat_lt (room s) (length piece)) piece s refl refl h
 
@@ -40,7 +40,7 @@ denied-shuts setup head message name s e =
     let is = ap (λ (o : Result Known (List ℕ)). logged_in o head s) e in
     (ap (λ (x : Session). x.shut) is, ap (λ (x : Session). x.login) is ∙ login-replied head failed_reply (failed name s))
 
-pub bare-shuts : (setup : Setup) (frame rest name : List ℕ) (s : Session) → front s.unread ≡ Whole frame rest → login setup.users frame ≡ Err name → greeted setup Bare s ≡ shut_down causes.Denied (failed name s)
+pub bare-shuts : (setup : Setup) (frame rest name : List ℕ) (s : Session) → in_front s ≡ Whole frame rest → login setup.users frame ≡ Err name → greeted setup Bare s ≡ shut_down causes.Denied (failed name s)
 unfolding greeted
 bare-shuts setup frame rest name s at e = ap (greeted_at setup Bare s) at ∙ ap (λ (o : Result Known (List ℕ)). bare_login o (record s { unread = rest })) e
 

@@ -4,7 +4,7 @@ use Rattle.std.proofs.Common.{◌≡◌, ◌<◌, ◌+◌, eqb, ℕ, ℤ, List, 
 use Rattle.std.specs.Prelude.{nat_le, Result, Ok, Err}
 use Rattle.std.proofs.lemmas.Bool.Decides.{nat_tests}
 use Rattle.kb_wire.specs.declared.fault.WireFault.{WireFault}
-use Rattle.kb_api_group.specs.Frames.{Front, Whole, Partial, TooSmall, TooLarge, front}
+use Rattle.kb_api_group.specs.Frames.{Front, Whole, Partial, TooSmall, TooLarge}
 use Rattle.kb_api_data.specs.declared.fetch.FetchRequest.{FetchRequest}
 use Rattle.kb_api_data.specs.declared.fetch_v5.FetchReplyV5.{FetchReplyV5}
 use Rattle.kb_coordinator.specs.Calls.{reply_among}
@@ -32,7 +32,7 @@ use Rattle.kb_isolation_spec.specs.Tenant.{Wait, Awaited, Records, Group, ready,
 use Rattle.kb_isolation_spec.specs.Greeting.{Setup, for_tenant}
 use Rattle.kb_isolation_spec.specs.Requests.{Asked, Versions, OtherVersions, Handshake, Authenticate, Another, Malformed}
 use Rattle.kb_isolation_spec.specs.Requests as requests
-use Rattle.kb_isolation_spec.specs.Session.{Stage, Greets, BoundTo, Session, waiting, without_wait, is_free}
+use Rattle.kb_isolation_spec.specs.Session.{Stage, Greets, BoundTo, Session, waiting, without_wait, is_free, in_front}
 use Rattle.kb_isolation_spec.specs.Broker.{BrokerState, AnyWait, AreUnready, IsUnready, kept_of}
 use Rattle.kb_isolation_spec.specs.Machine.{Line, after_reaction, served_by, served_at, after_turn, kept_by, kept_at, put}
 use Rattle.kb_isolation_spec.proofs.Parking.{told_as, parks}
@@ -184,9 +184,9 @@ at-idle setup kept clock n s TooLarge free none = free-idle clock kept n _ (free
 at-idle setup kept clock n s Partial free none = free-idle clock kept n s.stage free
 
 -- what a connection waits for after its turn is not ready, where the turn answered nobody who waited for a group
-pub served-idle : (setup : Setup) (kept : Kept) (clock n : ℕ) (s : Session) → is_free s.stage ≡ true → has_released (put setup kept clock n s.unread).groups ≡ false → IsIdle clock (put setup kept clock n s.unread) n (after_turn setup kept clock n s).stage
+pub served-idle : (setup : Setup) (kept : Kept) (clock n : ℕ) (s : Session) → is_free s.stage ≡ true → has_released (put setup kept clock n (in_front s)).groups ≡ false → IsIdle clock (put setup kept clock n (in_front s)) n (after_turn setup kept clock n s).stage
 unfolding after_turn put
-served-idle setup kept clock n s free none = at-idle setup kept clock n s (front s.unread) free none
+served-idle setup kept clock n s free none = at-idle setup kept clock n s (in_front s) free none
 
 -- 4. The turn of a bound connection
 
@@ -203,10 +203,10 @@ module _ (b : BrokerState) (i u : ℕ) (l m : Line) (us : List TenantState) (H :
 
   -- what the connection itself waits for then is not ready, where the turn answered nobody who waited for a group
   pub own-turn : IsAt b.lines i l → is_free l.session.stage ≡ true → without_wait l.session.stage ≡ BoundTo u None → m.number ≡ l.number → without_wait m.session.stage ≡ without_wait l.session.stage
-      → m.session ≡ after_turn (for_tenant b.setup u) (kept_of b u) b.clock l.number l.session → hosted.kept_of us u ≡ put (for_tenant b.setup u) (kept_of b u) b.clock l.number l.session.unread → has_released (hosted.kept_of us u).groups ≡ false
+      → m.session ≡ after_turn (for_tenant b.setup u) (kept_of b u) b.clock l.number l.session → hosted.kept_of us u ≡ put (for_tenant b.setup u) (kept_of b u) b.clock l.number (in_front l.session) → has_released (hosted.kept_of us u).groups ≡ false
       → IsUnready AnyWait (changed b i m us b.unbound_refusals) m.number m.session.stage
   own-turn at free bound number same is after none =
-      let kept = put (for_tenant b.setup u) (kept_of b u) b.clock l.number l.session.unread in
+      let kept = put (for_tenant b.setup u) (kept_of b u) b.clock l.number (in_front l.session) in
       let there : IsIdle b.clock kept l.number (after_turn (for_tenant b.setup u) (kept_of b u) b.clock l.number l.session).stage =
       served-idle (for_tenant b.setup u) (kept_of b u) b.clock l.number l.session free (subst (λ (k : Kept). has_released k.groups ≡ false) after none) in
       let idle : IsIdle b.clock (hosted.kept_of us u) l.number m.session.stage = subst (λ (k : Kept). IsIdle b.clock k l.number m.session.stage) (sym after) (subst (λ (s : Session). IsIdle b.clock kept l.number s.stage) (sym is) there) in
@@ -214,7 +214,7 @@ module _ (b : BrokerState) (i u : ℕ) (l m : Line) (us : List TenantState) (H :
 
   -- a turn that touched no partition and answered nobody leaves nothing ready, where nothing was before
   pub quiet-turn : AreUnready AnyWait b → IsAt b.lines i l → is_free l.session.stage ≡ true → without_wait l.session.stage ≡ BoundTo u None → m.number ≡ l.number → without_wait m.session.stage ≡ without_wait l.session.stage
-      → m.session ≡ after_turn (for_tenant b.setup u) (kept_of b u) b.clock l.number l.session → hosted.kept_of us u ≡ put (for_tenant b.setup u) (kept_of b u) b.clock l.number l.session.unread → has_released (hosted.kept_of us u).groups ≡ false
+      → m.session ≡ after_turn (for_tenant b.setup u) (kept_of b u) b.clock l.number l.session → hosted.kept_of us u ≡ put (for_tenant b.setup u) (kept_of b u) b.clock l.number (in_front l.session) → has_released (hosted.kept_of us u).groups ≡ false
       → ((n : ℕ) (w : Wait) → ready (kept_of b u) b.clock n w ≡ Silent → ready (hosted.kept_of us u) b.clock n w ≡ Silent) → AreUnready AnyWait (changed b i m us b.unbound_refusals)
   quiet-turn unready at free bound number same is after none quiet =
       let c = changed b i m us b.unbound_refusals in

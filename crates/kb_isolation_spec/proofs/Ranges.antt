@@ -5,12 +5,12 @@ use Rattle.std.specs.List.{AllByRecursion}
 use Rattle.std.specs.Str.{bytes_eq}
 use Rattle.kb_api_group.specs.Plain.{plain}
 use Rattle.kb_api_group.specs.declared.plain.PlainLogin.{PlainLogin}
-use Rattle.kb_api_group.specs.Frames.{Front, Whole, Partial, TooSmall, TooLarge, front}
+use Rattle.kb_api_group.specs.Frames.{Front, Whole, Partial, TooSmall, TooLarge}
 use Rattle.kb_tenant.specs.Replies.{framed, reply_size}
 use Rattle.kb_isolation_spec.specs.declared.head.Head.{Head}
 use Rattle.kb_isolation_spec.specs.declared.login.Known.{Known}
 use Rattle.kb_isolation_spec.specs.Requests.{Asked, Versions, OtherVersions, Handshake, Authenticate, Another, Malformed, request}
-use Rattle.kb_isolation_spec.specs.Session.{Greeting, Unshaken, Shaken, Bare, Stage, Greets, BoundTo, Session, shut_down, replied, throttled, without_wait, fed, unanswerable}
+use Rattle.kb_isolation_spec.specs.Session.{Greeting, Unshaken, Shaken, Bare, Stage, Greets, BoundTo, Session, shut_down, replied, throttled, without_wait, fed, unanswerable, in_front}
 use Rattle.kb_isolation_spec.specs.Greeting.{Setup, User, greeted_by, greeted_frame, greeted_at, greeted, greeting_after, shaken, authenticated, logged_in, bare_login, bound, failed, login, login_by, known_from, known_or}
 use Rattle.kb_isolation_spec.specs.Owners.{greet_turn, greet_turn_at, heard}
 use Rattle.kb_isolation_spec.specs.Machine.{again}
@@ -95,7 +95,7 @@ range-frame n setup Bare frame s us r = range-bare n (login setup.users frame) s
 -- the greeting binds to a tenant of the broker
 pub range-greeted : (n : ℕ) (setup : Setup) (h : Greeting) (s : Session) → AreUsers n setup.users → InRange n s.stage → InRange n (greeted setup h s).stage
 unfolding greeted
-range-greeted n setup h s us r = by (front s.unread)
+range-greeted n setup h s us r = by (in_front s)
   where
     by : (f : Front) → InRange n (greeted_at setup h s f).stage
     by (Whole frame rest) = range-frame n setup h frame (record s { unread = rest }) us r

@@ -52,42 +52,42 @@ pub first-push : (ls : List Line) (x : Line) → first_able ls ≡ None → can 
 first-push [] x h e = grind (arith, e)
 first-push (l ∷ ls) x h e = let rest = first-push ls x in grind (arith, rest)
 
-pub can-fresh : can fresh ≡ false
+pub can-fresh : (limit : ℕ) → can (fresh limit) ≡ false
 unfolding can front int
-can-fresh = refl
+can-fresh limit = refl
 
-heard-fresh : (setup : Setup) → heard setup fresh ≡ fresh
-heard-fresh setup = heard-still setup fresh can-fresh
+heard-fresh : (setup : Setup) (limit : ℕ) → heard setup (fresh limit) ≡ fresh limit
+heard-fresh setup limit = heard-still setup (fresh limit) (can-fresh limit)
 
-pub owns-opens : (setup : Setup) (t last n : ℕ) (mine : ℕ → Bool) (es : List Happening) (ls : List Line) → last < n → Owns setup t mine last (Opens n ∷ es) ls → Owns setup t mine n es (ls ++ record { number = n; session = fresh } ∷ [])
+pub owns-opens : (setup : Setup) (t last n : ℕ) (mine : ℕ → Bool) (es : List Happening) (ls : List Line) → last < n → Owns setup t mine last (Opens n ∷ es) ls → Owns setup t mine n es (ls ++ record { number = n; session = fresh setup.request_bytes } ∷ [])
 owns-opens setup t last n mine es ls h o =
     let same : eqb n n ≡ true = grind (arith, nat_tests) in
-    let new : Fits t (mine n) (destiny setup n fresh es) = subst (Fits t (mine n)) (ap (λ (b : Bool). cond b (destiny setup n fresh es) (unborn setup n es)) same) (o.later n h) in
+    let new : Fits t (mine n) (destiny setup n (fresh setup.request_bytes) es) = subst (Fits t (mine n)) (ap (λ (b : Bool). cond b (destiny setup n (fresh setup.request_bytes) es) (unborn setup n es)) same) (o.later n h) in
     record {
-      now = all-push (IsMine setup t mine es) ls (record { number = n; session = fresh }) o.now (subst (λ s. Fits t (mine n) (destiny setup n s es)) (sym (heard-fresh setup)) new);
+      now = all-push (IsMine setup t mine es) ls (record { number = n; session = fresh setup.request_bytes }) o.now (subst (λ s. Fits t (mine n) (destiny setup n s es)) (sym (heard-fresh setup setup.request_bytes)) new);
       later = λ k lt.
           let ne : eqb n k ≡ false = grind (arith, nat_tests) in
-          subst (Fits t (mine k)) (ap (λ (b : Bool). cond b (destiny setup k fresh es) (unborn setup k es)) ne) (o.later k (omega arith));
+          subst (Fits t (mine k)) (ap (λ (b : Bool). cond b (destiny setup k (fresh setup.request_bytes) es) (unborn setup k es)) ne) (o.later k (omega arith));
     }
 
 pub sound-opened : (b : BrokerState) (n : ℕ) → IsSound b → b.last < n → IsSound (opened b n)
 sound-opened b n s lt = record {
-  rising = rising-push 0 b.last n b.lines (record { number = n; session = fresh }) s.rising lt refl;
-  in_range = all-push _ b.lines (record { number = n; session = fresh }) s.in_range tt;
+  rising = rising-push 0 b.last n b.lines (record { number = n; session = fresh b.setup.request_bytes }) s.rising lt refl;
+  in_range = all-push _ b.lines (record { number = n; session = fresh b.setup.request_bytes }) s.in_range tt;
   users = s.users;
   clock = s.clock;
 }
 
 pub settled-opened : (b : BrokerState) (n : ℕ) → first_able b.lines ≡ None → first_able (opened b n).lines ≡ None
-settled-opened b n settled = first-push b.lines (record { number = n; session = fresh }) settled can-fresh
+settled-opened b n settled = first-push b.lines (record { number = n; session = fresh b.setup.request_bytes }) settled (can-fresh b.setup.request_bytes)
 
 pub unready-opened : (b : BrokerState) (n : ℕ) → AreUnready AnyWait b → AreUnready AnyWait (opened b n)
-unready-opened b n unready = all-push (λ l. IsUnready AnyWait b l.number l.session.stage) b.lines (record { number = n; session = fresh }) unready tt
+unready-opened b n unready = all-push (λ l. IsUnready AnyWait b l.number l.session.stage) b.lines (record { number = n; session = fresh b.setup.request_bytes }) unready tt
 
-view-opened : (w : View) (n : ℕ) (mine : ℕ → Bool) (yes : Bool) → mine n ≡ yes → with_lines w (w.lines ++ those mine (record { number = n; session = fresh } ∷ [])) ≡ stepped yes (Opens n) w
+view-opened : (w : View) (n : ℕ) (mine : ℕ → Bool) (yes : Bool) → mine n ≡ yes → with_lines w (w.lines ++ those mine (record { number = n; session = fresh w.setup.request_bytes } ∷ [])) ≡ stepped yes (Opens n) w
 view-opened w n mine true e = ap (λ (x : List Line). with_lines w (w.lines ++ x)) (grind (arith, e))
 view-opened w n mine false e =
-    let none : those mine (record { number = n; session = fresh } ∷ []) ≡ [] = grind (arith, e) in
+    let none : those mine (record { number = n; session = fresh w.setup.request_bytes } ∷ []) ≡ [] = grind (arith, e) in
     ap (with_lines w) (ap (λ x. w.lines ++ x) none ∙ append-nil w.lines)
 
 pub step-opened : (b : BrokerState) (n : ℕ) → b.last < n → IsStep (Opens n) b (opened b n)
@@ -96,7 +96,7 @@ step-opened b n lt = record {
   grows = record { setup = refl; names = refl; own = λ t. omega arith; unbound = omega arith };
   counted = λ t. refl;
   mine = λ t mine es m q. owns-opens b.setup t b.last n mine es b.lines lt m;
-  view = λ t mine es m q. ap (with_lines (view_of t mine b)) (lines-push b.lines (record { number = n; session = fresh }) mine) ∙ view-opened (view_of t mine b) n mine (mine n) refl;
+  view = λ t mine es m q. ap (with_lines (view_of t mine b)) (lines-push b.lines (record { number = n; session = fresh b.setup.request_bytes }) mine) ∙ view-opened (view_of t mine b) n mine (mine n) refl;
 }
 
 -- a connection that could not be kept

@@ -258,7 +258,7 @@ find-pushed n k s t (l ∷ ls) h = by (eqb l.number n) h (find-pushed n k s t ls
     by false here rest = rest here
 
 pub stranded-opened : (b : BrokerState) (n : ℕ) → NoneStranded b → NoneStranded (opened b n)
-stranded-opened b n h = record { held = λ t k some. find-pushed k n fresh t b.lines (h.held t k some); once = h.once }
+stranded-opened b n h = record { held = λ t k some. find-pushed k n (fresh b.setup.request_bytes) t b.lines (h.held t k some); once = h.once }
 
 pub stranded-unopened : (b : BrokerState) (x : ℕ) → NoneStranded b → NoneStranded (record b { unbound_refusals = x })
 stranded-unopened b x h = record { held = h.held; once = h.once }

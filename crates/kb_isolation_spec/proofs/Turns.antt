@@ -2,7 +2,7 @@
 use Rattle.std.proofs.Common.{◌≡◌, ◌≢◌, ◌≤◌, ◌++◌, ℕ, ℤ, List, length, set, eqb, Bool, true, false, Option, Some, None, Result, Ok, Err, refl, sym, ◌∙◌, ap, subst, arith, inl, inr}
 use Rattle.std.specs.Prelude.{cond, nat_lt, codes}
 use Rattle.std.specs.Str.{bytes_eq}
-use Rattle.kb_api_group.specs.Frames.{Front, Whole, Partial, TooSmall, TooLarge, front}
+use Rattle.kb_api_group.specs.Frames.{Front, Whole, Partial, TooSmall, TooLarge}
 use Rattle.kb_tenant.specs.Replies.{framed, reply_size}
 use Rattle.kb_isolation_spec.specs.declared.shut.Shut.TheVariants as causes
 use Rattle.kb_isolation_spec.specs.declared.head.Head.{Head}
@@ -15,7 +15,7 @@ use Rattle.kb_tenant_api.specs.Hosted.{TenantState}
 use Rattle.kb_tenant_api.specs.Turns.{IsTurn}
 use Rattle.kb_tenant.specs.Replies.{Silent}
 use Rattle.kb_isolation_spec.specs.Tenant.{Wait, ready}
-use Rattle.kb_isolation_spec.specs.Session.{Greeting, Unshaken, Shaken, Bare, Stage, Session, Greets, BoundTo, shut_down, replied, throttled, without_wait, is_free, can, unanswerable}
+use Rattle.kb_isolation_spec.specs.Session.{Greeting, Unshaken, Shaken, Bare, Stage, Session, Greets, BoundTo, shut_down, replied, throttled, without_wait, is_free, can, unanswerable, in_front}
 use Rattle.kb_isolation_spec.specs.Greeting.{Setup, for_tenant, login, logged_in, bare_login, bound, greeting_after, shaken, greeted_by, greeted_frame, greeted_at, greeted}
 use Rattle.kb_isolation_spec.specs.Machine.{Happening, Line, after_turn, put, each, on, those, first_able, all_woken, turns, find_line}
 use Rattle.kb_isolation_spec.specs.Owners.{Owns, whose}
@@ -136,7 +136,7 @@ free-greeted_frame setup Bare frame s free = free-bare_login (login setup.users 
 
 pub free-greeted : (setup : Setup) (h : Greeting) (s : Session) → is_free s.stage ≡ true → is_free (greeted setup h s).stage ≡ true
 unfolding greeted
-free-greeted setup h s free = by (front s.unread)
+free-greeted setup h s free = by (in_front s)
   where
     by : (f : Front) → is_free (greeted_at setup h s f).stage ≡ true
     by (Whole frame rest) = free-greeted_frame setup h frame (record s { unread = rest }) free
@@ -386,7 +386,7 @@ served-unready b i u m H ts turn honest q k =
 -- the turn of a bound connection, which is a call for its tenant: where nothing was refused to the tenant, it is the machine's
 pub served-bound : (scope : Scope) (b : BrokerState) (i u : ℕ) (l m : Line) (w : Option Wait) (H : Type 0) (ts : List TenantState) → IsSound b → AreStill scope b → IsAt b.lines i l → first_able b.lines ≡ Some l → can l.session ≡ true →
     l.session.stage ≡ BoundTo u w → m.number ≡ l.number → without_wait m.session.stage ≡ without_wait l.session.stage → IsTurn u H b.tenants ts → H →
-    (IsCalm (count b.tenants u) (count ts u) → (m.session ≡ after_turn (for_tenant b.setup u) (kept_of b u) b.clock l.number l.session) × (hosted.kept_of ts u ≡ put (for_tenant b.setup u) (kept_of b u) b.clock l.number l.session.unread)) →
+    (IsCalm (count b.tenants u) (count ts u) → (m.session ≡ after_turn (for_tenant b.setup u) (kept_of b u) b.clock l.number l.session) × (hosted.kept_of ts u ≡ put (for_tenant b.setup u) (kept_of b u) b.clock l.number (in_front l.session))) →
     (NoneStranded b → NoneStranded (changed b i m ts b.unbound_refusals)) → Served u scope b (changed b i m ts b.unbound_refusals)
 served-bound scope b i u l m w H ts s still at able c g n same turn honest meets held =
     let p : IsBound u l.session = record { wait = w; is = g } in

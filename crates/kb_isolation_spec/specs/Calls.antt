@@ -14,7 +14,7 @@ use Rattle.kb_isolation_spec.specs.Broker.{BrokerState}
 
 -- after a connection opened
 abbrev pub opened : BrokerState → ℕ → BrokerState
-opened b n = record b { last = n; lines = b.lines ++ record { number = n; session = fresh } ∷ [] }
+opened b n = record b { last = n; lines = b.lines ++ record { number = n; session = fresh b.setup.request_bytes } ∷ [] }
 
 -- after a connection could not be kept: one refusal more is counted for no tenant, short of the end of the count
 pub record IsRefused (old new : BrokerState) : Type 0 where

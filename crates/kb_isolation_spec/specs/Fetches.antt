@@ -2,7 +2,7 @@
 use Rattle.std.specs.Prelude.{◌≡◌, ◌⊎◌, ℕ, zero, suc, ℤ, max, List, [], ◌∷◌, Option, Some, None, Ok, ⊤}
 use Rattle.std.specs.List.{AllByRecursion}
 use Rattle.kb_wire.specs.declared.api_key.TheConstants.{FETCH}
-use Rattle.kb_api_group.specs.Frames.{Whole, front}
+use Rattle.kb_api_group.specs.Frames.{Whole}
 use Rattle.kb_api_data.specs.declared.fetch.FetchRequest.{FetchRequest}
 use Rattle.kb_tenant_state.specs.World as tenants
 use Rattle.kb_tenant.specs.Batches.{HoldsBatches}
@@ -11,7 +11,7 @@ use Rattle.kb_tenant_api.specs.Hosted.{passed}
 use Rattle.kb_isolation_spec.specs.declared.head.Head.{Head}
 use Rattle.kb_isolation_spec.specs.Requests.{Another, request}
 use Rattle.kb_isolation_spec.specs.Tenant.{Records}
-use Rattle.kb_isolation_spec.specs.Session.{Stage, Greets, BoundTo, Session, fed, replied, without_wait}
+use Rattle.kb_isolation_spec.specs.Session.{Stage, Greets, BoundTo, Session, fed, replied, without_wait, in_front}
 use Rattle.kb_isolation_spec.specs.Greeting.{for_tenant}
 use Rattle.kb_isolation_spec.specs.Machine.{Happening, Opens, Comes, Closes, Moment, Line, View, after_turn, put, woken, kept_fed, find_line, each}
 use Rattle.kb_isolation_spec.specs.Machine.{on, first_able, all_woken, turn, work, step}
@@ -26,7 +26,7 @@ GetsBatches world version fetch head old new =
 -- where a fetch stands in front of a tenant's connection, of number n, that takes its turn, the connection gets such batches
 abbrev pub ServesBatches : View → ℕ → ℕ → Session → Type 0
 ServesBatches w tenant n s = (frame rest : List ℕ) (version : ℤ) (body : List ℕ) (fetch : FetchRequest)
-    → front s.unread ≡ Whole frame rest → (request w.setup.versions frame).asked ≡ Another FETCH version body
+    → in_front s ≡ Whole frame rest → (request w.setup.versions frame).asked ≡ Another FETCH version body
     → asked_fetch version body ≡ Ok fetch
     → GetsBatches w.kept.world version fetch (request w.setup.versions frame).head (record s { unread = rest })
     (after_turn (for_tenant w.setup tenant) w.kept w.clock n s)
@@ -47,7 +47,7 @@ AllWakeWithBatches w = AllByRecursion (λ (l : Line). WakesWithBatches w l.numbe
 -- the world after the request of a tenant's connection, when those that wait are looked at
 abbrev pub after_request : View → ℕ → Line → View
 after_request w tenant l = record w {
-  kept = put (for_tenant w.setup tenant) w.kept w.clock l.number l.session.unread;
+  kept = put (for_tenant w.setup tenant) w.kept w.clock l.number (in_front l.session);
   lines = each (on l.number (after_turn (for_tenant w.setup tenant) w.kept w.clock l.number)) w.lines;
 }
 

@@ -4,7 +4,7 @@ use Rattle.std.specs.Prelude.{Result, Ok, Err}
 use Rattle.std.specs.Ordering.{int_eq}
 use Rattle.std.specs.Str.{bytes_eq}
 use Rattle.kb_api_group.specs.Plain.{plain}
-use Rattle.kb_api_group.specs.Frames.{Front, Whole, Partial, TooSmall, TooLarge, front}
+use Rattle.kb_api_group.specs.Frames.{Front, Whole, Partial, TooSmall, TooLarge}
 use Rattle.kb_api_group.specs.Layouts.{sasl_handshake_reply, sasl_authenticate_reply, api_versions_reply}
 use Rattle.kb_wire.specs.Codec.{int32}
 use Rattle.kb_wire.specs.ErrorCode.{code_of}
@@ -19,7 +19,7 @@ use Rattle.kb_isolation_spec.specs.declared.login.Login.TheVariants as logins
 use Rattle.kb_isolation_spec.specs.declared.shut.Shut.TheVariants as causes
 use Rattle.kb_isolation_spec.specs.Names.{kept_name}
 use Rattle.kb_isolation_spec.specs.Requests.{Asked, Versions, OtherVersions, Handshake, Authenticate, Another, Malformed, request, unserved}
-use Rattle.kb_isolation_spec.specs.Session.{Greeting, Unshaken, Shaken, Bare, Greets, BoundTo, Session, shut_down, replied}
+use Rattle.kb_isolation_spec.specs.Session.{Greeting, Unshaken, Shaken, Bare, Greets, BoundTo, Session, shut_down, replied, in_front}
 
 -- a user: the name and password of its login, and its tenant
 pub record User : Type 0 where
@@ -28,12 +28,13 @@ pub record User : Type 0 where
   pub tenant : ℕ
 
 -- what is fixed while a broker runs: the versions that it lists, its users, and by a tenant's place where its clients are told to connect
--- to and what it may have; and the same where no tenant has that place
+-- to and what it may have; the same where no tenant has that place; and the greatest size of a request that is read on a connection
 pub record Setup : Type 0 where
   pub versions : List ApiVersion
   pub users : List User
   pub nodes : List Node
   pub node : Node
+  pub request_bytes : ℕ
 
 -- where a tenant's clients are told to connect to, and what it may have
 abbrev pub node_of : Setup → ℕ → Node
@@ -152,4 +153,4 @@ greeted_at setup greeting s Partial = s
 
 -- the turn of a greeting connection
 unfoldable pub greeted : Setup → Greeting → Session → Session
-greeted setup greeting s = greeted_at setup greeting s (front s.unread)
+greeted setup greeting s = greeted_at setup greeting s (in_front s)

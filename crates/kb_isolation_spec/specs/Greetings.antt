@@ -22,7 +22,7 @@ greeting setup s (piece ∷ pieces) = greeting setup (heard setup (fed piece s))
 -- a connection in the end, if an event opens it
 abbrev pub once_opened : Setup → ℕ → List Happening → Option Session
 once_opened setup n [] = None
-once_opened setup n (Opens m ∷ es) = if m == n then Some (greeting setup fresh (pieces_of n es)) else once_opened setup n es
+once_opened setup n (Opens m ∷ es) = if m == n then Some (greeting setup (fresh setup.request_bytes) (pieces_of n es)) else once_opened setup n es
 once_opened setup n (Comes m piece ∷ es) = once_opened setup n es
 once_opened setup n (Closes m ∷ es) = once_opened setup n es
 once_opened setup n (Moment now ∷ es) = once_opened setup n es

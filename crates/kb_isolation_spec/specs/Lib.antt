@@ -11,6 +11,7 @@ pub mod Logins
 pub mod Machine
 pub mod Names
 pub mod Owners
+pub mod RequestLimits
 pub mod Requests
 pub mod Session
 pub mod Stranded

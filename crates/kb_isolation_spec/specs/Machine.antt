@@ -12,7 +12,7 @@ use Rattle.kb_isolation_spec.specs.declared.shut.Shut.{Shut}
 use Rattle.kb_isolation_spec.specs.declared.shut.Shut.TheVariants as causes
 use Rattle.kb_isolation_spec.specs.Requests.{Asked, Versions, OtherVersions, Handshake, Authenticate, Another, Malformed, request, unserved}
 use Rattle.kb_isolation_spec.specs.Tenant.{Records, Group, kept_after, answer, ready}
-use Rattle.kb_isolation_spec.specs.Session.{Stage, Greets, BoundTo, Session, fresh, without_wait, waiting, shut_down, overruns, fed, replied}
+use Rattle.kb_isolation_spec.specs.Session.{Stage, Greets, BoundTo, Session, fresh, without_wait, waiting, shut_down, overruns, fed, replied, in_front}
 use Rattle.kb_isolation_spec.specs.Session.{has_member, can, unanswerable}
 use Rattle.kb_isolation_spec.specs.Greeting.{Setup, for_tenant, greeted, versions_in, versions_reply, handshake_reply, illegal_state}
 
@@ -69,7 +69,7 @@ served_at setup kept clock n s Partial = s
 
 -- the turn of a bound connection
 unfoldable pub after_turn : Setup → Kept → ℕ → ℕ → Session → Session
-after_turn setup kept clock n s = served_at setup kept clock n s (front s.unread)
+after_turn setup kept clock n s = served_at setup kept clock n s (in_front s)
 
 abbrev pub kept_by : Setup → Kept → ℕ → ℕ → Asked → Kept
 kept_by setup kept clock n Versions = kept
@@ -85,9 +85,9 @@ kept_at setup kept clock n TooSmall = kept
 kept_at setup kept clock n TooLarge = kept
 kept_at setup kept clock n Partial = kept
 
--- what the turn of a bound connection leaves of what is kept
-unfoldable pub put : Setup → Kept → ℕ → ℕ → List ℕ → Kept
-put setup kept clock n unread = kept_at setup kept clock n (front unread)
+-- what the turn of a bound connection, in front of whose unread bytes that stands, leaves of what is kept
+unfoldable pub put : Setup → Kept → ℕ → ℕ → Front → Kept
+put setup kept clock n front = kept_at setup kept clock n front
 
 -- 2. Waits
 
@@ -137,15 +137,15 @@ all_woken w = record w { lines = each (λ k s. woken w.kept w.clock k s) w.lines
 
 -- a bound connection's request, which sees of all nodes its tenant's alone: what is kept changes, then all waits that became ready are
 -- answered
-abbrev pub turn_at : View → ℕ → List ℕ → Stage → View
-turn_at w n unread (Greets greeting) = record w { lines = each (on n (greeted w.setup greeting)) w.lines }
-turn_at w n unread (BoundTo tenant wait) =
+abbrev pub turn_at : View → ℕ → Front → Stage → View
+turn_at w n front (Greets greeting) = record w { lines = each (on n (greeted w.setup greeting)) w.lines }
+turn_at w n front (BoundTo tenant wait) =
     let setup = for_tenant w.setup tenant in
-    all_woken (record w { kept = put setup w.kept w.clock n unread; lines = each (on n (after_turn setup w.kept w.clock n)) w.lines })
+    all_woken (record w { kept = put setup w.kept w.clock n front; lines = each (on n (after_turn setup w.kept w.clock n)) w.lines })
 
 abbrev pub turn_of : View → Option Line → View
 turn_of w None = w
-turn_of w (Some l) = turn_at w l.number l.session.unread l.session.stage
+turn_of w (Some l) = turn_at w l.number (in_front l.session) l.session.stage
 
 -- one request is served: that of the least-numbered connection that can take a turn, if any can
 unfoldable pub turn : View → View
@@ -183,7 +183,7 @@ kept_fed piece clock n (Some s) kept = if overruns piece s then kept_without clo
 -- one event: at a moment the clock, then the tenant's own part, then the waits that are ready, then turns; a moment before the clock
 -- acts as one at the clock
 abbrev pub step : Happening → View → View
-step (Opens n) w = record w { lines = w.lines ++ record { number = n; session = fresh } ∷ [] }
+step (Opens n) w = record w { lines = w.lines ++ record { number = n; session = fresh w.setup.request_bytes } ∷ [] }
 step (Comes n piece) w =
     turns (record w { kept = kept_fed piece w.clock n (find_line n w.lines) w.kept; lines = each (on n (fed piece)) w.lines })
 step (Closes n) w = record w { kept = kept_closed w.clock n (find_line n w.lines) w.kept; lines = those (λ k. not (k == n)) w.lines }

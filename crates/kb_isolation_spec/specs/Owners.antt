@@ -35,7 +35,7 @@ destiny setup n s (Moment now ∷ es) = destiny setup n s es
 -- of a connection that is not open yet
 abbrev pub unborn : Setup → ℕ → List Happening → Option ℕ
 unborn setup n [] = None
-unborn setup n (Opens m ∷ es) = if m == n then destiny setup n fresh es else unborn setup n es
+unborn setup n (Opens m ∷ es) = if m == n then destiny setup n (fresh setup.request_bytes) es else unborn setup n es
 unborn setup n (Comes m piece ∷ es) = unborn setup n es
 unborn setup n (Closes m ∷ es) = unborn setup n es
 unborn setup n (Moment now ∷ es) = unborn setup n es

@@ -1,5 +1,5 @@
 -- What a connection has, and what happens to it alone.
-use Rattle.std.specs.Prelude.{ℕ, pos, ◌-◌, List, [], ◌++◌, length, Bool, true, false, not, ◌&&◌, if◌then◌else◌, nat_lt, Option, Some, None}
+use Rattle.std.specs.Prelude.{ℕ, pos, ◌+◌, ◌*◌, ◌-◌, List, [], ◌++◌, length, Bool, true, false, not, ◌&&◌, if◌then◌else◌, nat_lt, Option, Some, None}
 use Rattle.kb_api_group.specs.Frames.{Front, Whole, Partial, TooSmall, TooLarge, front}
 use Rattle.kb_tenant.specs.Replies.{framed, reply_size}
 use Rattle.kb_wire.specs.Codec.{int32}
@@ -22,17 +22,20 @@ pub data Stage : Type 0 where
   Greets : (greeting : Greeting) → Stage
   BoundTo : (tenant : ℕ) (wait : Option Wait) → Stage
 
--- what a connection has, but for its number: unread bytes, untaken output, whether the broker shut it, and then why; and who logged in
+-- what a connection has, but for its number: the greatest size of a request that is read on it, unread bytes, untaken output, whether the
+-- broker shut it, and then why; and who logged in
 pub record Session : Type 0 where
   pub stage : Stage
+  pub limit : ℕ
   pub unread : List ℕ
   pub output : List ℕ
   pub shut : Bool
   pub why : Option Shut
   pub login : Login
 
-abbrev pub fresh : Session
-fresh = record { stage = Greets Unshaken; unread = []; output = []; shut = false; why = None; login = logins.Nobody }
+-- one that has said nothing, on which no request of more than that many bytes is read
+abbrev pub fresh : ℕ → Session
+fresh limit = record { stage = Greets Unshaken; limit = limit; unread = []; output = []; shut = false; why = None; login = logins.Nobody }
 
 abbrev pub without_wait : Stage → Stage
 without_wait (Greets greeting) = Greets greeting
@@ -45,15 +48,20 @@ waiting wait (BoundTo tenant earlier) = BoundTo tenant (Some wait)
 
 -- the broker shuts it, for that cause: unread bytes and wait are dropped, untaken output and who logged in stay
 abbrev pub shut_down : Shut → Session → Session
-shut_down cause s = record { stage = without_wait s.stage; unread = []; output = s.output; shut = true; why = Some cause; login = s.login }
+shut_down cause s =
+    record { stage = without_wait s.stage; limit = s.limit; unread = []; output = s.output; shut = true; why = Some cause; login = s.login }
 
 -- how many unread bytes a connection may have: a size and the largest request, twice
-abbrev pub LIMIT : ℕ
-LIMIT = 4194312
+abbrev pub unread_limit : ℕ → ℕ
+unread_limit limit = 2 * (4 + limit)
+
+-- what stands in front of its unread bytes
+abbrev pub in_front : Session → Front
+in_front s = front s.limit s.unread
 
 -- how many more bytes are taken
 abbrev pub room : Session → ℕ
-room s = LIMIT - length s.unread
+room s = unread_limit s.limit - length s.unread
 
 -- whether a piece is longer than the room of a connection that is not shut
 abbrev pub overruns : List ℕ → Session → Bool
@@ -97,4 +105,4 @@ is_turn Partial = false
 
 -- it can take a turn: it has no wait, and a whole unread request or a bad size (a shut one has no unread bytes)
 unfoldable pub can : Session → Bool
-can s = is_free s.stage && is_turn (front s.unread)
+can s = is_free s.stage && is_turn (in_front s)

@@ -2,8 +2,8 @@
 --
 -- Each is read off the schemas of its API in the Kafka protocol guide, "The Messages", under the API's name ("JoinGroup API" and so on):
 -- the request has the fields of that version's in the same order, and so has the reply, behind a `throttle_time_ms` where the tenant's
--- answer in that version has none. Its answers in ListOffsets 2 and 4, OffsetCommit 5 and 6, OffsetFetch 5 and FindCoordinator 1 have none,
--- though their replies do.
+-- answer in that version has none. Its answers in Fetch 7 and 9, ListOffsets 2 and 4, OffsetCommit 5 and 6, OffsetFetch 5 and
+-- FindCoordinator 1 have none, though their replies do.
 use Rattle.std.specs.Prelude.{ℕ, ℤ, pos, List, [], ◌∷◌, Bool, true, false, ◌&&◌, int_le, if◌then◌else◌}
 use Rattle.std.specs.Ordering.{int_eq}
 use Rattle.kb_wire.specs.declared.api_key.TheConstants.{PRODUCE, FETCH, LIST_OFFSETS, OFFSET_COMMIT, OFFSET_FETCH, FIND_COORDINATOR}
@@ -33,6 +33,8 @@ newer_versions =
     same_as PRODUCE 4 4 3 ∷
     same_as PRODUCE 6 6 5 ∷
     same_as FETCH 6 6 5 ∷
+    throttled_as FETCH 7 8 7 ∷
+    throttled_as FETCH 9 9 9 ∷
     throttled_as LIST_OFFSETS 2 3 2 ∷ throttled_as OFFSET_COMMIT 3 4 2 ∷
     throttled_as OFFSET_COMMIT 5 5 5 ∷
     throttled_as OFFSET_COMMIT 6 6 6 ∷

@@ -25,8 +25,9 @@ pub use promises::{
     fetches_end_at_their_deadline, fetches_get_batches_in_runs, fetches_get_whole_batches,
     first_event, limits_are_kept, members_wait_no_longer, nodes_are_a_tenants_own,
     nothing_before_login, one_tenants_in_order, others_change_nothing,
-    own_events_are_of_own_connections, own_events_stay_own, owners_at_entry, room_is_kept,
-    runs_go_on, strangers_are_greeted, throttle_times_stand_in_front, turns_end,
+    own_events_are_of_own_connections, own_events_stay_own, owners_at_entry,
+    requests_have_one_limit, room_is_kept, runs_go_on, strangers_are_greeted,
+    throttle_times_stand_in_front, turns_end,
 };
 pub use shut::Shut;
 pub use whom::Whom;

@@ -6,9 +6,9 @@ ghost use Rattle.kb_wire.specs.declared.api_key.TheConstants.{DELETE_TOPICS, FET
 ghost use Rattle.kb_isolation_spec.specs.declared.head.Head.{Head};
 ghost use Rattle.kb_isolation_spec.specs.declared.login.Login.TheVariants as logins;
 ghost use Rattle.kb_isolation_spec.specs.declared.shut.Shut.TheVariants as causes;
-ghost use Rattle.kb_isolation_spec.specs.Session.{Session, Stage, Bare, BoundTo, LIMIT, fed, has_member, overruns, replied, shut_down};
-ghost use Rattle.kb_isolation_spec.specs.Session.{without_wait};
-ghost use Rattle.kb_api_group.specs.Frames.{Whole, front};
+ghost use Rattle.kb_isolation_spec.specs.Session.{Session, Stage, Bare, BoundTo, fed, has_member, overruns, replied, shut_down};
+ghost use Rattle.kb_isolation_spec.specs.Session.{in_front, unread_limit, without_wait};
+ghost use Rattle.kb_api_group.specs.Frames.{Whole};
 ghost use Rattle.kb_api_data.specs.declared.fetch.FetchRequest.{FetchRequest};
 ghost use Rattle.kb_isolation_spec.specs.Requests.{Another, Authenticate, request};
 ghost use Rattle.kb_isolation_spec.specs.Tenant.{Records, Wait, ready};
@@ -32,6 +32,7 @@ ghost use Rattle.kb_isolation_spec.specs.Greetings.{greeted_alone};
 ghost use Rattle.kb_isolation_spec.specs.Isolation.{IsIsolated, StartsAlike, AreAlike, own_events, own_sent};
 ghost use Rattle.kb_isolation_spec.specs.Left.{last_world, LeavesWorlds};
 ghost use Rattle.kb_isolation_spec.specs.Logins.{HaveLoggedIn};
+ghost use Rattle.kb_isolation_spec.specs.RequestLimits.{HaveLimit};
 ghost use Rattle.kb_isolation_spec.specs.Alone.{HasToItself};
 ghost use Rattle.kb_isolation_spec.specs.Told.{quieted};
 ghost use Rattle.kb_isolation_spec.specs.LimitsKept.{IsMachineOf, StaysWithin};
@@ -101,7 +102,7 @@ pub fn strangers_are_greeted()
 pub fn fetches_get_whole_batches()
     ensures at_once { (setup : Setup) (kept : Kept) (clock n : ℕ) (s : Session) (frame rest : List ℕ) (version : ℤ) (body : List ℕ)
         (fetch : FetchRequest)
-        → HasSmallLogs kept.world → front s.unread ≡ Whole frame rest
+        → HasSmallLogs kept.world → in_front s ≡ Whole frame rest
         → (request setup.versions frame).asked ≡ Another FETCH version body → asked_fetch version body ≡ Ok fetch
         → GetsBatches kept.world version fetch (request setup.versions frame).head (record s { unread = rest })
         (after_turn setup kept clock n s) }
@@ -161,7 +162,8 @@ pub fn fetches_end_at_their_deadline()
 
 /// A connection never has more unread bytes than its limit, and one that was shut takes no piece.
 pub fn room_is_kept()
-    ensures limit { (piece : List ℕ) (s : Session) → length s.unread ≤ LIMIT → length (fed piece s).unread ≤ LIMIT }
+    ensures limit { (piece : List ℕ) (s : Session) → length s.unread ≤ unread_limit s.limit
+        → length (fed piece s).unread ≤ unread_limit s.limit }
     ensures shut { (piece : List ℕ) (s : Session) → s.shut ≡ true → fed piece s ≡ s }
 {}
 
@@ -187,7 +189,7 @@ pub fn nothing_before_login()
     ensures denied { (setup : Setup) (head : Head) (message name : List ℕ) (s : Session) → login setup.users message ≡ Err name
         → let after : Session = greeted_by setup true head (Authenticate message) s in
         (after.shut ≡ true) × (after.login ≡ logins.Failed name) }
-    ensures bare { (setup : Setup) (frame rest name : List ℕ) (s : Session) → front s.unread ≡ Whole frame rest
+    ensures bare { (setup : Setup) (frame rest name : List ℕ) (s : Session) → in_front s ≡ Whole frame rest
         → login setup.users frame ≡ Err name → greeted setup Bare s ≡ shut_down causes.Denied (failed name s) }
 {}
 
@@ -216,6 +218,17 @@ pub fn bound_connections_have_logged_in()
         → HaveLoggedIn a.setup.users (those mine b.lines) }
 {}
 
+/// On each connection the limit of a request is that of the setup, at each moment of a machine's run that begins with nobody connected,
+/// or where it was so before. So it is on the broker of all tenants, where nothing is refused to the tenant or to a connection that is
+/// not bound.
+pub fn requests_have_one_limit()
+    ensures machine { (es : List Happening) (w : View) → HaveLimit w.setup.request_bytes w.lines
+        → HaveLimit w.setup.request_bytes (last_world es w).lines }
+    ensures broker { (t : ℕ) (mine : ℕ → Bool) (es later : List Happening) (a b : BrokerState) (got : List Sent)
+        → a.lines ≡ [] → LeavesWorlds es a b got → Mine t mine (es ++ later) a → IsCalmFor t a b
+        → HaveLimit a.setup.request_bytes (those mine b.lines) }
+{}
+
 /// A connection stays its tenant's for good, whatever it asks.
 pub fn bound_for_good()
     ensures { (setup : Setup) (kept : Kept) (clock n tenant : ℕ) (s : Session) → whose s.stage ≡ Some tenant
@@ -226,7 +239,7 @@ pub fn bound_for_good()
 /// other tenants are.
 pub fn nodes_are_a_tenants_own()
     ensures { (a b : Setup) (tenant : ℕ) → a.versions ≡ b.versions → a.users ≡ b.users → node_of a tenant ≡ node_of b tenant
-        → for_tenant a tenant ≡ for_tenant b tenant }
+        → a.request_bytes ≡ b.request_bytes → for_tenant a tenant ≡ for_tenant b tenant }
 {}
 
 /// Turns come to an end: then no connection can take one.

@@ -216,8 +216,8 @@ abbrev pub settings_keys : List (List ℕ)
 settings_keys =
     codes "host" ∷ codes "port" ∷ codes "advertise" ∷ codes "segment_bytes" ∷ codes "cache_batches" ∷ codes "cache_bytes"
     ∷ codes "connections" ∷ codes "output_bytes" ∷ codes "sync" ∷ codes "sync_ms" ∷ codes "login_seconds" ∷ codes "reply_seconds"
-    ∷ codes "strangers" ∷ codes "request_seconds" ∷ codes "idle_seconds" ∷ codes "input_bytes" ∷ codes "request_entries"
-    ∷ codes "reply_bytes" ∷ codes "stock_clients" ∷ codes "logins" ∷ codes "metrics" ∷ codes "metrics_token" ∷ codes "data"
+    ∷ codes "strangers" ∷ codes "request_seconds" ∷ codes "idle_seconds" ∷ codes "input_bytes" ∷ codes "request_bytes"
+    ∷ codes "request_entries" ∷ codes "reply_bytes" ∷ codes "stock_clients" ∷ codes "logins" ∷ codes "metrics" ∷ codes "metrics_token" ∷ codes "data"
     ∷ codes "user" ∷ codes "tenant" ∷ []
 
 -- goes on with what is said at a key, or names the key where it is wrong
@@ -268,12 +268,14 @@ requests_in document =
     read_key document (codes "request_seconds") 30 (number_in 1 3600) λ request_seconds.
     read_key document (codes "idle_seconds") 600 (number_in 0 4294967) λ idle_seconds.
     read_key document (codes "input_bytes") 268435456 (number_in 8388608 4294967295) λ input_bytes.
+    read_key document (codes "request_bytes") 2097152 (number_in 2097152 104857600) λ request_bytes.
     read_key document (codes "request_entries") None (limit_in 1000 2097152) λ request_entries.
     read_key document (codes "reply_bytes") None (limit_in 1048576 2147483647) λ reply_bytes.
     Ok (record {
       request_seconds = request_seconds;
       idle_seconds = idle_seconds;
       input_bytes = input_bytes;
+      request_bytes = request_bytes;
       request_entries = request_entries;
       reply_bytes = reply_bytes;
     })

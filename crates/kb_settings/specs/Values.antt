@@ -21,12 +21,13 @@ pub record Account : Type 0 where
   pub password : List ℕ
   pub tenant : List ℕ
 
--- by when a request is whole and a socket is used, and the bytes of all begun requests; and where it is said, how many entries a
--- request may name, and how many bytes its reply may have
+-- by when a request is whole and a socket is used, the bytes of all begun requests, and those of one; and where it is said, how many
+-- entries a request may name, and how many bytes its reply may have
 pub record Requests : Type 0 where
   pub request_seconds : ℕ
   pub idle_seconds : ℕ
   pub input_bytes : ℕ
+  pub request_bytes : ℕ
   pub request_entries : Option ℕ
   pub reply_bytes : Option ℕ
 
@@ -65,6 +66,7 @@ requests_of r = record {
   request_seconds = r.request_seconds;
   idle_seconds = r.idle_seconds;
   input_bytes = r.input_bytes;
+  request_bytes = r.request_bytes;
   request_entries = r.request_entries;
   reply_bytes = r.reply_bytes;
 }
@@ -151,6 +153,7 @@ standard_requests = record {
   request_seconds = 30;
   idle_seconds = 600;
   input_bytes = 268435456;
+  request_bytes = 2097152;
   request_entries = None;
   reply_bytes = None;
 }

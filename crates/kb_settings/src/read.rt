@@ -27,7 +27,7 @@ use toml::Table;
 const MIB: u32 = 1_048_576;
 
 /// The keys that there are.
-const KEYS: [&str; 25] = [
+const KEYS: [&str; 26] = [
     "host",
     "port",
     "advertise",
@@ -44,6 +44,7 @@ const KEYS: [&str; 25] = [
     "request_seconds",
     "idle_seconds",
     "input_bytes",
+    "request_bytes",
     "request_entries",
     "reply_bytes",
     "stock_clients",
@@ -58,9 +59,9 @@ const KEYS: [&str; 25] = [
 impl Settings {
     /// The settings of a TOML text: `host`, `port`, `advertise`, `segment_bytes`, `cache_batches`, `cache_bytes`, `connections`,
     /// `output_bytes`, `sync`, `sync_ms`, `login_seconds`, `reply_seconds`, `strangers`, `request_seconds`, `idle_seconds`,
-    /// `input_bytes`, `request_entries`, `reply_bytes`, `stock_clients`, `logins`, `metrics`, `metrics_token` and `data`, each as in
-    /// [`Settings::standard`] where it is missing, but `strangers` as `connections`. Then an array of tables `user` with `name`,
-    /// `password` and `tenant`, and one of tables `tenant` with `name`, `connections`, `reserved_connections`, `groups`,
+    /// `input_bytes`, `request_bytes`, `request_entries`, `reply_bytes`, `stock_clients`, `logins`, `metrics`, `metrics_token` and
+    /// `data`, each as in [`Settings::standard`] where it is missing, but `strangers` as `connections`. Then an array of tables `user`
+    /// with `name`, `password` and `tenant`, and one of tables `tenant` with `name`, `connections`, `reserved_connections`, `groups`,
     /// `group_bytes`, `topics`, `partitions`, `offsets`, `bytes`, `fetch_bytes` and `advertise`, which may be missing, all but the
     /// name. `advertise` and `metrics` are `HOST:PORT`, where an IPv6 address stands in brackets; around `host` they may be left
     /// out. `metrics_token` may be missing where `metrics` is this machine alone.
@@ -192,6 +193,14 @@ fn requests(alloc: Global, document: &Table) -> Result<RequestLimits, SettingsFa
         request_seconds: limited(alloc, document, "request_seconds", 30, 1, 3600)?,
         idle_seconds: limited(alloc, document, "idle_seconds", 600, 0, 4_294_967)?,
         input_bytes: limited(alloc, document, "input_bytes", 256 * MIB, 8 * MIB, u32::MAX)?,
+        request_bytes: limited(
+            alloc,
+            document,
+            "request_bytes",
+            2 * MIB,
+            2 * MIB,
+            100 * MIB,
+        )?,
         request_entries: said(
             alloc,
             "request_entries",

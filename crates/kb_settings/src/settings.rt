@@ -121,7 +121,8 @@ impl Settings {
     /// of 67,108,864 bytes at most, 1,024 clients are connected at most, 268,435,456 bytes of output are kept, what was done is
     /// made to last each 1,000 ms, a socket has 10 seconds for its login and 60 for the next byte of a reply, all of them may be
     /// before their login, a request is whole by 30 seconds, a socket is used by 600, begun requests take 268,435,456 bytes at
-    /// most, logins are told in the log, no metrics are served, and there is no folder and are no limits of tenants.
+    /// most and each of them 2,097,152, logins are told in the log, no metrics are served, and there is no folder and are no limits of
+    /// tenants.
     pub fn standard(alloc: Global) -> Result<Settings, AllocError>
         ensures value { IfOk result (λ settings. values_of settings ≡ standard) }
         ensures text { IfOk result (λ settings. settings_of standard_text ≡ Some (Ok (values_of settings))) }
@@ -147,6 +148,7 @@ impl Settings {
                 request_seconds: 30,
                 idle_seconds: 600,
                 input_bytes: 268_435_456,
+                request_bytes: 2_097_152,
                 request_entries: None,
                 reply_bytes: None,
             },

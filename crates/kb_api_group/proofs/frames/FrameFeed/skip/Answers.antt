@@ -4,12 +4,12 @@ use Rattle.kb_api_group.proofs.frames.FrameFeed.skip.Goals as goal
 
 pub overflow_add-self-2 : goal.overflow_add-self-2
 overflow_add-self-2 c =
-    let k = is_skipped c.args.self.now c.in-Frame.frame c.in-Frame.ensures in
-    let within : c.self.inside.start + (4 + length c.as_slice.result.now) ≤ length c.self.inside.bytes.items = skipped-within _ _ _ c.as_slice.result.now c.self.inside.start c.self.view_is c.self.invariant c.as_slice.ensures k in
+    let k = is_skipped c.args.limit c.args.self.now c.in-Frame.frame c.in-Frame.ensures in
+    let within : c.self.inside.start + (4 + length c.as_slice.result.now) ≤ length c.self.inside.bytes.items = skipped-within c.args.limit _ _ _ c.as_slice.result.now c.self.inside.start c.self.view_is c.self.invariant c.as_slice.ensures k in
     search rules
 
 pub invariant_of-self : goal.invariant_of-self
-invariant_of-self c = skipped-within _ _ _ c.as_slice.result.now c.self.inside.start c.self.view_is c.self.invariant c.as_slice.ensures (is_skipped c.args.self.now c.in-Frame.frame c.in-Frame.ensures)
+invariant_of-self c = skipped-within c.args.limit _ _ _ c.as_slice.result.now c.self.inside.start c.self.view_is c.self.invariant c.as_slice.ensures (is_skipped c.args.limit c.args.self.now c.in-Frame.frame c.in-Frame.ensures)
 
 pub returns : goal.returns
-returns c = skipped-behind _ _ _ c.as_slice.result.now c.self.inside.start c.self.view_is c.as_slice.ensures (is_skipped c.args.self.now c.in-Frame.frame c.in-Frame.ensures)
+returns c = skipped-behind c.args.limit _ _ _ c.as_slice.result.now c.self.inside.start c.self.view_is c.as_slice.ensures (is_skipped c.args.limit c.args.self.now c.in-Frame.frame c.in-Frame.ensures)

@@ -1,5 +1,6 @@
-use Rattle.std.proofs.Common.{rules}
-use Rattle.kb_connection.proofs.Answering.{IsNoWait, gives, puts_given, stage_kept}
+use Rattle.std.proofs.Common.{rules, ap}
+use Rattle.kb_isolation_spec.specs.Machine.{Line}
+use Rattle.kb_connection.proofs.Answering.{IsNoWait, gives, puts_given, same_limit, stage_kept}
 use Rattle.kb_connection.proofs.connection.Connection.answer.Goals as goal
 
 pub returns-in-Plain-clause-ok : goal.returns-in-Plain-clause-ok
@@ -13,3 +14,6 @@ returns-in-Plain-clause-output c = λ key version head body asks.
 
 pub returns-in-Plain-clause-stage : goal.returns-in-Plain-clause-stage
 returns-in-Plain-clause-stage c = stage_kept c.give.result c.args.self.now c.skip.new.self c.give.new.self c.head_in_front-head.result c.in-Plain.answer c.skip.ensures c.give.ensures.ok c.give.ensures.err
+
+pub returns-in-Plain-clause-limit : goal.returns-in-Plain-clause-limit
+returns-in-Plain-clause-limit c = same_limit c.give.result c.args.self.now c.skip.new.self c.give.new.self c.head_in_front-head.result c.in-Plain.answer (ap (λ (x : Line). x.session.limit) c.skip.ensures) c.give.ensures.ok c.give.ensures.err

@@ -5,4 +5,4 @@ use Rattle.kb_connection.proofs.Limits.{limited-behind}
 use Rattle.kb_connection.proofs.connection.Connection.skip.Goals as goal
 
 pub invariant_of-self : goal.invariant_of-self
-invariant_of-self c = subst (λ u. IsLimited u (stage_with_wait c.self.inside.stage) (is_some c.self.inside.shut)) (sym c.skip.ensures) (limited-behind c.self.inside.unread (stage_with_wait c.self.inside.stage) (is_some c.self.inside.shut) c.self.invariant)
+invariant_of-self c = subst (λ u. IsLimited c.self.inside.limit u (stage_with_wait c.self.inside.stage) (is_some c.self.inside.shut)) (sym c.skip.ensures) (limited-behind c.self.inside.limit c.self.inside.unread (stage_with_wait c.self.inside.stage) (is_some c.self.inside.shut) c.self.invariant)

@@ -85,6 +85,7 @@ served_again node w clock n key version body r deadline tied own waits =
       delete_topics = λ q read after. places_back w (of_delete_topics version w q).world ((delete_loses w q).before own) clock r deadline after;
       delete_records = λ q read after. same_places w (of_delete_records w q).world (records_alike w q).names r;
       init_producer_id = λ q read after. untold w (of_init_producer_id w q).world (init_moves w q) tied clock r deadline waits;
+      describe_configs = λ q read after. refl;
       shut = λ after. refl;
     })
 
@@ -107,6 +108,7 @@ served_names node w clock n key version body own = by_request (λ (o : Outcome).
   delete_topics = λ q read. (delete_loses w q).apart own;
   delete_records = λ q read. (records_alike w q).apart own;
   init_producer_id = λ q read. subst AreNamedApart (sym (init_topics w q)) own;
+  describe_configs = λ q read. own;
   shut = own;
 })
 

@@ -5,6 +5,7 @@ use Rattle.std.specs.Ordering.{int_eq}
 use Rattle.kb_wire.specs.declared.api_key.TheConstants.{PRODUCE, FETCH, LIST_OFFSETS, METADATA, OFFSET_COMMIT, OFFSET_FETCH}
 use Rattle.kb_wire.specs.declared.api_key.TheConstants.{FIND_COORDINATOR, CREATE_TOPICS, DELETE_TOPICS, DELETE_RECORDS, INIT_PRODUCER_ID}
 use Rattle.kb_wire.specs.declared.fault.ReadFault.{ReadFault}
+use Rattle.kb_api_data.specs.declared.config_key.TheConstants.{DESCRIBE_CONFIGS}
 use Rattle.kb_tenant_state.specs.Parts.{Seen}
 use Rattle.kb_tenant_state.specs.Scene.{Scene, WhereHonest}
 use Rattle.kb_tenant_state.specs.Told.{IsLogFull}
@@ -30,17 +31,18 @@ other key api another is not own = differs key another (ap (λ k. int_eq k anoth
 
 -- The key of none of the APIs that look up.
 looks_not : {X : Type 0} (key api : ℤ) → key ≡ api → int_eq api METADATA ≡ false → int_eq api OFFSET_FETCH ≡ false
-    → int_eq api FIND_COORDINATOR ≡ false → LooksUp key → X
-looks_not key api is metadata fetch find (inl also) = other key api METADATA is metadata refl also
-looks_not key api is metadata fetch find (inr (inl also)) = other key api OFFSET_FETCH is fetch refl also
-looks_not key api is metadata fetch find (inr (inr also)) = other key api FIND_COORDINATOR is find refl also
+    → int_eq api FIND_COORDINATOR ≡ false → int_eq api DESCRIBE_CONFIGS ≡ false → LooksUp key → X
+looks_not key api is metadata fetch find configs (inl also) = other key api METADATA is metadata refl also
+looks_not key api is metadata fetch find configs (inr (inl also)) = other key api OFFSET_FETCH is fetch refl also
+looks_not key api is metadata fetch find configs (inr (inr (inl also))) = other key api FIND_COORDINATOR is find refl also
+looks_not key api is metadata fetch find configs (inr (inr (inr also))) = other key api DESCRIBE_CONFIGS is configs refl also
 
 -- The key of none of the APIs that change nothing.
 pub reads_not : {X : Type 0} (key api : ℤ) → key ≡ api → int_eq api METADATA ≡ false → int_eq api OFFSET_FETCH ≡ false
-    → int_eq api FIND_COORDINATOR ≡ false → int_eq api FETCH ≡ false → int_eq api LIST_OFFSETS ≡ false → OnlyReads key → X
-reads_not key api is metadata offsets find fetch list (inl looks) = looks_not key api is metadata offsets find looks
-reads_not key api is metadata offsets find fetch list (inr (inl also)) = other key api FETCH is fetch refl also
-reads_not key api is metadata offsets find fetch list (inr (inr also)) = other key api LIST_OFFSETS is list refl also
+    → int_eq api FIND_COORDINATOR ≡ false → int_eq api DESCRIBE_CONFIGS ≡ false → int_eq api FETCH ≡ false → int_eq api LIST_OFFSETS ≡ false → OnlyReads key → X
+reads_not key api is metadata offsets find configs fetch list (inl looks) = looks_not key api is metadata offsets find configs looks
+reads_not key api is metadata offsets find configs fetch list (inr (inl also)) = other key api FETCH is fetch refl also
+reads_not key api is metadata offsets find configs fetch list (inr (inr also)) = other key api LIST_OFFSETS is list refl also
 
 -- ---- what is told of an answer
 
@@ -67,8 +69,8 @@ module _ (a b : Scene Seen) (node : Node) (clock : ℕ) (request : Request) (tou
     trimmed = other request.api_key PRODUCE DELETE_RECORDS is refl refl;
     issued = other request.api_key PRODUCE INIT_PRODUCER_ID is refl refl;
     committed = other request.api_key PRODUCE OFFSET_COMMIT is refl refl;
-    looked_up = looks_not request.api_key PRODUCE is refl refl refl;
-    stays = reads_not request.api_key PRODUCE is refl refl refl refl refl;
+    looked_up = looks_not request.api_key PRODUCE is refl refl refl refl;
+    stays = reads_not request.api_key PRODUCE is refl refl refl refl refl refl;
   }
   produce_told (Err fault) is told shut = tt
 
@@ -87,7 +89,7 @@ module _ (a b : Scene Seen) (node : Node) (clock : ℕ) (request : Request) (tou
     trimmed = other request.api_key FETCH DELETE_RECORDS is refl refl;
     issued = other request.api_key FETCH INIT_PRODUCER_ID is refl refl;
     committed = other request.api_key FETCH OFFSET_COMMIT is refl refl;
-    looked_up = looks_not request.api_key FETCH is refl refl refl;
+    looked_up = looks_not request.api_key FETCH is refl refl refl refl;
     stays = λ reads. same honest agree;
   }
   fetch_told (Err fault) is told same = tt
@@ -106,7 +108,7 @@ module _ (a b : Scene Seen) (node : Node) (clock : ℕ) (request : Request) (tou
     trimmed = other request.api_key LIST_OFFSETS DELETE_RECORDS is refl refl;
     issued = other request.api_key LIST_OFFSETS INIT_PRODUCER_ID is refl refl;
     committed = other request.api_key LIST_OFFSETS OFFSET_COMMIT is refl refl;
-    looked_up = looks_not request.api_key LIST_OFFSETS is refl refl refl;
+    looked_up = looks_not request.api_key LIST_OFFSETS is refl refl refl refl;
     stays = λ reads. same honest agree;
   }
   list_offsets_told (Err fault) is told same = tt
@@ -125,8 +127,8 @@ module _ (a b : Scene Seen) (node : Node) (clock : ℕ) (request : Request) (tou
     trimmed = other request.api_key CREATE_TOPICS DELETE_RECORDS is refl refl;
     issued = other request.api_key CREATE_TOPICS INIT_PRODUCER_ID is refl refl;
     committed = other request.api_key CREATE_TOPICS OFFSET_COMMIT is refl refl;
-    looked_up = looks_not request.api_key CREATE_TOPICS is refl refl refl;
-    stays = reads_not request.api_key CREATE_TOPICS is refl refl refl refl refl;
+    looked_up = looks_not request.api_key CREATE_TOPICS is refl refl refl refl;
+    stays = reads_not request.api_key CREATE_TOPICS is refl refl refl refl refl refl;
   }
   create_topics_told (Err fault) is told = tt
 
@@ -144,8 +146,8 @@ module _ (a b : Scene Seen) (node : Node) (clock : ℕ) (request : Request) (tou
     trimmed = other request.api_key DELETE_TOPICS DELETE_RECORDS is refl refl;
     issued = other request.api_key DELETE_TOPICS INIT_PRODUCER_ID is refl refl;
     committed = other request.api_key DELETE_TOPICS OFFSET_COMMIT is refl refl;
-    looked_up = looks_not request.api_key DELETE_TOPICS is refl refl refl;
-    stays = reads_not request.api_key DELETE_TOPICS is refl refl refl refl refl;
+    looked_up = looks_not request.api_key DELETE_TOPICS is refl refl refl refl;
+    stays = reads_not request.api_key DELETE_TOPICS is refl refl refl refl refl refl;
   }
   delete_topics_told (Err fault) is told = tt
 
@@ -163,8 +165,8 @@ module _ (a b : Scene Seen) (node : Node) (clock : ℕ) (request : Request) (tou
     trimmed = λ also. told honest agree;
     issued = other request.api_key DELETE_RECORDS INIT_PRODUCER_ID is refl refl;
     committed = other request.api_key DELETE_RECORDS OFFSET_COMMIT is refl refl;
-    looked_up = looks_not request.api_key DELETE_RECORDS is refl refl refl;
-    stays = reads_not request.api_key DELETE_RECORDS is refl refl refl refl refl;
+    looked_up = looks_not request.api_key DELETE_RECORDS is refl refl refl refl;
+    stays = reads_not request.api_key DELETE_RECORDS is refl refl refl refl refl refl;
   }
   delete_records_told (Err fault) is told = tt
 
@@ -182,8 +184,8 @@ module _ (a b : Scene Seen) (node : Node) (clock : ℕ) (request : Request) (tou
     trimmed = other request.api_key INIT_PRODUCER_ID DELETE_RECORDS is refl refl;
     issued = λ also. told honest agree;
     committed = other request.api_key INIT_PRODUCER_ID OFFSET_COMMIT is refl refl;
-    looked_up = looks_not request.api_key INIT_PRODUCER_ID is refl refl refl;
-    stays = reads_not request.api_key INIT_PRODUCER_ID is refl refl refl refl refl;
+    looked_up = looks_not request.api_key INIT_PRODUCER_ID is refl refl refl refl;
+    stays = reads_not request.api_key INIT_PRODUCER_ID is refl refl refl refl refl refl;
   }
   init_producer_id_told (Err fault) is told = tt
 
@@ -201,8 +203,8 @@ module _ (a b : Scene Seen) (node : Node) (clock : ℕ) (request : Request) (tou
     trimmed = other request.api_key OFFSET_COMMIT DELETE_RECORDS is refl refl;
     issued = other request.api_key OFFSET_COMMIT INIT_PRODUCER_ID is refl refl;
     committed = λ also. told honest agree;
-    looked_up = looks_not request.api_key OFFSET_COMMIT is refl refl refl;
-    stays = reads_not request.api_key OFFSET_COMMIT is refl refl refl refl refl;
+    looked_up = looks_not request.api_key OFFSET_COMMIT is refl refl refl refl;
+    stays = reads_not request.api_key OFFSET_COMMIT is refl refl refl refl refl refl;
   }
   offset_commit_told (Err fault) is told = tt
 

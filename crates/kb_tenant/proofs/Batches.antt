@@ -17,9 +17,9 @@ use Rattle.kb_tenant_state.specs.declared.fault.PartitionFault.TheVariants as ra
 use Rattle.kb_tenant_state.specs.Calls.{fetched_from}
 use Rattle.kb_tenant_state.specs.World.{World, log_in, place_in}
 use Rattle.kb_tenant_state.specs.declared.topic_partition.TopicPartition.{TopicPartition}
-use Rattle.kb_tenant.specs.Batches.{BeginAt, GivesBatches, EachAnswered, IsPartitionAnswered, IsTopicAnswered, HasSmallLogs, HoldsBatches, Spells}
+use Rattle.kb_tenant.specs.Batches.{BeginAt, GivesBatches, EachAnswered, IsPartitionAnswered, IsTopicAnswered, HasSmallLogs, HoldsBatches, SpellsBehind}
 use Rattle.kb_tenant.specs.Entries.{fetch_entries, within as within_limit}
-use Rattle.kb_tenant.specs.Fetch.{Limits, fetch_answered, answered_at, answered_by, answered_topic, asked_fetch, begun, bounded, fetch_answer, fetched, has_starts, is_ready, limit_of, deadline_of, fetched_in}
+use Rattle.kb_tenant.specs.Fetch.{Limits, fetch_answered, answered_at, answered_by, answered_topic, asked_code, asked_fetch, begun, bounded, fetch_answer, fetched, fetched_as, has_session, has_starts, is_ready, limit_of, deadline_of, fetched_in}
 use Rattle.kb_tenant.specs.Limits.{is_past}
 use Rattle.kb_tenant.specs.Replies.{Replies, Silent}
 use Rattle.kb_tenant.specs.Serve.{plainly_served, looked, looked_at, of_fetch, if_read, fetch_reaction}
@@ -141,13 +141,13 @@ answer-is w clock r deadline reply e = by (is_ready clock r (fetched w r).1 dead
     by false ready = none (sym (ap (λ t. if t then Some (fetched w r).1 else None) ready) ∙ e)
 
 -- what is written of a fetch's reply
-abbrev Spelled : ℤ → World → FetchRequest → Type 0
-Spelled version w r = Spells (has_starts version) (fetched_in version (fetched w r).1) (fetched w r).1
+abbrev Spelled : (version code : ℤ) → World → FetchRequest → Type 0
+Spelled version code w r = SpellsBehind (has_session version) (has_starts version) (fetched_as version code (fetched w r).1) (fetched w r).1
 
-written-holds : (version : ℤ) (w : World) (clock : ℕ) (r : FetchRequest) (deadline : ℕ) (reply : FetchReplyV5) (bytes : List ℕ) → Spelled version w r → fetch_answer w clock r deadline ≡ Some reply → bytes ≡ fetched_in version reply → HoldsBatches version w r bytes
-written-holds version w clock r deadline reply bytes spelled e is = record {
+written-holds : (version code : ℤ) (w : World) (clock : ℕ) (r : FetchRequest) (deadline : ℕ) (reply : FetchReplyV5) (bytes : List ℕ) → Spelled version code w r → fetch_answer w clock r deadline ≡ Some reply → bytes ≡ fetched_as version code reply → HoldsBatches version w r bytes
+written-holds version code w clock r deadline reply bytes spelled e is = record {
   reply = (fetched w r).1;
-  spelled = subst (λ s. Spells (has_starts version) s (fetched w r).1) (sym (is ∙ ap (λ (x : FetchReplyV5). fetched_in version x) (answer-is w clock r deadline reply e))) spelled;
+  spelled = subst (λ s. SpellsBehind (has_session version) (has_starts version) s (fetched w r).1) (sym (is ∙ ap (λ (x : FetchReplyV5). fetched_as version code x) (answer-is w clock r deadline reply e))) spelled;
   answered = all-answered w r;
 }
 
@@ -157,9 +157,9 @@ as-asked version w limit r bytes h = record { reply = h.reply; spelled = h.spell
 
 -- ---- at once, and after a wait
 
-reaction-holds : (version : ℤ) (limit : Option ℕ) (w : World) (clock : ℕ) (r : FetchRequest) (bytes : List ℕ) (answer : Option FetchReplyV5) → Spelled version w r → fetch_answer w clock r (deadline_of clock r) ≡ answer → fetch_reaction version limit w clock r answer ≡ Replies bytes → HoldsBatches version w r bytes
-reaction-holds version limit w clock r bytes None spelled e is = absurd (cc)
-reaction-holds version limit w clock r bytes (Some reply) spelled e is = written-holds version w clock r (deadline_of clock r) reply bytes spelled e (sym (replied-is is))
+reaction-holds : (version code : ℤ) (limit : Option ℕ) (w : World) (clock : ℕ) (r : FetchRequest) (bytes : List ℕ) (answer : Option FetchReplyV5) → Spelled version code w r → fetch_answer w clock r (deadline_of clock r) ≡ answer → fetch_reaction version code limit w clock r answer ≡ Replies bytes → HoldsBatches version w r bytes
+reaction-holds version code limit w clock r bytes None spelled e is = absurd (cc)
+reaction-holds version code limit w clock r bytes (Some reply) spelled e is = written-holds version code w clock r (deadline_of clock r) reply bytes spelled e (sym (replied-is is))
   where
     replied-is : {x y : List ℕ} → Replies x ≡ Replies y → x ≡ y
     replied-is h = cc
@@ -167,17 +167,17 @@ reaction-holds version limit w clock r bytes (Some reply) spelled e is = written
 pub served-holds : (node : Node) (w : World) (clock n : ℕ) (version : ℤ) (body bytes : List ℕ) (r : FetchRequest) → HasSmallLogs w → asked_fetch version body ≡ Ok r → (plainly_served node w clock n FETCH version body).reaction ≡ Replies bytes → HoldsBatches version w r bytes
 unfolding plainly_served
 served-holds node w clock n version body bytes r small read replies =
-    by (is_past node.limits.request_entries (fetch_entries r)) (sym (ap (λ x. (if_read w (within_limit node.limits.request_entries fetch_entries x) (of_fetch version node.limits.fetch_bytes w clock)).reaction) read) ∙ replies)
+    by (is_past node.limits.request_entries (fetch_entries r)) (sym (ap (λ x. (if_read w (within_limit node.limits.request_entries fetch_entries x) (of_fetch version (asked_code version body) node.limits.fetch_bytes w clock)).reaction) read) ∙ replies)
   where
-    by : (b : Bool) → (if_read w (if b then Err faults.Bad else Ok r) (of_fetch version node.limits.fetch_bytes w clock)).reaction ≡ Replies bytes → HoldsBatches version w r bytes
+    by : (b : Bool) → (if_read w (if b then Err faults.Bad else Ok r) (of_fetch version (asked_code version body) node.limits.fetch_bytes w clock)).reaction ≡ Replies bytes → HoldsBatches version w r bytes
     by true is = absurd cc
     by false is = let q = bounded node.limits.fetch_bytes r in
         as-asked version w node.limits.fetch_bytes r bytes
-        (reaction-holds version node.limits.fetch_bytes w clock q bytes (fetch_answer w clock q (deadline_of clock q)) (reply_spelled w (has_starts version) node.limits.fetch_bytes body r small read) refl is)
+        (reaction-holds version (asked_code version body) node.limits.fetch_bytes w clock q bytes (fetch_answer w clock q (deadline_of clock q)) (reply_spelled w version (asked_code version body) node.limits.fetch_bytes body r small read) refl is)
 
-look-holds : (version : ℤ) (w : World) (clock deadline : ℕ) (r : FetchRequest) (bytes : List ℕ) (answer : Option FetchReplyV5) → Spelled version w r → fetch_answer w clock r deadline ≡ answer → (elim answer [ Some reply ↦ Replies (fetched_in version reply) | None ↦ Silent ]) ≡ Replies bytes → HoldsBatches version w r bytes
+look-holds : (version : ℤ) (w : World) (clock deadline : ℕ) (r : FetchRequest) (bytes : List ℕ) (answer : Option FetchReplyV5) → Spelled version (pos 0) w r → fetch_answer w clock r deadline ≡ answer → (elim answer [ Some reply ↦ Replies (fetched_in version reply) | None ↦ Silent ]) ≡ Replies bytes → HoldsBatches version w r bytes
 look-holds version w clock deadline r bytes None spelled e is = absurd (cc)
-look-holds version w clock deadline r bytes (Some reply) spelled e is = written-holds version w clock r deadline reply bytes spelled e (sym (replied-is is))
+look-holds version w clock deadline r bytes (Some reply) spelled e is = written-holds version (pos 0) w clock r deadline reply bytes spelled e (sym (replied-is is))
   where
     replied-is : {x y : List ℕ} → Replies x ≡ Replies y → x ≡ y
     replied-is h = cc
@@ -187,4 +187,4 @@ unfolding looked
 looked-holds w clock deadline version limit body bytes r small read replies =
     let q = bounded limit r in
     as-asked version w limit r bytes
-    (look-holds version w clock deadline q bytes (fetch_answer w clock q deadline) (reply_spelled w (has_starts version) limit body r small read) refl (sym (ap (looked_at w clock deadline version limit) read) ∙ replies))
+    (look-holds version w clock deadline q bytes (fetch_answer w clock q deadline) (reply_spelled w version (pos 0) limit body r small read) refl (sym (ap (looked_at w clock deadline version limit) read) ∙ replies))

@@ -5,12 +5,14 @@ use Rattle.std.specs.Ordering.{int_eq}
 use Rattle.kb_wire.specs.Codec.{whole}
 use Rattle.kb_wire.specs.declared.api_key.TheConstants.{PRODUCE, FETCH, LIST_OFFSETS, METADATA, OFFSET_COMMIT, OFFSET_FETCH}
 use Rattle.kb_wire.specs.declared.api_key.TheConstants.{FIND_COORDINATOR, CREATE_TOPICS, DELETE_TOPICS, DELETE_RECORDS, INIT_PRODUCER_ID}
+use Rattle.kb_api_data.specs.declared.config_key.TheConstants.{DESCRIBE_CONFIGS}
 use Rattle.kb_wire.specs.declared.fault.WireFault.{WireFault}
 use Rattle.kb_wire.specs.declared.fault.WireFault.TheVariants as faults
 use Rattle.kb_api_data.specs.Layouts.{produce_request, delete_records_request, delete_topics_request, init_producer_id_request}
 use Rattle.kb_api_data.specs.declared.create_topics_v1.CreateTopicsRequestV1.{CreateTopicsRequestV1}
 use Rattle.kb_api_data.specs.declared.delete_records.DeleteRecordsRequest.{DeleteRecordsRequest}
 use Rattle.kb_api_data.specs.declared.delete_topics.DeleteTopicsRequest.{DeleteTopicsRequest}
+use Rattle.kb_api_data.specs.declared.describe_configs.DescribeConfigsRequest.{DescribeConfigsRequest}
 use Rattle.kb_api_data.specs.declared.fetch.FetchRequest.{FetchRequest}
 use Rattle.kb_api_data.specs.declared.init_producer_id.InitProducerIdRequest.{InitProducerIdRequest}
 use Rattle.kb_api_data.specs.declared.list_offsets.ListOffsetsRequest.{ListOffsetsRequest}
@@ -20,9 +22,11 @@ use Rattle.kb_api_group.specs.declared.offset_commit.OffsetCommitRequest.{Offset
 use Rattle.kb_api_group.specs.declared.offset_fetch_v2.OffsetFetchRequestV2.{OffsetFetchRequestV2}
 use Rattle.kb_tenant_state.specs.World.{World}
 use Rattle.kb_tenant.specs.CreateTopics.{asked_creations, checked_all, created_all, creations_in, made_of}
+use Rattle.kb_tenant.specs.DescribeConfigs.{asked_configs}
+use Rattle.kb_tenant.specs.Entries.{describe_configs_entries}
 use Rattle.kb_tenant.specs.Entries.{commit_entries, create_topics_entries, delete_records_entries, delete_topics_entries, fetch_entries}
 use Rattle.kb_tenant.specs.Entries.{list_offsets_entries, metadata_entries, offset_fetch_entries, produce_entries, within}
-use Rattle.kb_tenant.specs.Fetch.{asked_fetch}
+use Rattle.kb_tenant.specs.Fetch.{asked_code, asked_fetch}
 use Rattle.kb_tenant.specs.FindCoordinator.{asked_coordinator}
 use Rattle.kb_tenant.specs.Limits.{is_past}
 use Rattle.kb_tenant.specs.ListOffsets.{asked_listing}
@@ -30,14 +34,14 @@ use Rattle.kb_tenant.specs.Metadata.{asked_metadata}
 use Rattle.kb_tenant.specs.OffsetCommit.{asked_commit}
 use Rattle.kb_tenant.specs.OffsetFetch.{asked_offsets}
 use Rattle.kb_tenant.specs.Replies.{Reaction, Replies, Shuts}
-use Rattle.kb_tenant.specs.Serve.{Outcome, if_read, of_produce, of_fetch, of_list_offsets, of_metadata, of_offset_commit, of_offset_fetch, of_find_coordinator, of_create_topics, of_delete_records, of_delete_topics, of_init_producer_id, plainly_served, stays}
+use Rattle.kb_tenant.specs.Serve.{Outcome, if_read, of_produce, of_fetch, of_list_offsets, of_metadata, of_offset_commit, of_offset_fetch, of_find_coordinator, of_create_topics, of_delete_records, of_delete_topics, of_describe_configs, of_init_producer_id, plainly_served, stays}
 use Rattle.kb_tenant.specs.declared.limits.DataLimits.{DataLimits}
 use Rattle.kb_tenant.specs.declared.node.Node.{Node}
 
 -- It holds of what each API's request comes to, where the body is one, and of a connection that is shut.
 pub record Cases (P : Outcome → Type 0) (node : Node) (w : World) (clock : ℕ) (version : ℤ) (body : List ℕ) : Type 0 where
   pub produce : (r : ProduceRequest) → whole produce_request body ≡ Ok r → P (of_produce version node.limits.bytes w r)
-  pub fetch : (r : FetchRequest) → asked_fetch version body ≡ Ok r → P (of_fetch version node.limits.fetch_bytes w clock r)
+  pub fetch : (r : FetchRequest) → asked_fetch version body ≡ Ok r → P (of_fetch version (asked_code version body) node.limits.fetch_bytes w clock r)
   pub list_offsets : (r : ListOffsetsRequest) → asked_listing version body ≡ Ok r → P (of_list_offsets version w r)
   pub metadata : (r : MetadataRequest) → asked_metadata version body ≡ Ok r → P (of_metadata node version w r)
   pub offset_commit : (r : OffsetCommitRequest) → asked_commit version body ≡ Ok r → P (of_offset_commit node.limits w r)
@@ -47,6 +51,7 @@ pub record Cases (P : Outcome → Type 0) (node : Node) (w : World) (clock : ℕ
   pub delete_topics : (r : DeleteTopicsRequest) → whole delete_topics_request body ≡ Ok r → P (of_delete_topics version w r)
   pub delete_records : (r : DeleteRecordsRequest) → whole delete_records_request body ≡ Ok r → P (of_delete_records w r)
   pub init_producer_id : (r : InitProducerIdRequest) → whole init_producer_id_request body ≡ Ok r → P (of_init_producer_id w r)
+  pub describe_configs : (r : DescribeConfigsRequest) → asked_configs version body ≡ Ok r → P (of_describe_configs node.limits.reply_bytes version w r)
   pub shut : P (stays w Shuts)
 
 read_by : {A : Type 0} (P : Outcome → Type 0) (w : World) (r : Result A WireFault) (f : A → Outcome) → ((a : A) → r ≡ Ok a → P (f a)) → P (stays w Shuts) → P (if_read w r f)
@@ -79,6 +84,7 @@ unfolding plainly_served
 by_request P node w clock n key version body c =
     let limit : Option ℕ = node.limits.request_entries in
     let shut : Outcome = stays w Shuts in
+    let configs : Outcome = if_read w (within limit describe_configs_entries (asked_configs version body)) (of_describe_configs node.limits.reply_bytes version w) in
     let inits : Outcome = if_read w (whole init_producer_id_request body) (of_init_producer_id w) in
     let trims : Outcome = if_read w (within limit delete_records_entries (whole delete_records_request body)) (of_delete_records w) in
     let deletes : Outcome = if_read w (within limit delete_topics_entries (whole delete_topics_request body)) (of_delete_topics version w) in
@@ -88,9 +94,10 @@ by_request P node w clock n key version body c =
     let commits : Outcome = if_read w (within limit commit_entries (asked_commit version body)) (of_offset_commit node.limits w) in
     let tells : Outcome = if_read w (within limit metadata_entries (asked_metadata version body)) (of_metadata node version w) in
     let lists : Outcome = if_read w (within limit list_offsets_entries (asked_listing version body)) (of_list_offsets version w) in
-    let fetches : Outcome = if_read w (within limit fetch_entries (asked_fetch version body)) (of_fetch version node.limits.fetch_bytes w clock) in
+    let fetches : Outcome = if_read w (within limit fetch_entries (asked_fetch version body)) (of_fetch version (asked_code version body) node.limits.fetch_bytes w clock) in
     let produces : Outcome = if_read w (within limit produce_entries (whole produce_request body)) (of_produce version node.limits.bytes w) in
-    let from_inits : Outcome = if int_eq key INIT_PRODUCER_ID then inits else shut in
+    let from_configs : Outcome = if int_eq key DESCRIBE_CONFIGS then configs else shut in
+    let from_inits : Outcome = if int_eq key INIT_PRODUCER_ID then inits else from_configs in
     let from_trims : Outcome = if int_eq key DELETE_RECORDS then trims else from_inits in
     let from_deletes : Outcome = if int_eq key DELETE_TOPICS then deletes else from_trims in
     let from_creates : Outcome = if int_eq key CREATE_TOPICS then creates else from_deletes in
@@ -101,7 +108,7 @@ by_request P node w clock n key version body c =
     let from_lists : Outcome = if int_eq key LIST_OFFSETS then lists else from_tells in
     let from_fetches : Outcome = if int_eq key FETCH then fetches else from_lists in
     either P (int_eq key PRODUCE) produces from_fetches (read_within P w limit produce_entries (whole produce_request body) (of_produce version node.limits.bytes w) c.produce c.shut)
-    (either P (int_eq key FETCH) fetches from_lists (read_within P w limit fetch_entries (asked_fetch version body) (of_fetch version node.limits.fetch_bytes w clock) c.fetch c.shut)
+    (either P (int_eq key FETCH) fetches from_lists (read_within P w limit fetch_entries (asked_fetch version body) (of_fetch version (asked_code version body) node.limits.fetch_bytes w clock) c.fetch c.shut)
     (either P (int_eq key LIST_OFFSETS) lists from_tells (read_within P w limit list_offsets_entries (asked_listing version body) (of_list_offsets version w) c.list_offsets c.shut)
     (either P (int_eq key METADATA) tells from_commits (read_within P w limit metadata_entries (asked_metadata version body) (of_metadata node version w) c.metadata c.shut)
     (either P (int_eq key OFFSET_COMMIT) commits from_asks (read_within P w limit commit_entries (asked_commit version body) (of_offset_commit node.limits w) c.offset_commit c.shut)
@@ -110,4 +117,5 @@ by_request P node w clock n key version body c =
     (either P (int_eq key CREATE_TOPICS) creates from_deletes (read_within P w limit create_topics_entries (asked_creations version body) (of_create_topics node.limits version w) c.create_topics c.shut)
     (either P (int_eq key DELETE_TOPICS) deletes from_trims (read_within P w limit delete_topics_entries (whole delete_topics_request body) (of_delete_topics version w) c.delete_topics c.shut)
     (either P (int_eq key DELETE_RECORDS) trims from_inits (read_within P w limit delete_records_entries (whole delete_records_request body) (of_delete_records w) c.delete_records c.shut)
-    (either P (int_eq key INIT_PRODUCER_ID) inits shut (read_by P w (whole init_producer_id_request body) (of_init_producer_id w) c.init_producer_id c.shut) c.shut))))))))))
+    (either P (int_eq key INIT_PRODUCER_ID) inits from_configs (read_by P w (whole init_producer_id_request body) (of_init_producer_id w) c.init_producer_id c.shut)
+    (either P (int_eq key DESCRIBE_CONFIGS) configs shut (read_within P w limit describe_configs_entries (asked_configs version body) (of_describe_configs node.limits.reply_bytes version w) c.describe_configs c.shut) c.shut)))))))))))

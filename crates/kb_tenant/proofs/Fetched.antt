@@ -1,5 +1,5 @@
 -- What an entry of Fetch is answered, by what the call for it answered, whatever memory and the store refuse.
-use Rattle.std.proofs.Common.{◌≡◌, ◌⊎◌, ◌∙◌, ◌++◌, ◌∷◌, ◌+◌, ◌<◌, [], arith, inl, inr, ⊎_elim, ℕ, ℤ, Bool, true, false, List, Option, Some, ap, refl, subst, sym, w32, length, take, get_or}
+use Rattle.std.proofs.Common.{◌≡◌, ◌⊎◌, ◌∙◌, ◌++◌, ◌∷◌, ◌+◌, ◌<◌, [], arith, inl, inr, ⊎_elim, ℕ, ℤ, Bool, true, false, List, Option, Some, ap, refl, subst, sym, w32, length, take, get_or, append_assoc}
 use Rattle.std.specs.Prelude.{pos, option_map, Err}
 use Rattle.std.specs.List.{flat_map}
 use Rattle.kb_wire.specs.Codec.{count, int32, string}
@@ -21,7 +21,7 @@ use Rattle.kb_tenant_state.specs.Told.{IsDone, IsRefused, IsWant}
 use Rattle.kb_tenant_state.specs.World.{World}
 use Rattle.kb_tenant_state.specs.declared.topic_partition.TopicPartition.{TopicPartition}
 use Rattle.kb_tenant.specs.Counted.{limits_of, answered_at, begun, fetched_at, has_enough, refused, AreFetchesTold, IsFetchTold, IsFetchTopicTold, IsReadOr, IsUnread}
-use Rattle.kb_tenant.specs.Fetch.{bounds_of, deadline_of, fetched_in, front_of, has_starts}
+use Rattle.kb_tenant.specs.Fetch.{bounds_of, deadline_of, fetched_as, front_of, has_starts, session_front}
 use Rattle.kb_tenant.specs.Fetch.{partition_written, places_of, reply_written, topic_written}
 use Rattle.kb_tenant.specs.Replies.{begun as reply_begun, IsAnswer, Replies}
 use Rattle.kb_tenant.specs.Told.{HasFailed, IsFetchMade, IsFetchReady, IsFetchReplied}
@@ -200,26 +200,28 @@ fetched_ready failed starts w clock q left deadline ready is old mid new enough 
 )
 
 -- the answer to a look that wrote its reply behind what was begun
-pub look_replied : (failed Unready : Type 0) (id version : ℤ) (starts : Bool) (w : World) (clock deadline : ℕ) (asked q : FetchRequest) (old new : List ℕ)
-    (done : Bool) (answer : Answer) → starts ≡ has_starts version → old ≡ reply_begun id → done ≡ true → asked ≡ q
+pub look_replied : (failed Unready : Type 0) (id version code : ℤ) (starts : Bool) (w : World) (clock deadline : ℕ) (asked q : FetchRequest) (old new : List ℕ)
+    (done : Bool) (answer : Answer) → starts ≡ has_starts version → old ≡ reply_begun id ++ session_front version code → done ≡ true → asked ≡ q
     → (reply : FetchReplyV5)
     × (IsFetchReady failed w clock deadline asked done reply × (done ≡ true → new ≡ old ++ reply_written starts reply))
     → ((id : ℤ) (body : List ℕ) → new ≡ reply_begun id ++ body → IsAnswer id (Replies body) answer)
-    → IsRepliedOrWaits id (TellsFetch failed version w clock deadline q) Unready answer
-look_replied failed Unready id version starts w clock deadline asked q old new done answer same from over one told made =
-    by answer (made id body (told.1.1 over ∙ ap (λ s. s ++ reply_written starts reply) from ∙ ap (λ b. reply_begun id ++ reply_written b reply) same))
+    → IsRepliedOrWaits id (TellsFetch failed version code w clock deadline q) Unready answer
+look_replied failed Unready id version code starts w clock deadline asked q old new done answer same from over one told made =
+    by answer (made id body (told.1.1 over ∙ ap (λ s. s ++ reply_written starts reply) from
+    ∙ append_assoc (reply_begun id) (session_front version code) (reply_written starts reply)
+    ∙ ap (λ b. reply_begun id ++ (session_front version code ++ reply_written b reply)) same))
   where
     reply : FetchReplyV5
     reply = told.0
 
     body : List ℕ
-    body = fetched_in version reply
+    body = fetched_as version code reply
 
     ready : IsFetchReady failed w clock deadline q true reply
     ready = subst (λ r. IsFetchReady failed w clock deadline r true reply) one
         (subst (λ b. IsFetchReady failed w clock deadline asked b reply) over told.1.0)
 
-    by : (x : Answer) → IsAnswer id (Replies body) x → IsRepliedOrWaits id (TellsFetch failed version w clock deadline q) Unready x
+    by : (x : Answer) → IsAnswer id (Replies body) x → IsRepliedOrWaits id (TellsFetch failed version code w clock deadline q) Unready x
     by (answers.Reply bytes) h = (body, (h.1, (reply, (refl, ready))))
     by (answers.Wait until kept keys) h = absurd h
     by answers.NoReply h = absurd h
@@ -255,19 +257,19 @@ made_wait failed w v clock q d places done Also not until there stays told = (
 )
 
 -- its reply behind what was begun
-pub fetch_replied : (failed : Type 0) (id version : ℤ) (limit : Option ℕ) (starts : Bool) (w : World) (clock : ℕ) (asked q : FetchRequest) (old new : List ℕ)
-    (answer : Answer) → starts ≡ has_starts version → old ≡ reply_begun id → asked ≡ q
+pub fetch_replied : (failed : Type 0) (id version code : ℤ) (limit : Option ℕ) (starts : Bool) (w : World) (clock : ℕ) (asked q : FetchRequest) (old new : List ℕ)
+    (answer : Answer) → starts ≡ has_starts version → old ≡ reply_begun id ++ session_front version code → asked ≡ q
     → IsFetchMade failed starts w clock asked old fetching.Reply new
     → ((id : ℤ) (body : List ℕ) → new ≡ reply_begun id ++ body → IsAnswer id (Replies body) answer)
-    → IsFetchReplied failed id version limit w clock q answer
-fetch_replied failed id version limit starts w clock asked q old new answer same from one told made =
-    by answer (look_replied failed ⊥ id version starts w clock (deadline_of clock q) q q old new true answer same from refl refl
+    → IsFetchReplied failed id version code limit w clock q answer
+fetch_replied failed id version code limit starts w clock asked q old new answer same from one told made =
+    by answer (look_replied failed ⊥ id version code starts w clock (deadline_of clock q) q q old new true answer same from refl refl
     (ready.0, (ready.1.0, λ over. ready.1.1)) made)
   where
     ready : IsFetchMade failed starts w clock q old fetching.Reply new
     ready = subst (λ r. IsFetchMade failed starts w clock r old fetching.Reply new) one told
 
-    by : (x : Answer) → IsRepliedOrWaits id (TellsFetch failed version w clock (deadline_of clock q) q) ⊥ x → IsFetchReplied failed id version limit w clock q x
+    by : (x : Answer) → IsRepliedOrWaits id (TellsFetch failed version code w clock (deadline_of clock q) q) ⊥ x → IsFetchReplied failed id version code limit w clock q x
     by (answers.Reply bytes) h = h
     by (answers.Wait until kept keys) h = absurd h
     by answers.NoReply h = absurd h

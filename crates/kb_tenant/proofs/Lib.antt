@@ -8,6 +8,7 @@ pub mod ByRequest
 pub mod Checking
 pub mod CommitMoves
 pub mod Committing
+pub mod Configs
 pub mod Coordinator
 pub mod Counting
 pub mod CountsKept

@@ -310,6 +310,7 @@ served_stays node w clock n key version body =
       delete_topics = λ r read. delete_stays limits w r;
       delete_records = λ r read. records_stay limits w r;
       init_producer_id = λ r read. init_stays limits w r;
+      describe_configs = λ r read. stays_same limits w;
       shut = stays_same limits w;
     })
 

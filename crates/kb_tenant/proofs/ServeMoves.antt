@@ -83,6 +83,7 @@ serve_leaves node w clock n key version body = by_request (Leaves w) node w cloc
   delete_topics = λ r read. delete_moves w r;
   delete_records = λ r read. records_moves w r;
   init_producer_id = λ r read. init_moves w r;
+  describe_configs = λ r read. stays_same w [];
   shut = stays_same w [];
 })
 

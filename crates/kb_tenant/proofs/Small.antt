@@ -403,5 +403,6 @@ served_small node w clock n key version body small = out_of (served_by_key node 
   delete_topics = λ r read. delete_keeps w r;
   delete_records = λ r read. records_keeps w r;
   init_producer_id = λ r read. init_keeps w r;
+  describe_configs = λ r read all. all;
   shut = λ all. all;
 }) (into w small))

@@ -5,7 +5,7 @@ use Rattle.std.specs.List.{AllByRecursion}
 use Rattle.std.proofs.lemmas.Bool.Decides.{nat_tests}
 use Rattle.std.proofs.lemmas.List.{length-map}
 use Rattle.std.proofs.lemmas.List.Elements.{All-from_recursion, recursion_from_All}
-use Rattle.kb_wire.specs.Codec.{count, int, items, nullable, nullable_counted, octets, sized}
+use Rattle.kb_wire.specs.Codec.{count, int, int16, items, nullable, nullable_counted, octets, sized}
 use Rattle.kb_wire.specs.Fits.{null_array_fits, nullable_blob_fits}
 use Rattle.kb_batch.specs.Batch.{natural}
 use Rattle.kb_log.specs.Log.{fetched as fetched_of, fitting, from_holding, holds}
@@ -28,9 +28,9 @@ use Rattle.kb_topics.specs.Known.{named}
 use Rattle.kb_tenant_state.specs.Calls.{fetched_from}
 use Rattle.kb_tenant_state.specs.World.{World, log_in, place_in}
 use Rattle.kb_tenant_state.specs.declared.topic_partition.TopicPartition.{TopicPartition}
-use Rattle.kb_tenant.specs.Batches.{HasSmallLogs, IsSmall, Spells}
-use Rattle.kb_tenant.specs.Fetch.{Limits, fetch_answered, answered_at, answered_by, answered_topic, begun, bounded, fetched, front_of, limit_of, read_as, refusal_of}
-use Rattle.kb_tenant.specs.Fetch.{reply_written, topic_without_starts, without_start, without_starts}
+use Rattle.kb_tenant.specs.Batches.{HasSmallLogs, IsSmall, Spells, SpellsBehind}
+use Rattle.kb_tenant.specs.Fetch.{Limits, fetch_answered, answered_at, answered_by, answered_topic, begun, bounded, fetched, fetched_as, front_of, limit_of, refusal_of}
+use Rattle.kb_tenant.specs.Fetch.{asked_fetch, has_session, has_starts, reply_written, topic_without_starts, without_start, without_starts}
 use Rattle.kb_tenant.specs.Turns.{in_turn}
 use Rattle.kb_tenant.proofs.Mapped.{all-map}
 use Rattle.kb_tenant.proofs.Small.{small_in}
@@ -208,5 +208,16 @@ spelled_as true r is = fetch_reply_v5_lawful.again r is.in_range is.fits
 spelled_as false r is = fetch_reply_lawful.again (without_starts r) is.plain_in_range is.plain_fits
 
 -- What is written of a fetch's reply, within a limit, spells that reply.
-pub reply_spelled : (w : World) (starts : Bool) (limit : Option ℕ) (body : List ℕ) (r : FetchRequest) → HasSmallLogs w → read_as starts body ≡ Ok r → Spells starts (reply_written starts (fetched w (bounded limit r)).1) (fetched w (bounded limit r)).1
-reply_spelled w starts limit body r small read = spelled_as starts (fetched w (bounded limit r)).1 (reply_told w (bounded limit r) small (bounded_so limit starts body r read))
+pub reply_spelled : (w : World) (version code : ℤ) (limit : Option ℕ) (body : List ℕ) (r : FetchRequest) → HasSmallLogs w → asked_fetch version body ≡ Ok r
+    → SpellsBehind (has_session version) (has_starts version) (fetched_as version code (fetched w (bounded limit r)).1) (fetched w (bounded limit r)).1
+reply_spelled w version code limit body r small read = by (has_session version)
+  where
+    reply : FetchReplyV5
+    reply = (fetched w (bounded limit r)).1
+
+    spelled : Spells (has_starts version) (reply_written (has_starts version) reply) reply
+    spelled = spelled_as (has_starts version) reply (reply_told w (bounded limit r) small (bounded_so limit version body r read))
+
+    by : (session : Bool) → SpellsBehind session (has_starts version) ((if session then int16.written code else []) ++ reply_written (has_starts version) reply) reply
+    by true = (code, (reply_written (has_starts version) reply, (refl, spelled)))
+    by false = spelled

@@ -2,6 +2,7 @@
 use Rattle.std.specs.Prelude.{◌≡◌, ◌≤◌, ◌+◌, ◌^◌, ◌⊎◌, ℕ, ℤ, List}
 use Rattle.kb_wire.specs.declared.api_key.TheConstants.{PRODUCE, FETCH, LIST_OFFSETS, METADATA, OFFSET_COMMIT, OFFSET_FETCH}
 use Rattle.kb_wire.specs.declared.api_key.TheConstants.{FIND_COORDINATOR, CREATE_TOPICS, DELETE_TOPICS, DELETE_RECORDS, INIT_PRODUCER_ID}
+use Rattle.kb_api_data.specs.declared.config_key.TheConstants.{DESCRIBE_CONFIGS}
 use Rattle.kb_tenant_state.specs.World.{World}
 use Rattle.kb_tenant_state.specs.declared.topic_partition.TopicPartition.{TopicPartition}
 use Rattle.kb_tenant.specs.Replies.{Reaction, IsAnswer}
@@ -18,7 +19,7 @@ AreInstancesGivenOut w = 2 ^ 63 ≤ w.known.creates + 1
 
 -- the APIs that only look at what the catalog knows, and answer it
 abbrev pub LooksUp : ℤ → Type 0
-LooksUp key = (key ≡ METADATA) ⊎ ((key ≡ OFFSET_FETCH) ⊎ (key ≡ FIND_COORDINATOR))
+LooksUp key = (key ≡ METADATA) ⊎ ((key ≡ OFFSET_FETCH) ⊎ ((key ≡ FIND_COORDINATOR) ⊎ (key ≡ DESCRIBE_CONFIGS)))
 
 -- the APIs that change nothing
 abbrev pub OnlyReads : ℤ → Type 0

@@ -3,6 +3,7 @@
 use Rattle.std.specs.Prelude.{ℕ, ℤ, pos, ◌≡◌, ◌≤ℤ◌, ◌<ℤ◌, ◌≤◌, ◌<◌, ◌^◌, ◌++◌, Bool, true, false, List, [], ◌∷◌, length, Option, Some, All}
 use Rattle.std.specs.Prelude.{⊤}
 use Rattle.std.specs.List.{concat}
+use Rattle.kb_wire.specs.Codec.{int16}
 use Rattle.kb_log.specs.Log.{base_of, next_of}
 use Rattle.kb_api_data.specs.Layouts.{fetch_reply, fetch_reply_v5}
 use Rattle.kb_api_data.specs.declared.fetch.FetchPartition.{FetchPartition}
@@ -15,7 +16,7 @@ use Rattle.kb_topics.specs.Known.{named}
 use Rattle.kb_tenant_state.specs.Logs.{LogState}
 use Rattle.kb_tenant_state.specs.World.{World, log_in, place_in}
 use Rattle.kb_tenant_state.specs.declared.topic_partition.TopicPartition.{TopicPartition}
-use Rattle.kb_tenant.specs.Fetch.{has_starts, without_starts}
+use Rattle.kb_tenant.specs.Fetch.{has_session, has_starts, without_starts}
 
 -- these batches stand in a list, one after the other
 pub record AreIn (all batches : List (List ℕ)) : Type 0 where
@@ -60,11 +61,17 @@ abbrev pub Spells : Bool → List ℕ → FetchReplyV5 → Type 0
 Spells true bytes reply = fetch_reply_v5.Spells bytes reply
 Spells false bytes reply = fetch_reply.Spells bytes (without_starts reply)
 
+-- The same behind the INT16 of an error code, where a version has it.
+abbrev pub SpellsBehind : (is_behind starts : Bool) → List ℕ → FetchReplyV5 → Type 0
+SpellsBehind true starts bytes reply =
+    (code : ℤ) × ((rest : List ℕ) × ((bytes ≡ int16.written code ++ rest) × Spells starts rest reply))
+SpellsBehind false starts bytes reply = Spells starts bytes reply
+
 -- These bytes spell, in a version of the API, a reply in which each partition without an error gives whole batches of its log. No
 -- bytes spell two replies of one version.
 pub record HoldsBatches (version : ℤ) (w : World) (r : FetchRequest) (bytes : List ℕ) : Type 0 where
   pub reply : FetchReplyV5
-  pub spelled : Spells (has_starts version) bytes reply
+  pub spelled : SpellsBehind (has_session version) (has_starts version) bytes reply
   pub answered : EachAnswered (IsTopicAnswered w) r.topics reply.topics
 
 -- ---- the logs that a reply can tell

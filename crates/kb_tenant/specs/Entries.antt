@@ -7,6 +7,8 @@ use Rattle.kb_api_data.specs.declared.create_topics_v1.CreateTopicsRequestV1.{Cr
 use Rattle.kb_api_data.specs.declared.delete_records.DeleteRecordsRequest.{DeleteRecordsRequest}
 use Rattle.kb_api_data.specs.declared.delete_records.DeleteRecordsTopic.{DeleteRecordsTopic}
 use Rattle.kb_api_data.specs.declared.delete_topics.DeleteTopicsRequest.{DeleteTopicsRequest}
+use Rattle.kb_api_data.specs.declared.describe_configs.ConfigResource.{ConfigResource}
+use Rattle.kb_api_data.specs.declared.describe_configs.DescribeConfigsRequest.{DescribeConfigsRequest}
 use Rattle.kb_api_data.specs.declared.fetch.FetchRequest.{FetchRequest}
 use Rattle.kb_api_data.specs.declared.fetch.FetchTopic.{FetchTopic}
 use Rattle.kb_api_data.specs.declared.list_offsets.ListOffsetsRequest.{ListOffsetsRequest}
@@ -56,6 +58,10 @@ names_in (Some names) = length names
 
 abbrev pub metadata_entries : MetadataRequest → ℕ
 metadata_entries r = names_in r.topics
+
+-- resources, and the names of settings that are asked of each; no names, which mean all, name none
+abbrev pub describe_configs_entries : DescribeConfigsRequest → ℕ
+describe_configs_entries r = with_entries (λ (r : ConfigResource). names_in r.configuration_keys) r.resources
 
 -- topics alone
 abbrev pub create_topics_entries : CreateTopicsRequestV1 → ℕ

@@ -1,13 +1,18 @@
 -- What a fetch is answered, and whether it waits (Kafka protocol guide, "The Messages: Fetch"). From version 5 on a request tells
--- where a follower's logs start, which nobody asks for here, and a reply where the partition's log does. All else is one.
+-- where a follower's logs start, which nobody asks for here, and a reply where the partition's log does. From version 7 on a request
+-- names a fetch session, of which there is none here, and from version 9 on the epoch of a leader, which is ignored. All else is one.
 use Rattle.std.specs.Prelude.{ℕ, zero, suc, ℤ, pos, negsuc, Bool, true, false, List, [], Option, Some, None, Result, Ok, Err}
 use Rattle.std.specs.Prelude.{length, map, min, nat_le, int_le, not, option_map, ◌+◌, ◌-◌, ◌≡◌, ◌++◌, ◌==◌, ◌&&◌, ◌||◌, if◌then◌else◌}
 use Rattle.std.specs.Int.{int_min}
 use Rattle.std.specs.List.{filter_map, flat_map, list_any, sum_by}
-use Rattle.kb_wire.specs.Codec.{whole}
+use Rattle.std.specs.Ordering.{int_eq}
+use Rattle.kb_wire.specs.Codec.{array, int16, string, whole, ◌>>=◌}
+use Rattle.kb_wire.specs.declared.fault.ReadFault.{ReadFault}
 use Rattle.kb_wire.specs.declared.fault.WireFault.{WireFault}
 use Rattle.kb_batch.specs.Batch.{natural}
-use Rattle.kb_api_data.specs.Layouts.{fetch_request, fetch_request_v5}
+use Rattle.kb_api_data.specs.Both.{both}
+use Rattle.kb_api_data.specs.FetchSession.{fetch_partition_v9, fetch_request_v7}
+use Rattle.kb_api_data.specs.Layouts.{fetch_request, fetch_request_v5, fetch_topic_v5}
 use Rattle.kb_api_data.specs.Layouts.{fetch_partition_reply, fetch_partition_reply_v5, fetch_topic_reply, fetch_topic_reply_v5, fetch_reply}
 use Rattle.kb_api_data.specs.Layouts.{fetch_reply_v5}
 use Rattle.kb_api_data.specs.declared.fetch.FetchPartition.{FetchPartition}
@@ -19,6 +24,9 @@ use Rattle.kb_api_data.specs.declared.fetch.FetchReply.{FetchReply}
 use Rattle.kb_api_data.specs.declared.fetch_v5.FetchPartitionV5.{FetchPartitionV5}
 use Rattle.kb_api_data.specs.declared.fetch_v5.FetchTopicV5.{FetchTopicV5}
 use Rattle.kb_api_data.specs.declared.fetch_v5.FetchRequestV5.{FetchRequestV5}
+use Rattle.kb_api_data.specs.declared.both.Both.{Both}
+use Rattle.kb_api_data.specs.declared.fetch_v7.FetchPartitionV9.{FetchPartitionV9}
+use Rattle.kb_api_data.specs.declared.fetch_v7.FetchRequestV7.{FetchRequestV7}
 use Rattle.kb_api_data.specs.declared.fetch_v5.FetchPartitionReplyV5.{FetchPartitionReplyV5}
 use Rattle.kb_api_data.specs.declared.fetch_v5.FetchTopicReplyV5.{FetchTopicReplyV5}
 use Rattle.kb_api_data.specs.declared.fetch_v5.FetchReplyV5.{FetchReplyV5}
@@ -32,6 +40,7 @@ use Rattle.kb_tenant_state.specs.Logs.{LogState}
 use Rattle.kb_tenant_state.specs.Calls.{fetch}
 use Rattle.kb_tenant.specs.Turns.{in_turn}
 use Rattle.kb_tenant_state.specs.World.{World, log_in, place_in}
+use Rattle.kb_tenant.specs.declared.fetch.version.Asked.{Asked}
 use Rattle.kb_tenant.specs.declared.fetch.waiting.Fetching.{Fetching}
 use Rattle.kb_tenant.specs.declared.fetch.waiting.Fetching.TheVariants as fetching
 use Rattle.kb_tenant_state.specs.declared.topic_partition.TopicPartition.{TopicPartition}
@@ -58,17 +67,73 @@ plain r = record {
   topics = map plain_topic r.topics;
 }
 
-abbrev pub plain_read : Result FetchRequestV5 WireFault → Result FetchRequest WireFault
-plain_read (Ok r) = Ok (plain r)
-plain_read (Err fault) = Err fault
+-- the same of version 9, without the epochs of leaders
+abbrev pub plain_partition_v9 : FetchPartitionV9 → FetchPartition
+plain_partition_v9 p = record { partition = p.partition; fetch_offset = p.fetch_offset; partition_max_bytes = p.partition_max_bytes }
 
--- what a body asks, in a version with starts or in one without
-abbrev pub read_as : Bool → List ℕ → Result FetchRequest WireFault
-read_as true body = plain_read (whole fetch_request_v5 body)
-read_as false body = whole fetch_request body
+abbrev pub plain_topic_v9 : Both (List ℕ) (List FetchPartitionV9) → FetchTopic
+plain_topic_v9 t = record { topic = t.first; partitions = map plain_partition_v9 t.second }
 
+-- ---- sessions, from version 7 on
+
+abbrev pub has_session : ℤ → Bool
+has_session version = int_le (pos 7) version
+
+abbrev pub has_epochs : ℤ → Bool
+has_epochs version = int_le (pos 9) version
+
+-- Whether a fetch is full: it begins a session, by epoch 0, or wants none, by epoch -1. A session that it names is to end then.
+abbrev pub is_full : ℤ → Bool
+is_full epoch = int_eq epoch (pos 0) || int_eq epoch (negsuc 0)
+
+-- it asks these topics, with that error code of its session
+abbrev pub asks : {T : Type 0} → FetchRequestV7 T → ℤ → List FetchTopic → Asked
+asks r code topics = record {
+  code = code;
+  request = record {
+    replica_id = r.replica_id;
+    max_wait_ms = r.max_wait_ms;
+    min_bytes = r.min_bytes;
+    max_bytes = r.max_bytes;
+    isolation_level = r.isolation_level;
+    topics = topics;
+  };
+}
+
+-- What a request of version 7 asks. Where it is not full it goes on with a session, which is not found (FETCH_SESSION_ID_NOT_FOUND), and
+-- it asks nothing. What a session is to forget has no effect.
+abbrev pub in_session : {T : Type 0} → (T → FetchTopic) → FetchRequestV7 T → Asked
+in_session topic r = if is_full r.session_epoch then asks r (pos 0) (map topic r.topics) else asks r (pos 70) []
+
+-- ---- what a body asks in a version
+
+abbrev pub at_once : FetchRequest → Asked
+at_once r = record { code = pos 0; request = r }
+
+abbrev pub asked_as : ℤ → List ℕ → Result Asked WireFault
+asked_as version body =
+    if has_epochs version then whole (fetch_request_v7 (both string (array fetch_partition_v9))) body
+    >>= (λ q. Ok (in_session plain_topic_v9 q))
+    else if has_session version then whole (fetch_request_v7 fetch_topic_v5) body >>= (λ q. Ok (in_session plain_topic q))
+    else if has_starts version then whole fetch_request_v5 body >>= (λ q. Ok (at_once (plain q)))
+    else whole fetch_request body >>= (λ q. Ok (at_once q))
+
+-- the fetch
 abbrev pub asked_fetch : ℤ → List ℕ → Result FetchRequest WireFault
-asked_fetch version body = read_as (has_starts version) body
+asked_fetch version body = asked_as version body >>= (λ a. Ok a.request)
+
+-- the fetch of what was read
+abbrev pub request_read : Result Asked ReadFault → Result FetchRequest ReadFault
+request_read (Ok a) = Ok a.request
+request_read (Err fault) = Err fault
+
+-- the error code of its session
+abbrev pub code_read : Result Asked WireFault → ℤ
+code_read (Ok a) = a.code
+code_read (Err fault) = pos 0
+
+abbrev pub asked_code : ℤ → List ℕ → ℤ
+asked_code version body = code_read (asked_as version body)
 
 -- ---- the limits
 
@@ -234,9 +299,18 @@ abbrev pub reply_written : Bool → FetchReplyV5 → List ℕ
 reply_written true r = fetch_reply_v5.written r
 reply_written false r = fetch_reply.written (without_starts r)
 
--- the reply in a version of the API
+-- From version 7 on the error code of a session stands in front. Behind it is the id of a session, which is 0 as the throttle time of
+-- version 5 is, and the topics. The throttle time of these versions stands in front of all that, and is the connection's.
+abbrev pub session_front : ℤ → ℤ → List ℕ
+session_front version code = if has_session version then int16.written code else []
+
+-- the reply in a version of the API, with the error code of its session
+abbrev pub fetched_as : ℤ → ℤ → FetchReplyV5 → List ℕ
+fetched_as version code r = session_front version code ++ reply_written (has_starts version) r
+
+-- the same of a fetch that names no session
 abbrev pub fetched_in : ℤ → FetchReplyV5 → List ℕ
-fetched_in version r = reply_written (has_starts version) r
+fetched_in version r = fetched_as version (pos 0) r
 
 -- The reply was written, or the fetch waits until then and for these partitions, and nothing was written.
 abbrev pub IsServed : Bool → World → ℕ → FetchRequest → Option FetchReplyV5 → List ℕ → Fetching → List ℕ → Type 0

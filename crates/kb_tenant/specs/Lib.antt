@@ -4,6 +4,7 @@ pub mod Counted
 pub mod CreateTopics
 pub mod DeleteRecords
 pub mod DeleteTopics
+pub mod DescribeConfigs
 pub mod Entries
 pub mod Epochs
 pub mod Fetch

@@ -4,6 +4,7 @@ use Rattle.std.specs.Ordering.{int_eq}
 use Rattle.kb_wire.specs.Codec.{whole}
 use Rattle.kb_wire.specs.declared.api_key.TheConstants.{PRODUCE, FETCH, LIST_OFFSETS, METADATA, OFFSET_COMMIT, OFFSET_FETCH}
 use Rattle.kb_wire.specs.declared.api_key.TheConstants.{FIND_COORDINATOR, CREATE_TOPICS, DELETE_TOPICS, DELETE_RECORDS, INIT_PRODUCER_ID}
+use Rattle.kb_api_data.specs.declared.config_key.TheConstants.{DESCRIBE_CONFIGS}
 use Rattle.kb_wire.specs.declared.fault.WireFault.{WireFault}
 use Rattle.kb_wire.specs.declared.fault.ReadFault.{ReadFault}
 use Rattle.kb_wire.specs.declared.fault.ReadFault.TheVariants as faults
@@ -18,6 +19,7 @@ use Rattle.kb_api_data.specs.declared.metadata.MetadataRequest.{MetadataRequest}
 use Rattle.kb_api_data.specs.declared.create_topics_v1.CreateTopicsRequestV1.{CreateTopicsRequestV1}
 use Rattle.kb_api_data.specs.declared.delete_records.DeleteRecordsRequest.{DeleteRecordsRequest}
 use Rattle.kb_api_data.specs.declared.delete_topics.DeleteTopicsRequest.{DeleteTopicsRequest}
+use Rattle.kb_api_data.specs.declared.describe_configs.DescribeConfigsRequest.{DescribeConfigsRequest}
 use Rattle.kb_api_data.specs.declared.init_producer_id.InitProducerIdRequest.{InitProducerIdRequest}
 use Rattle.kb_api_group.specs.Layouts.{offset_commit_reply}
 use Rattle.kb_api_group.specs.declared.offset_commit.OffsetCommitRequest.{OffsetCommitRequest}
@@ -27,9 +29,11 @@ use Rattle.kb_tenant_state.specs.declared.topic_partition.TopicPartition.{TopicP
 use Rattle.kb_tenant.specs.CreateTopics.{asked_creations, checked_all, created_all, creations_in, made_of}
 use Rattle.kb_tenant.specs.DeleteRecords.{deleted_all as records_deleted}
 use Rattle.kb_tenant.specs.DeleteTopics.{deleted_all, deletions_in}
+use Rattle.kb_tenant.specs.DescribeConfigs.{asked_configs, configs_in, configs_of}
 use Rattle.kb_tenant.specs.Entries.{commit_entries, create_topics_entries, delete_records_entries, delete_topics_entries, fetch_entries}
+use Rattle.kb_tenant.specs.Entries.{describe_configs_entries}
 use Rattle.kb_tenant.specs.Entries.{list_offsets_entries, metadata_entries, offset_fetch_entries, produce_entries, within}
-use Rattle.kb_tenant.specs.Fetch.{asked_fetch, bounded, deadline_of, fetch_answer, places_of, fetched_in}
+use Rattle.kb_tenant.specs.Fetch.{asked_code, asked_fetch, bounded, deadline_of, fetch_answer, places_of, fetched_as, fetched_in}
 use Rattle.kb_tenant.specs.FindCoordinator.{asked_coordinator, coordinator_for, coordinator_in}
 use Rattle.kb_tenant.specs.InitProducerId.{init_producer_id}
 use Rattle.kb_tenant.specs.ListOffsets.{asked_listing, list_offsets, listing_in}
@@ -53,7 +57,7 @@ pub record Outcome : Type 0 where
 abbrev pub stays : World → Reaction → Outcome
 stays w r = record { world = w; touched = []; reaction = r }
 
--- ---- by API; a reply of Metadata or OffsetFetch that is past its tenant's limit is not sent
+-- ---- by API; a reply of Metadata, OffsetFetch or DescribeConfigs that is past its tenant's limit is not sent
 
 -- acks 0 has no reply
 abbrev pub of_produce : ℤ → Option ℕ → World → ProduceRequest → Outcome
@@ -61,15 +65,15 @@ of_produce version limit w r =
     let p = produced limit w [] r in
     record { world = p.0.world; touched = p.0.touched; reaction = if is_due r.acks then Replies (produced_in version p.1) else Silent }
 
-abbrev pub fetch_reaction : ℤ → Option ℕ → World → ℕ → FetchRequest → Option FetchReplyV5 → Reaction
-fetch_reaction version limit w clock r (Some reply) = Replies (fetched_in version reply)
-fetch_reaction version limit w clock r None = Waits (deadline_of clock r) limit (places_of w r)
+abbrev pub fetch_reaction : (version code : ℤ) → Option ℕ → World → ℕ → FetchRequest → Option FetchReplyV5 → Reaction
+fetch_reaction version code limit w clock r (Some reply) = Replies (fetched_as version code reply)
+fetch_reaction version code limit w clock r None = Waits (deadline_of clock r) limit (places_of w r)
 
 -- A fetch has at most so many bytes of records as its tenant's limit allows, also where it waits and is answered later.
-abbrev pub of_fetch : ℤ → Option ℕ → World → ℕ → FetchRequest → Outcome
-of_fetch version limit w clock asked =
+abbrev pub of_fetch : (version code : ℤ) → Option ℕ → World → ℕ → FetchRequest → Outcome
+of_fetch version code limit w clock asked =
     let r = bounded limit asked in
-    stays w (fetch_reaction version limit w clock r (fetch_answer w clock r (deadline_of clock r)))
+    stays w (fetch_reaction version code limit w clock r (fetch_answer w clock r (deadline_of clock r)))
 
 abbrev pub of_list_offsets : ℤ → World → ListOffsetsRequest → Outcome
 of_list_offsets version w r = stays w (Replies (listing_in version (list_offsets w r)))
@@ -105,6 +109,9 @@ abbrev pub of_init_producer_id : World → InitProducerIdRequest → Outcome
 of_init_producer_id w r =
     let i = init_producer_id w r in record { world = i.0; touched = []; reaction = Replies (init_producer_id_reply.written i.1) }
 
+abbrev pub of_describe_configs : Option ℕ → ℤ → World → DescribeConfigsRequest → Outcome
+of_describe_configs limit version w r = stays w (replies_within limit (configs_in version (configs_of w.known.topics r)))
+
 -- ---- a request, by its key and its body
 
 -- A body that is not the API's shuts the connection.
@@ -119,7 +126,7 @@ plainly_served node w clock n key version body =
     let limit = node.limits.request_entries in
     if int_eq key PRODUCE then if_read w (within limit produce_entries (whole produce_request body)) (of_produce version node.limits.bytes w)
     else if int_eq key FETCH then if_read w (within limit fetch_entries (asked_fetch version body))
-    (of_fetch version node.limits.fetch_bytes w clock)
+    (of_fetch version (asked_code version body) node.limits.fetch_bytes w clock)
     else if int_eq key LIST_OFFSETS then if_read w (within limit list_offsets_entries (asked_listing version body))
     (of_list_offsets version w)
     else if int_eq key METADATA then if_read w (within limit metadata_entries (asked_metadata version body)) (of_metadata node version w)
@@ -135,6 +142,8 @@ plainly_served node w clock n key version body =
     else if int_eq key DELETE_RECORDS then if_read w (within limit delete_records_entries (whole delete_records_request body))
     (of_delete_records w)
     else if int_eq key INIT_PRODUCER_ID then if_read w (whole init_producer_id_request body) (of_init_producer_id w)
+    else if int_eq key DESCRIBE_CONFIGS then if_read w (within limit describe_configs_entries (asked_configs version body))
+    (of_describe_configs node.limits.reply_bytes version w)
     else stays w Shuts
 
 -- a waiting fetch, of that deadline, version, limit and body, at a time of the clock: its reply, where it waits no longer

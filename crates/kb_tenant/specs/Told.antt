@@ -60,8 +60,8 @@ use Rattle.kb_tenant_state.specs.declared.topic_partition.TopicPartition.{TopicP
 use Rattle.kb_tenant.specs.CreateTopics.{asked_creations, created_topic, creations_in}
 use Rattle.kb_tenant.specs.DeleteRecords.{deletion_answered, deleted}
 use Rattle.kb_tenant.specs.DeleteTopics.{deleted_topic, deletions_in}
-use Rattle.kb_tenant.specs.Fetch.{Limits, asked_fetch, begun, bounded, deadline_of, fetch_answered, fetched_in, is_ready, places_of, refused}
-use Rattle.kb_tenant.specs.Fetch.{reply_written}
+use Rattle.kb_tenant.specs.Fetch.{Limits, asked_code, asked_fetch, begun, bounded, deadline_of, fetch_answered, fetched_as, is_ready, places_of}
+use Rattle.kb_tenant.specs.Fetch.{refused, reply_written}
 use Rattle.kb_tenant.specs.InitProducerId.{id_refused, init_producer_id}
 use Rattle.kb_tenant.specs.ListOffsets.{asked_listing, listed, listing_in, offset_refused}
 use Rattle.kb_tenant.specs.OffsetCommit.{asked_commit, committed_entry, refusal_of as commit_refusal}
@@ -341,10 +341,10 @@ abbrev pub IsFetchReady : Type 0 → World → ℕ → ℕ → FetchRequest → 
 IsFetchReady failed w clock deadline q ready x =
     (left : Limits) × (AreFetchesTold failed w q left x × (is_ready clock q x deadline ≡ ready))
 
--- It is the reply of a Fetch that is ready, in a version of the API.
-abbrev pub TellsFetch : Type 0 → ℤ → World → ℕ → ℕ → FetchRequest → List ℕ → Type 0
-TellsFetch failed version w clock deadline q body =
-    (reply : FetchReplyV5) × ((body ≡ fetched_in version reply) × IsFetchReady failed w clock deadline q true reply)
+-- It is the reply of a Fetch that is ready, in a version of the API, with the error code of its session.
+abbrev pub TellsFetch : Type 0 → (version code : ℤ) → World → ℕ → ℕ → FetchRequest → List ℕ → Type 0
+TellsFetch failed version code w clock deadline q body =
+    (reply : FetchReplyV5) × ((body ≡ fetched_as version code reply) × IsFetchReady failed w clock deadline q true reply)
 
 -- A Fetch is not ready, by what it would be answered.
 abbrev pub IsUnready : Type 0 → World → ℕ → ℕ → FetchRequest → Type 0
@@ -360,7 +360,7 @@ IsRepliedOrWaits id Told Unready answers.Shut = ⊤
 -- The same of a look at a body that waits until a deadline at most, with that limit, where it is a request of Fetch in that version.
 abbrev pub AnswersLook : Type 0 → ℤ → ℤ → Option ℕ → World → ℕ → ℕ → List ℕ → Answer → Type 0
 AnswersLook failed id version limit w clock deadline body a = (q : FetchRequest) → asked_fetch version body ≡ Ok q
-    → let r = bounded limit q in IsRepliedOrWaits id (TellsFetch failed version w clock deadline r) (IsUnready failed w clock deadline r) a
+    → let r = bounded limit q in IsRepliedOrWaits id (TellsFetch failed version (pos 0) w clock deadline r) (IsUnready failed w clock deadline r) a
 
 -- A Fetch that is not ready waits until its deadline, for the partitions that it asks.
 abbrev pub IsLeftWaiting : Type 0 → World → ℕ → FetchRequest → ℕ → List TopicPartition → Type 0
@@ -374,15 +374,15 @@ IsFetchMade failed starts w clock q old fetching.Reply new =
 IsFetchMade failed starts w clock q old (fetching.Wait until keys) new = IsLeftWaiting failed w clock q until keys.items
 
 -- The answer to a Fetch is such a reply or such a wait, which keeps its limit, or the connection is shut.
-abbrev pub IsFetchReplied : Type 0 → ℤ → ℤ → Option ℕ → World → ℕ → FetchRequest → Answer → Type 0
-IsFetchReplied failed id version limit w clock q (answers.Reply bytes) =
-    (body : List ℕ) × ((bytes.items ≡ framed id body) × TellsFetch failed version w clock (deadline_of clock q) q body)
-IsFetchReplied failed id version limit w clock q (answers.Wait until kept keys) =
+abbrev pub IsFetchReplied : Type 0 → (id version code : ℤ) → Option ℕ → World → ℕ → FetchRequest → Answer → Type 0
+IsFetchReplied failed id version code limit w clock q (answers.Reply bytes) =
+    (body : List ℕ) × ((bytes.items ≡ framed id body) × TellsFetch failed version code w clock (deadline_of clock q) q body)
+IsFetchReplied failed id version code limit w clock q (answers.Wait until kept keys) =
     (kept ≡ limit) × IsLeftWaiting failed w clock q until keys.items
-IsFetchReplied failed id version limit w clock q answers.NoReply = ⊥
-IsFetchReplied failed id version limit w clock q answers.Shut = ⊤
+IsFetchReplied failed id version code limit w clock q answers.NoReply = ⊥
+IsFetchReplied failed id version code limit w clock q answers.Shut = ⊤
 
 -- The same of a body with that limit, where it is a request of Fetch in that version.
 abbrev pub AnswersFetch : Type 0 → ℤ → ℤ → Option ℕ → World → ℕ → List ℕ → Answer → Type 0
 AnswersFetch failed id version limit w clock body a = (q : FetchRequest) → asked_fetch version body ≡ Ok q
-    → IsFetchReplied failed id version limit w clock (bounded limit q) a
+    → IsFetchReplied failed id version (asked_code version body) limit w clock (bounded limit q) a

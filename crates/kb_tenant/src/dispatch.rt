@@ -11,9 +11,11 @@ ghost use Rattle.kb_tenant_state.specs.Steps.{IsStep, Meets};
 ghost use Rattle.kb_tenant_state.specs.Told.{IsLogFull};
 ghost use Rattle.kb_tenant.specs.Answered.{IsTruthful, OnlyReads};
 ghost use Rattle.kb_tenant.specs.CreateTopics.{asked_creations};
+ghost use Rattle.kb_tenant.specs.DescribeConfigs.{asked_configs};
+ghost use Rattle.kb_tenant.specs.Entries.{describe_configs_entries};
 ghost use Rattle.kb_tenant.specs.Entries.{create_topics_entries, delete_records_entries, delete_topics_entries, fetch_entries};
 ghost use Rattle.kb_tenant.specs.Entries.{list_offsets_entries, metadata_entries, produce_entries, within};
-ghost use Rattle.kb_tenant.specs.Fetch.{asked_fetch};
+ghost use Rattle.kb_tenant.specs.Fetch.{asked_code, asked_fetch};
 ghost use Rattle.kb_tenant.specs.ListOffsets.{asked_listing};
 ghost use Rattle.kb_tenant.specs.Metadata.{asked_metadata};
 ghost use Rattle.kb_tenant.specs.Replies.{IsAnswer};
@@ -21,14 +23,18 @@ ghost use Rattle.kb_tenant.specs.Told.{CatalogFailed, CreationFailed, HasFailed,
 ghost use Rattle.kb_tenant.specs.Told.{AcknowledgesIssue, AcknowledgesRemovals, IsSpared};
 ghost use Rattle.kb_tenant.specs.Told.{AcknowledgesDeletions, AnswersFetch, AnswersListing, AnswersLook};
 ghost use Rattle.kb_tenant.specs.Serve.{if_read, of_produce, of_fetch, of_list_offsets, of_metadata, of_create_topics, of_delete_records};
+ghost use Rattle.kb_tenant.specs.Serve.{of_describe_configs};
 ghost use Rattle.kb_tenant.specs.Serve.{of_delete_topics, of_init_producer_id, plainly_served, looked, stays, IsOutcome, IsServed};
 
 use crate::answer::{Answer, begin, finish, finish_within, most_bytes};
 use crate::create_topics::{check_topics, create_topics, read_creations_within};
 use crate::delete_records::delete_records;
 use crate::delete_topics::delete_topics;
+use crate::describe_configs::{describe_configs, read_configs_within};
 use crate::fetch;
-use crate::fetch::{Fetching, bound, read_request, read_request_within, serve_fetch};
+use crate::fetch::{
+    Asked, Fetching, begin_reply, bound, read_request, read_request_within, serve_fetch,
+};
 use crate::group_offsets::{serve_find_coordinator, serve_offset_commit, serve_offset_fetch};
 use crate::init_producer_id::init_producer_id;
 use crate::limits::DataLimits;
@@ -39,12 +45,12 @@ use crate::produce::{produce, tells_starts};
 use crate::request::{Request, Wait};
 use crate::within::read_within;
 use kb_api_data::{
-    DeleteRecordsRequest, DeleteTopicsRequest, InitProducerIdRequest, ProduceRequest,
+    DeleteRecordsRequest, DeleteTopicsRequest, InitProducerIdRequest, ProduceRequest, config_key,
 };
 use kb_log::{PartitionLog, Shelf};
 use kb_store::Store;
 use kb_tenant_state::{Parts, TopicPartition};
-use kb_wire::{Layout, ReadFault, api_key};
+use kb_wire::{ErrorCode, Layout, ReadFault, api_key};
 use std::alloc::Global;
 
 /// What became of a request.
@@ -116,15 +122,22 @@ fn serve_a_fetch<L: PartitionLog + Drop, S: Store>(
     ensures meets { let a = scene L.log S.disk parts.old shelf.old in let b = scene L.log S.disk parts.new shelf.new in
         Meets a b (IsServed request.now.correlation_id
         (if_read a.state.world (within limits.request_entries fetch_entries (asked_fetch request.now.api_version request.now.body.now))
-        (of_fetch request.now.api_version limits.fetch_bytes a.state.world clock)) b.state.world [] result) }
+        (of_fetch request.now.api_version (asked_code request.now.api_version request.now.body.now) limits.fetch_bytes a.state.world
+        clock)) b.state.world [] result) }
     ensures fetched { let a = scene L.log S.disk parts.old shelf.old in let b = scene L.log S.disk parts.new shelf.new in
         IfOk result (λ answer. WhereHonest a b (AnswersFetch (HasFailed a b)
         request.now.correlation_id request.now.api_version limits.fetch_bytes a.state.world clock request.now.body.now answer)) }
 {
-    let has_starts = fetch::has_starts(request.api_version);
-    let mut asked = read_request_within(alloc, limits.request_entries, has_starts, request.body)?;
+    let version = request.api_version;
+    let read = read_request_within(alloc, limits.request_entries, version, request.body)?;
+    let Asked {
+        request: whole,
+        code,
+    } = read;
+    let mut asked = whole;
     bound(&mut asked, limits.fetch_bytes);
-    let mut sink = begin(alloc, request.correlation_id)?;
+    let mut sink = begin_reply(alloc, request.correlation_id, version, code)?;
+    let has_starts = fetch::has_starts(version);
     match serve_fetch(alloc, parts, shelf, clock, has_starts, &asked, &mut sink)? {
         Fetching::Reply => Ok(finish(sink)),
         Fetching::Wait { deadline, keys } => Ok(Answer::Wait {
@@ -299,6 +312,26 @@ fn serve_init_producer_id<L: PartitionLog + Drop, S: Store>(
     Ok(finish(sink))
 }
 
+/// DescribeConfigs. Its reply is no longer than the tenant's limit allows.
+fn serve_describe_configs<L: PartitionLog + Drop>(
+    alloc: Global,
+    parts: &Parts<L>,
+    limits: DataLimits,
+    request: &Request<'_>,
+) -> Result<Answer, ReadFault>
+    ensures { (files : Files) → let w = world_of L.log parts.now files in
+        IsServed request.now.correlation_id
+        (if_read w (within limits.request_entries describe_configs_entries (asked_configs request.now.api_version request.now.body.now))
+        (of_describe_configs limits.reply_bytes request.now.api_version w)) w [] result }
+{
+    let version = request.api_version;
+    let asked = read_configs_within(alloc, limits.request_entries, version, request.body)?;
+    let mut sink = begin(alloc, request.correlation_id)?;
+    let most = most_bytes(limits.reply_bytes);
+    describe_configs(alloc, parts, version, &asked, most, &mut sink)?;
+    Ok(finish_within(limits.reply_bytes, sink))
+}
+
 /// Serves a request by its key. A key that is not a tenant's shuts the connection.
 #[tactic(auto, unfolding(crate::specs::Serve::plainly_served))]
 fn serve_by_key<L: PartitionLog + Drop, S: Store>(
@@ -348,6 +381,7 @@ fn serve_by_key<L: PartitionLog + Drop, S: Store>(
             alloc, parts, shelf, limit, request, touched,
         ),
         api_key::INIT_PRODUCER_ID => serve_init_producer_id(alloc, parts, shelf, request),
+        config_key::DESCRIBE_CONFIGS => serve_describe_configs(alloc, parts, node.limits, request),
         _ => Ok(Answer::Shut),
     }
 }
@@ -355,8 +389,8 @@ fn serve_by_key<L: PartitionLog + Drop, S: Store>(
 /// Serves a request of a tenant, at a time of the clock.
 ///
 /// A body that is not the API's, one that names more entries than the tenant's limit allows, a key that is not a tenant's and a
-/// reply whose size does not fit an INT32 shut the connection. So does a reply of Metadata or OffsetFetch that is past the tenant's
-/// limit. So does want of memory for the read request, the reply or the wait, which is counted; changes that were made stay. A
+/// reply whose size does not fit an INT32 shut the connection. So does a reply of Metadata, OffsetFetch or DescribeConfigs that is past
+/// the tenant's limit. So does want of memory for the read request, the reply or the wait, which is counted; changes that were made stay. A
 /// Produce makes none before it has the memory for its whole reply. The host is to fit a STRING, and the clock is at most 2^62, in
 /// milliseconds.
 pub fn serve<L: PartitionLog + Drop, S: Store>(
@@ -424,10 +458,14 @@ fn look_at<L: PartitionLog + Drop, S: Store>(
         IfOk result (λ answer. WhereHonest a b (AnswersLook (HasFailed a b) wait.now.correlation_id wait.now.api_version
         wait.now.limit a.state.world clock wait.now.deadline wait.now.body.now answer)) }
 {
-    let has_starts = fetch::has_starts(wait.api_version);
-    let mut asked = read_request(alloc, has_starts, wait.body)?;
+    let version = wait.api_version;
+    let read = read_request(alloc, version, wait.body)?;
+    let Asked { request: whole, .. } = read;
+    let mut asked = whole;
     bound(&mut asked, wait.limit);
-    let mut sink = begin(alloc, wait.correlation_id)?;
+    // what waits is a full fetch
+    let mut sink = begin_reply(alloc, wait.correlation_id, version, ErrorCode::None.code())?;
+    let has_starts = fetch::has_starts(version);
     if fetch::look(
         alloc,
         parts,

@@ -1,4 +1,4 @@
-//! Fetch, versions 4 and 5 (Kafka protocol guide): records from offsets on, at once or once there are enough.
+//! Fetch, versions 4 to 9 (Kafka protocol guide): records from offsets on, at once or once there are enough.
 
 mod given;
 mod now;
@@ -8,5 +8,7 @@ mod waiting;
 mod waits;
 
 pub(crate) use given::not_negative;
-pub(crate) use version::{bound, has_starts, read_request, read_request_within};
+pub(crate) use version::{
+    Asked, begin_reply, bound, has_starts, read_request, read_request_within,
+};
 pub(crate) use waiting::{Fetching, look, serve_fetch};

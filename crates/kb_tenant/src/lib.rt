@@ -7,6 +7,7 @@ mod answer;
 mod create_topics;
 mod delete_records;
 mod delete_topics;
+mod describe_configs;
 mod dispatch;
 mod epochs;
 mod fetch;

@@ -17,7 +17,7 @@ pub struct DataLimits {
     pub request_entries: Option<u64>,
     /// How many bytes of records a reply of Fetch has, but for a first batch, which is given whole.
     pub fetch_bytes: Option<u64>,
-    /// How large a reply of Metadata, OffsetFetch, DescribeGroups or ListGroups may be, as its size counts it.
+    /// How large a reply of Metadata, OffsetFetch, DescribeConfigs, DescribeGroups or ListGroups may be, as its size counts it.
     pub reply_bytes: Option<u64>,
 }
 

@@ -5,9 +5,9 @@ ghost use Rattle.kb_wire.specs.Reads.{ReadsWhole};
 ghost use Rattle.kb_tenant.specs.Entries.{with_entries, within};
 
 use kb_api_data::{
-    CreateTopicsRequestV1, DeleteRecordsRequest, DeleteRecordsTopic, DeleteTopicsRequest,
-    FetchRequest, FetchTopic, ListOffsetsRequest, ListOffsetsTopic, MetadataRequest,
-    ProduceRequest, ProduceTopic,
+    ConfigResource, CreateTopicsRequestV1, DeleteRecordsRequest, DeleteRecordsTopic,
+    DeleteTopicsRequest, DescribeConfigsRequest, FetchRequest, FetchTopic, ListOffsetsRequest,
+    ListOffsetsTopic, MetadataRequest, ProduceRequest, ProduceTopic,
 };
 use kb_api_group::{
     CommitTopic, DescribeGroupsRequest, OffsetCommitRequest, OffsetFetchRequestV2, OffsetFetchTopic,
@@ -139,6 +139,19 @@ impl Entries for OffsetFetchTopic<'_> {
     }
 }
 
+impl Entries for ConfigResource<'_> {
+    ghost use Rattle.kb_tenant.specs.Entries.{names_in};
+
+    ghost own = { λ r. names_in r.configuration_keys };
+
+    fn own(&self) -> usize {
+        match &self.configuration_keys {
+            Some(names) => names.len(),
+            None => 0,
+        }
+    }
+}
+
 impl Named for ProduceRequest<'_> {
     ghost use Rattle.kb_tenant.specs.Entries.{produce_entries};
 
@@ -232,6 +245,16 @@ impl Named for MetadataRequest<'_> {
             Some(names) => limit < names.len() as u64,
             None => false,
         }
+    }
+}
+
+impl Named for DescribeConfigsRequest<'_> {
+    ghost use Rattle.kb_tenant.specs.Entries.{describe_configs_entries};
+
+    ghost entries = { describe_configs_entries };
+
+    fn is_past(&self, limit: u64) -> bool {
+        are_past(self.resources.as_slice(), limit)
     }
 }
 

@@ -2,11 +2,12 @@ use Rattle.std.proofs.Common.{rules, ◌≡◌, [], false, refl, sym, subst}
 use Rattle.std.specs.Ordering.{int_eq}
 use Rattle.kb_wire.specs.declared.api_key.TheConstants.{PRODUCE, FETCH, LIST_OFFSETS, METADATA, OFFSET_COMMIT, OFFSET_FETCH}
 use Rattle.kb_wire.specs.declared.api_key.TheConstants.{FIND_COORDINATOR, CREATE_TOPICS, DELETE_TOPICS, DELETE_RECORDS, INIT_PRODUCER_ID}
+use Rattle.kb_api_data.specs.declared.config_key.TheConstants.{DESCRIBE_CONFIGS}
 use Rattle.kb_tenant_state.specs.Parts.{scene, world_of}
 use Rattle.kb_tenant.specs.Serve.{plainly_served, IsServed}
 use Rattle.kb_tenant.proofs.Answered.{create_topics_told, delete_records_told, delete_topics_told, fetch_told, init_producer_id_told}
 use Rattle.kb_tenant.proofs.Answered.{list_offsets_told, looked_up_told, none_told, offset_commit_told, produce_told, reads_not}
-use Rattle.kb_tenant.proofs.Keys.{served_find_coordinator, served_metadata, served_offset_fetch}
+use Rattle.kb_tenant.proofs.Keys.{served_configs, served_find_coordinator, served_metadata, served_offset_fetch}
 use Rattle.kb_tenant.proofs.dispatch.serve_by_key.Goals as goal
 
 pub returns-in-3-clause-meets : goal.returns-in-3-clause-meets
@@ -20,6 +21,18 @@ returns-in-3-clause-meets g c = λ honest agree calm.
     (subst (λ o. IsServed request.correlation_id o w [] c.serve_metadata.result) (sym (served_metadata c.args.node.now w c.args.clock
     request.connection request.api_key request.api_version request.body.now key))
     (c.serve_metadata.ensures files))
+
+pub returns-in-32-clause-meets : goal.returns-in-32-clause-meets
+returns-in-32-clause-meets g c = λ honest agree calm.
+    let files = (g.S.Store.disk c.args.shelf.now.store).files in
+    let w = world_of g.L.PartitionLog.log c.args.parts.now files in
+    let request = c.args.request.now in
+    let key : request.api_key ≡ DESCRIBE_CONFIGS = search rules in
+    subst (λ ts. IsServed request.correlation_id (plainly_served c.args.node.now w c.args.clock request.connection request.api_key
+    request.api_version request.body.now) w ts c.serve_describe_configs.result) (sym c.requires.untouched)
+    (subst (λ o. IsServed request.correlation_id o w [] c.serve_describe_configs.result) (sym (served_configs c.args.node.now w c.args.clock
+    request.connection request.api_key request.api_version request.body.now key))
+    (c.serve_describe_configs.ensures files))
 
 pub returns-in-9-clause-meets : goal.returns-in-9-clause-meets
 returns-in-9-clause-meets g c = λ honest agree calm.
@@ -166,6 +179,19 @@ returns-in-10-clause-told g c =
     request.body.now key))
     (c.serve_find_coordinator.ensures a.state.world)) refl
 
+pub returns-in-32-clause-told : goal.returns-in-32-clause-told
+returns-in-32-clause-told g c =
+    let files = (g.S.Store.disk c.args.shelf.now.store).files in
+    let a = scene g.L.PartitionLog.log g.S.Store.disk c.args.parts.now c.args.shelf.now in
+    let request = c.args.request.now in
+    let key : request.api_key ≡ DESCRIBE_CONFIGS = search rules in
+    looked_up_told a a c.args.node.now c.args.clock request c.args.touched.now.items DESCRIBE_CONFIGS [] c.serve_describe_configs.result key
+    refl refl refl refl refl refl refl refl
+    (subst (λ o. IsServed request.correlation_id o a.state.world [] c.serve_describe_configs.result)
+    (sym (served_configs c.args.node.now a.state.world c.args.clock request.connection request.api_key request.api_version
+    request.body.now key))
+    (c.serve_describe_configs.ensures files)) refl
+
 pub returns-in_default-clause-told : goal.returns-in_default-clause-told
 returns-in_default-clause-told g c = λ honest agree.
     let a = scene g.L.PartitionLog.log g.S.Store.disk c.args.parts.now c.args.shelf.now in
@@ -184,29 +210,29 @@ returns-in_default-clause-told g c = λ honest agree.
 pub returns-in-0-clause-stays : goal.returns-in-0-clause-stays
 returns-in-0-clause-stays g c = λ honest agree.
     let key : c.args.request.now.api_key ≡ PRODUCE = search rules in
-    reads_not c.args.request.now.api_key PRODUCE key refl refl refl refl refl
+    reads_not c.args.request.now.api_key PRODUCE key refl refl refl refl refl refl
 
 pub returns-in-8-clause-stays : goal.returns-in-8-clause-stays
 returns-in-8-clause-stays g c = λ honest agree.
     let key : c.args.request.now.api_key ≡ OFFSET_COMMIT = search rules in
-    reads_not c.args.request.now.api_key OFFSET_COMMIT key refl refl refl refl refl
+    reads_not c.args.request.now.api_key OFFSET_COMMIT key refl refl refl refl refl refl
 
 pub returns-in-19-clause-stays : goal.returns-in-19-clause-stays
 returns-in-19-clause-stays g c = λ honest agree.
     let key : c.args.request.now.api_key ≡ CREATE_TOPICS = search rules in
-    reads_not c.args.request.now.api_key CREATE_TOPICS key refl refl refl refl refl
+    reads_not c.args.request.now.api_key CREATE_TOPICS key refl refl refl refl refl refl
 
 pub returns-in-20-clause-stays : goal.returns-in-20-clause-stays
 returns-in-20-clause-stays g c = λ honest agree.
     let key : c.args.request.now.api_key ≡ DELETE_TOPICS = search rules in
-    reads_not c.args.request.now.api_key DELETE_TOPICS key refl refl refl refl refl
+    reads_not c.args.request.now.api_key DELETE_TOPICS key refl refl refl refl refl refl
 
 pub returns-in-21-clause-stays : goal.returns-in-21-clause-stays
 returns-in-21-clause-stays g c = λ honest agree.
     let key : c.args.request.now.api_key ≡ DELETE_RECORDS = search rules in
-    reads_not c.args.request.now.api_key DELETE_RECORDS key refl refl refl refl refl
+    reads_not c.args.request.now.api_key DELETE_RECORDS key refl refl refl refl refl refl
 
 pub returns-in-22-clause-stays : goal.returns-in-22-clause-stays
 returns-in-22-clause-stays g c = λ honest agree.
     let key : c.args.request.now.api_key ≡ INIT_PRODUCER_ID = search rules in
-    reads_not c.args.request.now.api_key INIT_PRODUCER_ID key refl refl refl refl refl
+    reads_not c.args.request.now.api_key INIT_PRODUCER_ID key refl refl refl refl refl refl

@@ -169,6 +169,7 @@ impl<S: Direct> Store for DurableStore<S> {
         ensures unchanged { Keeps (disk_of S.disk self.old) (disk_of S.disk self.new) }
         ensures cause { HasCause (disk_of S.disk self.old) result (disk_of S.disk self.new) }
         ensures loss { Goes Same (S.loss self.old.store) (S.loss self.new.store) }
+        ensures inside { Keeps (S.disk self.old.store) (S.disk self.new.store) }
         ensures notes { NotesNothing self.old self.new }
     {
         let numbers = self.store.list(alloc)?;
@@ -181,6 +182,7 @@ impl<S: Direct> Store for DurableStore<S> {
         ensures unchanged { Keeps (disk_of S.disk self.old) (disk_of S.disk self.new) }
         ensures cause { HasCause (disk_of S.disk self.old) result (disk_of S.disk self.new) }
         ensures loss { Goes Same (S.loss self.old.store) (S.loss self.new.store) }
+        ensures inside { Keeps (S.disk self.old.store) (S.disk self.new.store) }
         ensures notes { NotesNothing self.old self.new }
     {
         self.store.len(file)
@@ -199,6 +201,9 @@ impl<S: Direct> Store for DurableStore<S> {
             → MakesAlone file (S.disk self.old.store) (S.loss self.old.store) (S.loss self.new.store) }
         ensures waits { self.old.syncs ≡ true → has self.old.waiting file ≡ true → IsRefused self.old result self.new }
         ensures torn { self.old.syncs ≡ true → self.old.torn ≢ [] → IsRefused self.old result self.new }
+        // The store inside does the same.
+        ensures inside { OnOk result (Creates (S.disk self.old.store) file (S.disk self.new.store)) }
+        ensures inside_err { OnErr result (MayCreate (S.disk self.old.store) file (S.disk self.new.store)) }
         ensures notes { self.new ≡ record self.old { store = self.new.store; changed = self.new.changed; refused = self.new.refused } }
     {
         if !self.syncs {
@@ -221,6 +226,8 @@ impl<S: Direct> Store for DurableStore<S> {
         ensures whole { OnOk result (self.new.torn ≡ self.old.torn) }
         ensures torn { OnErr result (self.old.syncs ≡ true → len_of (disk_of S.disk self.new) file ≢ len_of (disk_of S.disk self.old) file
             → is_torn self.new.torn file ≡ true) }
+        ensures inside { OnOk result (Appends (S.disk self.old.store) file bytes.now (S.disk self.new.store)) }
+        ensures inside_err { OnErr result (AppendsSome (S.disk self.old.store) file bytes.now (S.disk self.new.store)) }
         ensures notes { self.new ≡ record self.old { store = self.new.store; changed = self.new.changed; torn = self.new.torn } }
     {
         if !self.syncs {
@@ -244,6 +251,7 @@ impl<S: Direct> Store for DurableStore<S> {
         ensures unchanged { Keeps (disk_of S.disk self.old) (disk_of S.disk self.new) }
         ensures cause { HasCause (disk_of S.disk self.old) result (disk_of S.disk self.new) }
         ensures loss { Goes Same (S.loss self.old.store) (S.loss self.new.store) }
+        ensures inside { Keeps (S.disk self.old.store) (S.disk self.new.store) }
         ensures notes { NotesNothing self.old self.new }
     {
         self.store.read_at(file, at, buffer)
@@ -258,6 +266,8 @@ impl<S: Direct> Store for DurableStore<S> {
         ensures loss { Goes (Tears file len) (S.loss self.old.store) (S.loss self.new.store) }
         ensures mended { OnOk result (self.new.torn ≡ filter (stays_torn file len) self.old.torn) }
         ensures torn { OnErr result (self.new.torn ≡ self.old.torn) }
+        ensures inside { OnOk result (Cuts (S.disk self.old.store) file len (S.disk self.new.store)) }
+        ensures inside_err { OnErr result (Keeps (S.disk self.old.store) (S.disk self.new.store)) }
         ensures notes { self.new ≡ record self.old { store = self.new.store; changed = true; torn = self.new.torn } }
     {
         self.changed = true;
@@ -295,6 +305,9 @@ impl<S: Direct> Store for DurableStore<S> {
         ensures idle { has_changed self.old ≡ false → (result ≡ Ok tt) × (self.new ≡ self.old) }
         ensures torn { self.old.syncs ≡ true → self.old.torn ≢ [] → IsRefused self.old result self.new }
         ensures changed { OnOk result (self.old.syncs ≡ true → self.new.changed ≡ false) }
+        // All that the store inside has lasts, also where removals wait still.
+        ensures lasts { OnOk result (self.old.syncs ≡ true → (S.disk self.new.store).honest
+            → Only (S.disk self.new.store).files (S.loss self.new.store)) }
         ensures first { OnOk result (self.new.waiting ≡ drop 16 self.old.waiting) }
         // Some first ones of those that waited are removed, and at each moment at most one more may be or not. All else is as it is.
         ensures trims { Trims 16 self.old.waiting self.new.waiting (S.disk self.old.store) (S.loss self.old.store)

@@ -63,13 +63,13 @@ front_ordered at m e xs ys r q f = run_ordered m f.rest e (run_left at m e xs f.
 le_is : (a b : ℕ) → a ≤ b → nat_le a b ≡ true
 le_is a b l = grind (arith, nat_tests, l)
 
-le_not : (a b : ℕ) → b < a → nat_le a b ≡ false
+pub le_not : (a b : ℕ) → b < a → nat_le a b ≡ false
 le_not a b l = grind (arith, nat_tests, l)
 
-is_le : (a b : ℕ) → nat_le a b ≡ true → a ≤ b
+pub is_le : (a b : ℕ) → nat_le a b ≡ true → a ≤ b
 is_le a b e = grind (arith, nat_tests, e)
 
-not_le : (a b : ℕ) → nat_le a b ≡ false → b < a
+pub not_le : (a b : ℕ) → nat_le a b ≡ false → b < a
 not_le a b e = grind (arith, nat_tests, e)
 
 module _ (b : List ℕ) (bs : List (List ℕ)) where

@@ -11,6 +11,8 @@ use Rattle.std.specs.Option.{option_and_then, option_map}
 use Rattle.std.specs.Ordering.{int_eq, match_ordering, nat_cmp}
 use Rattle.std.proofs.lemmas.Bool.{cases_eq, false≢true}
 use Rattle.std.proofs.lemmas.Int.{ints}
+use Rattle.std.proofs.lemmas.List.{append-nil}
+use Rattle.std.proofs.lemmas.List.Elements.{Contains-append_left, Contains-append_right}
 use Rattle.std.proofs.lemmas.Option.{none-some, same_Some}
 use Rattle.kb_batch.specs.Batch.{natural}
 use Rattle.kb_topics.specs.declared.command.CommitOffset.{CommitOffset}
@@ -26,8 +28,11 @@ use Rattle.kb_tenant_state.proofs.StillKept.{other_removed, inserted_other}
 use Rattle.kb_tenant_state.proofs.Put.{found_put}
 use Rattle.kb_replay.proofs.Reading.{one_command}
 use Rattle.kb_opening.specs.Opened.{EndsWith, IsLongestFold}
+use Rattle.kb_snapshot.specs.Snapshot.{snapshot_of}
+use Rattle.kb_snapshot.proofs.Loading.{read_snapshot}
 use Rattle.kb_loss.specs.Fronts.{IsFrontOf}
 use Rattle.kb_loss.specs.Known.{IsLaterPartition, AreLaterPartitions, IsStillThere, StaysAt, GoesOnTo}
+use Rattle.kb_loss.specs.Renewed.{BeginsAnew}
 
 -- ---- partitions
 
@@ -57,10 +62,10 @@ still_some {K} {X} test cmp (e ∷ es) k v some = by (cmp k e.0) (test e.0) refl
     by Greater true is was more = subst (λ c. IsSome (cond c (Some e.1) (lookup test (insert_entry cmp es k v)))) (sym is) refl
     by Greater false is was more = subst (λ c. IsSome (cond c (Some e.1) (lookup test (insert_entry cmp es k v)))) (sym is) (more was)
 
-later_itself : (p : PartitionState) → IsLaterPartition p p
+pub later_itself : (p : PartitionState) → IsLaterPartition p p
 later_itself p = record { start = int_same p.start; commits = λ group some. some }
 
-later_then : (p q r : PartitionState) → IsLaterPartition p q → IsLaterPartition q r → IsLaterPartition p r
+pub later_then : (p q r : PartitionState) → IsLaterPartition p q → IsLaterPartition q r → IsLaterPartition p r
 later_then p q r a b = record { start = int_then p.start q.start r.start a.start b.start; commits = λ group some. b.commits group (a.commits group some) }
 
 later_commit : (p : PartitionState) (group : List ℕ) (c : CommittedOffset) → IsLaterPartition p (with_commit p group c)
@@ -319,6 +324,44 @@ goes_once k m n c wf e on = record {
   issues = let one = step_counts k c m e in omega (arith, one.1, on.issues);
 }
 
+-- applicable commands, and then others
+read_both : (j k n : Reading) (cs ds : List Command) → read_all j cs ≡ Some k → read_all k ds ≡ Some n → read_all j (cs ++ ds) ≡ Some n
+read_both j k n [] ds f g = subst (λ (r : Reading). read_all r ds ≡ Some n) (sym (same_Some j k f)) g
+read_both j k n (c ∷ cs) ds f g = by (read_step j c) f (λ m h. read_both m k n cs ds h g)
+  where
+    by : (o : Option Reading) → option_and_then (λ (r : Reading). read_all r cs) o ≡ Some k → ((m : Reading) → read_all m cs ≡ Some k → read_all m (cs ++ ds) ≡ Some n) → option_and_then (λ (r : Reading). read_all r (cs ++ ds)) o ≡ Some n
+    by None h more = absurd (none-some k h)
+    by (Some m) h more = more m h
+
+pub goes_itself : (k : Known) → GoesOnTo k k
+goes_itself k = goes_nowhere k k refl
+
+-- what goes on from what goes on
+pub goes_then : (k m n : Known) → GoesOnTo k m → GoesOnTo m n → GoesOnTo k n
+goes_then k m n a b = record {
+  commands = a.commands ++ b.commands;
+  read = read_both (in_use k) (in_use m) (in_use n) a.commands b.commands a.read b.read;
+  topics = λ i t at. ⊎_elim
+      (λ (deleted : Contains a.commands (Delete t.name)). inl (Contains-append_left a.commands b.commands (Delete t.name) deleted))
+      (λ (s : StaysAt i t m). ⊎_elim
+      (λ (later : Contains b.commands (Delete s.topic.name)).
+      inl (Contains-append_right a.commands b.commands (Delete t.name) (subst (λ (x : List ℕ). Contains b.commands (Delete x)) s.still.name later)))
+      (λ (u : StaysAt i s.topic n). inr (record { topic = u.topic; at = u.at; still = still_then t s.topic u.topic s.still u.still }))
+      (b.topics i s.topic s.at))
+      (a.topics i t at);
+  deleted = λ i low none. b.deleted i (let one = a.creates in omega (arith, low, one)) (a.deleted i low none);
+  creates = let one = a.creates in let two = b.creates in omega (arith, one, two);
+  issues = let one = a.issues in let two = b.issues in omega (arith, one, two);
+}
+
+pub commands_first : (k m n : Known) (a : GoesOnTo k m) (b : GoesOnTo m n) (c : Command) → Contains a.commands c → Contains (goes_then k m n a b).commands c
+unfolding goes_then
+commands_first k m n a b c has = Contains-append_left a.commands b.commands c has
+
+pub commands_second : (k m n : Known) (a : GoesOnTo k m) (b : GoesOnTo m n) (c : Command) → Contains b.commands c → Contains (goes_then k m n a b).commands c
+unfolding goes_then
+commands_second k m n a b c has = Contains-append_right a.commands b.commands c has
+
 goes_all : (ss : List (List ℕ)) (cs : List Command) (k n : Known) → SayEach ss cs → IsWellFormed k → read_all (in_use k) cs ≡ Some (in_use n) → GoesOnTo k n
 goes_all [] [] k n said wf e = goes_nowhere k n e
 goes_all [] (c ∷ cs) k n said wf e = absurd said
@@ -372,3 +415,35 @@ pub catalog_on : (generation : ℕ) (bs cs : List (List ℕ)) (k n : Known) → 
 catalog_on generation bs cs k n fold front long =
     let more = further (starting_at generation) (in_use k) (in_use n) bs long.before front.rest long.behind fold.commands long.fold.commands fold.said long.fold.said fold.read long.fold.read (sym front.split ∙ long.split) long.ends in
     goes_all more.batches more.commands k n more.said (fold_well_formed generation bs k fold) more.read
+
+-- ---- a later generation
+
+-- which begins with a snapshot of what was known
+pub anew_on : (generation : ℕ) (bs : List (List ℕ)) (k n : Known) → 0 < generation → BeginsAnew k bs → IsLongestFold generation bs n → GoesOnTo k n
+anew_on zero bs k n some anew long = absurd (omega (arith, some))
+anew_on (suc g) bs k n some anew long =
+    goes_then k anew.renewed n anew.later
+    (catalog_on (suc g) anew.snapshot bs anew.renewed n (record { commands = snapshot_of anew.renewed; said = anew.said; read = read_snapshot anew.renewed anew.kept }) anew.front long)
+
+-- a renewal, after more commands of the generation before
+pub anew_of : (generation : ℕ) (bs more : List (List ℕ)) (k r : Known) (ss later : List (List ℕ)) → IsFoldOf generation bs k → IsFoldOf generation (bs ++ more) r → SayEach ss (snapshot_of r) → IsFrontOf ss later → BeginsAnew k later
+anew_of generation bs more k r ss later before fold said front = record {
+  renewed = r;
+  later = catalog_on generation bs (bs ++ more) k r before (record { rest = more; split = refl })
+      (record { before = bs ++ more; behind = []; split = sym (append-nil (bs ++ more)); fold = fold; ends = tt });
+  kept = fold_well_formed generation (bs ++ more) r fold;
+  snapshot = ss;
+  said = said;
+  front = front;
+}
+
+-- and one after another
+pub anew_then : (k m : Known) (bs : List (List ℕ)) → GoesOnTo k m → BeginsAnew m bs → BeginsAnew k bs
+anew_then k m bs goes anew = record {
+  renewed = anew.renewed;
+  later = goes_then k m anew.renewed goes anew.later;
+  kept = anew.kept;
+  snapshot = anew.snapshot;
+  said = anew.said;
+  front = anew.front;
+}

@@ -1,4 +1,5 @@
 pub mod Chains
+pub mod Commits
 pub mod Fronts
 pub mod Headers
 pub mod Known

@@ -138,6 +138,7 @@ module _ (files : Files) (ns : List ℕ) (from first last : ℕ) (list : List (L
       (λ (none : xs ≡ []). record {
         batches = front_none (starting start list) list' (same ∙ ap (starting (max at start)) none);
         ends = λ known. omega (arith, ends none known, j.ends);
+        starts = omega (arith, j.ends);
       })
       (λ (some : (first_of start j.chain.order ≡ at) × IsFrontOf xs j.bs).
       let begins : first' ≡ max at start = j.starts ∙ ap (λ n. max n start) some.0 in
@@ -147,6 +148,7 @@ module _ (files : Files) (ns : List ℕ) (from first last : ℕ) (list : List (L
         batches = subst (λ (zs : List (List ℕ)). IsFrontOf zs list') (sym same)
             (subst (λ (zs : List (List ℕ)). IsFrontOf (starting (max at start) xs) zs) (sym (j.batches ∙ ap (λ n. starting n j.bs) begins)) (starting_front (max at start) xs j.bs some.1));
         ends = λ known. omega (arith, order, i.ends, j.ends, later);
+        starts = omega (arith, j.ends);
       })
       (fronts files ns from i.bs i.chain start found ms l apart far start j.bs j.chain at xs t)
 

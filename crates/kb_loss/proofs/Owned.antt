@@ -8,8 +8,9 @@ use Rattle.std.proofs.lemmas.Map.Keys.{IsDistinct-cons, IsDistinct-head, IsDisti
 use Rattle.kb_store.specs.Disk.{Files}
 use Rattle.kb_segment.specs.Header.{Header}
 use Rattle.kb_opening.specs.Owners.{says, is_of_catalog, is_of_partition, catalog_of, partition_of}
-use Rattle.kb_loss.specs.Since.{AreOf}
+use Rattle.kb_loss.specs.Since.{AreBelow, AreOf, made_from}
 use Rattle.kb_loss.specs.Tenant.{AreOfTenant}
+use Rattle.kb_loss.proofs.Fronts.{le_not}
 use Rattle.kb_loss.proofs.Headers.{nothing_said}
 
 in_filter : (p : ℕ → Bool) (xs : List ℕ) (x : ℕ) → Contains xs x → p x ≡ true → Contains (filter p xs) x
@@ -55,3 +56,7 @@ named_owners files numbers name apart all = record {
   catalog = λ g. filtered files numbers apart all (is_of_catalog name g);
   partition = λ i p. filtered files numbers apart all (is_of_partition name i p);
 }
+
+-- its files have numbers below those that were given out since
+pub commit_old : (files : Files) (test : Header → Bool) (numbers : List ℕ) → AreOf files test numbers → (next : ℕ) → AreBelow next files → (grown : ℕ → Bool) (n : ℕ) → Contains numbers n → (made_from next grown).made n ≡ false
+commit_old files test numbers of next below grown n mine = le_not next n (below n (some_said files test n (get files n) refl (of.passes n mine)))

@@ -17,13 +17,13 @@ use Rattle.kb_loss.specs.Chains.{HasAll}
 use Rattle.kb_loss.specs.Known.{IsLaterPartition, StaysAt, GoesOnTo}
 use Rattle.kb_loss.specs.Since.{Touched, AreLeft, untouched}
 use Rattle.kb_loss.specs.Tenant.{IsReadAgain, FilesLast, GoesThroughAll, AreOfTenant, TenantIsWritten, HasLog, HasWhatWas}
-use Rattle.kb_loss.proofs.Known.{catalog_on, all_get}
+use Rattle.kb_loss.proofs.Known.{anew_on, catalog_on, all_get}
 use Rattle.kb_loss.proofs.Left.{left_lasts, untouched_written}
 use Rattle.kb_loss.proofs.Logs.{whole_front, log_lasts}
 use Rattle.kb_loss.proofs.Since.{still_itself}
 use Rattle.kb_opening.specs.Owners.{is_of_catalog, is_of_partition}
 
-natural_le : (x y : ℤ) → x ≤ℤ y → natural x ≤ natural y
+pub natural_le : (x y : ℤ) → x ≤ℤ y → natural x ≤ natural y
 natural_le (pos a) (pos b) l = grind (arith, ints, l)
 natural_le (pos a) (negsuc b) l = absurd (grind (arith, ints, l))
 natural_le (negsuc a) y l = omega arith
@@ -43,7 +43,7 @@ module _ (files : Files) (owners : Owners) (k : Known) (logs : Logs) (o : IsOpen
   catalog = ⊎_elim
       (λ (lower : q.generation < g). absurd (q.in_use.greatest a.generation (omega (arith, lower, a.no_earlier)) a.small a.known a.read))
       (λ (not_lower : g ≤ q.generation). ⊎_elim
-      (λ (higher : g < q.generation). a.snapshots q.generation now higher q.in_use.small q.in_use.whole)
+      (λ (higher : g < q.generation). anew_on q.generation q.in_use.whole.commands k now (omega (arith, higher)) (a.renewed q.generation now higher q.in_use.small q.in_use.whole) q.in_use.whole.known)
       (λ (not_higher : q.generation ≤ g). same_generation q.generation (omega (arith, not_lower, not_higher)) q.in_use)
       (cases_lt g q.generation))
       (cases_lt q.generation g)
@@ -102,7 +102,7 @@ nothing_lost files owners k logs o name fold all = (
     small = o.in_use.small;
     known = k;
     read = o.in_use.whole;
-    snapshots = λ g n above small whole. absurd (o.in_use.greatest g above small n whole);
+    renewed = λ g n above small whole. absurd (o.in_use.greatest g above small n whole);
   },
   record {
     catalog = λ here. untouched_written files (owners.catalog o.generation) 0 o.in_use.whole.commands o.in_use.whole.chain (is_of_catalog name o.generation) 0 all.catalog;

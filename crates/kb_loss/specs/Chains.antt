@@ -35,7 +35,8 @@ pub record LastsIn {files : Files} {numbers : List ℕ} {from : ℕ} {bs : List 
   pub further : (n : ℕ) → Contains there n → Contains kept n ⊎ (c.end ≤ base_at found n)
 
 -- From a start on a log has all the batches that it had, and others behind them, if any. It ends no earlier, so that no offset is given
--- out twice; of an empty log that is said where its end is recorded as a start.
+-- out twice; of an empty log that is said where its end is recorded as a start. And it does not end below the start.
 pub record HasAll (start : ℕ) (old : List (List ℕ)) (old_end : ℕ) (new : List (List ℕ)) (new_end : ℕ) : Type 0 where
   pub batches : IsFrontOf (starting start old) new
   pub ends : (old ≡ [] → old_end ≤ start) → old_end ≤ new_end
+  pub starts : start ≤ new_end

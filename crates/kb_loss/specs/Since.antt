@@ -1,5 +1,5 @@
 -- What a loss of power may leave of the files of a commit, by what calls did since.
-use Rattle.std.specs.Prelude.{◌≡◌, ◌≤◌, ◌++◌, ◌⊎◌, ℕ, Bool, true, false, List, [], ◌∷◌, length, take, nat_eq, Some, IsSome}
+use Rattle.std.specs.Prelude.{◌≡◌, ◌≤◌, ◌<◌, ◌++◌, ◌⊎◌, ℕ, Bool, true, false, List, [], ◌∷◌, length, take, nat_eq, nat_le, Some, IsSome}
 use Rattle.std.specs.FinMap.{get}
 use Rattle.std.specs.List.{Contains, IsDistinct}
 use Rattle.kb_store.specs.Disk.{Files}
@@ -24,6 +24,14 @@ pub record Touched : Type 0 where
 -- Nothing was changed.
 abbrev pub untouched : Touched
 untouched = record { made = λ n. false; grown = λ n. false }
+
+-- All files that were made have numbers from a next one on. So they do where each number is given out once, rising.
+abbrev pub made_from : ℕ → (ℕ → Bool) → Touched
+made_from next grown = record { made = λ n. nat_le next n; grown = grown }
+
+-- All files have numbers below a next one.
+abbrev pub AreBelow : ℕ → Files → Type 0
+AreBelow next files = (n : ℕ) → IsSome (get files n) → n < next
 
 -- The files of a commit are there: each has its bytes as a front, and one that has not grown has no others. Under a number that was given
 -- out since there may be anything.

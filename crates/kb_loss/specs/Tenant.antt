@@ -12,12 +12,13 @@ use Rattle.kb_opening.specs.Opened.{Owners, ComesToKnown, IsInUse, IsOpened}
 use Rattle.kb_opening.specs.Owners.{is_of_catalog, is_of_partition}
 use Rattle.kb_loss.specs.Chains.{HasAll, LastsIn}
 use Rattle.kb_loss.specs.Known.{GoesOnTo, IsLaterPartition}
+use Rattle.kb_loss.specs.Renewed.{BeginsAnew}
 use Rattle.kb_loss.specs.Since.{Touched, AreOf, IsWritten}
 
 -- ---- the files
 
 -- What is left of the catalog of a tenant can be read. It had nothing but commands in it; that generation or a later one is found whole;
--- and a later one is a snapshot of what was known after more commands.
+-- and a later one begins with the snapshot of what was known after more commands.
 pub record IsReadAgain {files : Files} {owners : Owners} {k : Known} {logs : Logs} (o : IsOpened files owners k logs) (found : Files)
     (there : Owners) : Type 0 where
   pub commands : IsFoldOf o.generation o.in_use.whole.commands k
@@ -26,7 +27,8 @@ pub record IsReadAgain {files : Files} {owners : Owners} {k : Known} {logs : Log
   pub small : generation < 2 ^ 63
   pub known : Known
   pub read : ComesToKnown found (there.catalog generation) generation known
-  pub snapshots : (g : ℕ) (n : Known) → o.generation < g → g < 2 ^ 63 → ComesToKnown found (there.catalog g) g n → GoesOnTo k n
+  pub renewed : (g : ℕ) (n : Known) → o.generation < g → g < 2 ^ 63 → (whole : ComesToKnown found (there.catalog g) g n)
+      → BeginsAnew k whole.commands
 
 -- No file is of one log twice.
 pub record AreOnce (owners : Owners) : Type 0 where

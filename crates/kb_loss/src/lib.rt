@@ -7,7 +7,8 @@
 mod laws;
 
 pub use laws::{
-    catalogs_go_on, chains_go_on, logs_go_on, logs_in_order_last, named_files_are_the_tenants,
-    nothing_lost_is_written_in_order, tenants_go_on, what_is_left_later_is_left,
+    a_renewal_begins_anew, catalogs_go_on, chains_go_on, commits_go_on, files_of_a_commit_are_old,
+    logs_go_on, logs_in_order_last, named_files_are_the_tenants, nothing_lost_is_written_in_order,
+    renewals_follow, renewals_go_on, tenants_go_on, what_is_left_later_is_left,
     what_is_still_there_is_left, what_was_acknowledged_is_there,
 };

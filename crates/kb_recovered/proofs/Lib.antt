@@ -1,1 +1,4 @@
+pub mod Following
 pub mod Recovered
+pub mod Results
+pub mod Windows

@@ -1,5 +1,5 @@
 -- Each tenant of a broker has after a loss of power what it had.
-use Rattle.std.proofs.Common.{ℕ, List, OnOk, Result, Ok, Err}
+use Rattle.std.proofs.Common.{ℕ, List}
 use Rattle.kb_store.specs.Disk.{Files}
 use Rattle.kb_tenant_api.specs.Hosted.{TenantState, kept_of}
 use Rattle.kb_restart.specs.Again.{AreFound}
@@ -15,7 +15,3 @@ have_what_was files numbers names ts was all touched waiting found left there al
     what_was_left files (owners_of files numbers name) (kept_of ts t).world.known (kept_of ts t).world.logs (was.each t name at) name touched waiting found left (owners_of found there name)
     (named_owners files numbers name all.once all.all) (named_owners found there name all_there.once all_there.all)
     (kept_of us t).world.known (kept_of us t).world.logs (w.read t name at) (w.written t name at) (opened.each t name at).opened
-
-pub on_ok : {T E P Q : Type 0} (r : Result T E) → OnOk r P → (P → Q) → OnOk r Q
-on_ok (Ok x) p f = f p
-on_ok (Err e) p f = tt

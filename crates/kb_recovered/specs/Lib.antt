@@ -1,1 +1,3 @@
+pub mod Commits
 pub mod Recovered
+pub mod Windows

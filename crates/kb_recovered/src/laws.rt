@@ -9,6 +9,7 @@ ghost use Rattle.kb_broker.specs.Hosts.{is_honest, IsInFiles};
 ghost use Rattle.kb_restart.specs.Again.{AreApart, AreFound, AreStillStrays};
 ghost use Rattle.kb_restart.specs.Restart.{AreReopened};
 ghost use Rattle.kb_loss.specs.Since.{AreLeft, AreStill, HoldsSince, Touched};
+ghost use Rattle.kb_recovered.specs.Commits.{FollowOn, TenantsAt, last_at};
 ghost use Rattle.kb_recovered.specs.Recovered.{AreAll, AreWritten, HaveWhatWas};
 
 use kb_broker::Broker;
@@ -42,4 +43,14 @@ pub fn every_tenant_has_what_was_acknowledged()
         (was : AreFound files numbers names ts) → AreAll files numbers → (touched : Touched) (waiting : List ℕ) (found : Files)
         → AreLeft files touched waiting found → (there : List ℕ) → AreAll found there → (us : List TenantState)
         → AreReopened found there names us → AreWritten was touched waiting found there us → HaveWhatWas names ts us }
+{}
+
+/// So it is over any number of commits, losses of power and starts. A broker that opens after a further loss has of each tenant all that
+/// the tenant had at the first of these commits: the catalog with more commands, and of each partition all records from its start on. Each
+/// commit is left of the one before it, and each start has what it found.
+pub fn what_was_acknowledged_stays()
+    ensures { (names : List (List ℕ)) (commit : TenantsAt names) (later : List (TenantsAt names)) → FollowOn commit later
+        → (touched : Touched) (waiting : List ℕ) (found : Files) → AreLeft (last_at commit later).files touched waiting found
+        → (there : List ℕ) → AreAll found there → (us : List TenantState) → AreReopened found there names us
+        → AreWritten (last_at commit later).found touched waiting found there us → HaveWhatWas names commit.tenants us }
 {}

@@ -4,7 +4,14 @@
 #![tactic(auto)]
 
 mod calls;
+mod commits;
 mod laws;
+mod renewals;
 
 pub use calls::{append_keeps, create_keeps, cut_keeps, sync_lasts, sync_leaves};
-pub use laws::{commit_lasts, every_tenant_has_what_was_acknowledged};
+pub use commits::{
+    append_goes_on, create_goes_on, cut_goes_on, losses_are_of_commits, read_goes_on,
+    remove_goes_on, sync_begins, sync_goes_on,
+};
+pub use laws::{commit_lasts, every_tenant_has_what_was_acknowledged, what_was_acknowledged_stays};
+pub use renewals::renew_begins_anew;

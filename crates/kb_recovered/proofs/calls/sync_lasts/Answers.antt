@@ -1,5 +1,5 @@
 use Rattle.kb_loss.proofs.Since.{still_synced}
-use Rattle.kb_recovered.proofs.Recovered.{on_ok}
+use Rattle.kb_recovered.proofs.Results.{on_ok}
 use Rattle.kb_recovered.proofs.calls.sync_lasts.Goals as goal
 
 pub returns : goal.returns

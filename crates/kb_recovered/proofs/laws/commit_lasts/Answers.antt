@@ -1,6 +1,6 @@
 use Rattle.kb_restart.proofs.Found.{are_found}
 use Rattle.kb_loss.proofs.Since.{still_synced}
-use Rattle.kb_recovered.proofs.Recovered.{on_ok}
+use Rattle.kb_recovered.proofs.Results.{on_ok}
 use Rattle.kb_recovered.proofs.laws.commit_lasts.Goals as goal
 
 pub returns : goal.returns

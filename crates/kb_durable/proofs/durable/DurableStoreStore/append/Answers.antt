@@ -24,6 +24,16 @@ returns-in_err-reserve-clause-refused g c =
     told c.from_residual.result (subst (λ v. AppendsSome (disk_of g.S.Store.disk v) file bytes (disk_left ks r d)) c.self.view_is
     (appends_none (disk_left ks r d) (disk_left ks r d) file bytes there (disk_lawful ks r d (g.met.S.Store.lawful s.store)) (kept_same (disk_left ks r d))))
 
+pub returns-in_err-reserve-clause-inside_err : goal.returns-in_err-reserve-clause-inside_err
+returns-in_err-reserve-clause-inside_err g c =
+    let s = c.self.inside in
+    let file = c.args.file in
+    let bytes = c.args.bytes.now in
+    let d = g.S.Store.disk s.store in
+    let there = there_inside s.waiting.items s.refused d file (subst (λ v. IsThere (disk_of g.S.Store.disk v) file) (sym c.self.view_is) c.requires) in
+    told c.from_residual.result (subst (λ v. AppendsSome (g.S.Store.disk v.store) file bytes d) c.self.view_is
+    (appends_none d d file bytes there (g.met.S.Store.lawful s.store) (kept_same d)))
+
 pub returns-in_err-reserve-clause-loss : goal.returns-in_err-reserve-clause-loss
 returns-in_err-reserve-clause-loss g c =
     same_torn g.S.Store.loss c.args.file (len_of (disk_of g.S.Store.disk c.args.self.now) c.args.file) c.args.self.now.store c.self.inside.store
@@ -47,6 +57,17 @@ returns-in_err-len-clause-refused g c =
     let there = subst (λ v. IsThere (disk_of g.S.Store.disk v) file) (sym c.self.view_is) c.requires in
     told c.from_residual-in_err-len.result (subst (λ v. AppendsSome (disk_of g.S.Store.disk v) file bytes (disk_left ks r e)) c.self.view_is
     (appends_none (disk_left ks r d) (disk_left ks r e) file bytes there (disk_lawful ks r d (g.met.S.Store.lawful s.store)) (left_kept ks r r d e c.in_err-len.ensures.unchanged)))
+
+pub returns-in_err-len-clause-inside_err : goal.returns-in_err-len-clause-inside_err
+returns-in_err-len-clause-inside_err g c =
+    let s = c.self.inside in
+    let file = c.args.file in
+    let bytes = c.args.bytes.now in
+    let d = g.S.Store.disk s.store in
+    let e = g.S.Store.disk c.len.new.self in
+    let there = there_inside s.waiting.items s.refused d file (subst (λ v. IsThere (disk_of g.S.Store.disk v) file) (sym c.self.view_is) c.requires) in
+    told c.from_residual-in_err-len.result (subst (λ v. AppendsSome (g.S.Store.disk v.store) file bytes e) c.self.view_is
+    (appends_none d e file bytes there (g.met.S.Store.lawful s.store) c.in_err-len.ensures.unchanged))
 
 pub returns-in_err-len-clause-loss : goal.returns-in_err-len-clause-loss
 returns-in_err-len-clause-loss g c =

@@ -18,12 +18,12 @@ metadata-coherent listings.StockClients e = refl
 pub sessions-coherent : (listing : Listing) → lists listing FETCH 7 ≡ true → lists listing PRODUCE 5 ≡ true
 unfolding is_served
 sessions-coherent listings.Served e = unlisted e
-sessions-coherent listings.StockClients e = unlisted e
+sessions-coherent listings.StockClients e = refl
 
 pub epochs-coherent : (listing : Listing) → lists listing FETCH 8 ≡ true → lists listing PRODUCE 6 ≡ true
 unfolding is_served
 epochs-coherent listings.Served e = unlisted e
-epochs-coherent listings.StockClients e = unlisted e
+epochs-coherent listings.StockClients e = refl
 
 pub offsets-coherent : (listing : Listing) → lists listing LIST_OFFSETS 5 ≡ true → lists listing FETCH 10 ≡ true
 unfolding is_served

@@ -1,8 +1,9 @@
 -- A turn of a tenant, after which a refusal may have been counted for it.
-use Rattle.std.proofs.Common.{◌≡◌, ◌≤◌, ◌∙◌, ℕ, List, Option, Some, None, true, refl, sym, ap, subst, arith}
+use Rattle.std.proofs.Common.{◌≡◌, ◌≤◌, ◌<◌, ◌∙◌, ℕ, List, [], length, Option, Some, None, true, refl, sym, ap, subst, arith, unwrap_or}
 use Rattle.std.specs.Prelude.{◌⊎◌}
 use Rattle.kb_store.specs.Disk.{Disk}
 use Rattle.kb_log.specs.OnShelf.{Log}
+use Rattle.kb_log.specs.Shelf.{Shelved}
 use Rattle.kb_waits.specs.Queue as queue
 use Rattle.kb_waits.specs.Queue.{Queue}
 use Rattle.kb_tenant_state.specs.Steps.{calm_then}
@@ -10,7 +11,10 @@ use Rattle.kb_tenant_api.specs.Hosted.{Kept, TenantState, kept_of, refusals_of}
 use Rattle.kb_tenant_api.specs.Turns.{IsMet, IsTurn}
 use Rattle.kb_tenant_api.specs.Waiters.{AreServed, members_on}
 use Rattle.kb_tenant.specs.Replies.{Silent}
-use Rattle.kb_tenants.specs.Tenants.{numbers_in}
+use Rattle.kb_tenants.specs.Counts.{IsCountedFor, store_counts}
+use Rattle.kb_tenants.specs.Tenants.{AreLeftAlone, numbers_in}
+use Rattle.kb_tenants.proofs.Passed.{length_named}
+use Rattle.kb_tenants.proofs.Shares.{shares_called}
 use Rattle.kb_tenants.specs.declared.tenants.Tenants.{Tenants}
 use Rattle.kb_isolation_spec.specs.Tenant.{Wait, asked, ready}
 use Rattle.kb_isolation_spec.specs.Session.{Stage, Greets, BoundTo, Session}
@@ -64,10 +68,35 @@ module _ (t : ℕ) (ts us vs : List TenantState) (loss : IsTurn t (Unit {0}) us 
   left-counted (concerned.These u ns) setup clock st n q s r same left = subst (λ xs. IsLeftBy (concerned.These u ns) setup clock st n q ts xs s r) (sym same) left
   left-counted (concerned.All u) setup clock st n q s r loud left = tt
 
+-- a call for one tenant
+pub later-called : {L S : Type 0} (log : L → Log) (disk : S → Disk) (a b : Tenants L S) (t : ℕ) (H : Type 0) → t < length (tenants_in log disk a) → ((disk b.shelf.store).honest → (disk a.shelf.store).honest)
+    → (disk a.shelf.store).failures ≤ (disk b.shelf.store).failures → IsTurn t H (tenants_in log disk a) (tenants_in log disk b) → IsCountedFor log disk t a b → b.strays ≡ a.strays
+    → AreLeftAlone (unwrap_or (numbers_in a.strays) []) (disk a.shelf.store) (disk b.shelf.store) → AreLater log disk a b
+later-called log disk a b t H lt honest more turn counted strays alone = record {
+  honest = honest;
+  failures = more;
+  many = length_named (tenants_in log disk a) (tenants_in log disk b) turn.names;
+  counts = turn.grows;
+  accounted = shares_called log disk a b t lt more turn.grows counted;
+  strays_are = ap numbers_in strays;
+  left_alone = alone;
+}
+
+-- in which nothing was asked of the store
+pub later-told : {L S : Type 0} (log : L → Log) (disk : S → Disk) (a b : Tenants L S) (t : ℕ) (H : Type 0) → t < length (tenants_in log disk a) → IsTurn t H (tenants_in log disk a) (tenants_in log disk b)
+    → IsCountedFor log disk t a b → b.strays ≡ a.strays → b.shelf ≡ a.shelf → AreLater log disk a b
+later-told {L} {S} log disk a b t H lt turn counted strays shelf =
+    let failures = ap (λ (x : Shelved S). (disk x.store).failures) shelf in
+    later-called log disk a b t H lt (λ honest. subst (λ (x : Shelved S). (disk x.store).honest) shelf honest) (omega (arith, failures)) turn counted strays
+    (subst (λ (x : Shelved S). AreLeftAlone (unwrap_or (numbers_in a.strays) []) (disk a.shelf.store) (disk x.store)) (sym shelf) (λ honest file c. refl))
+
 -- on the same shelf
-pub later-loss : {L S : Type 0} (log : L → Log) (disk : S → Disk) (a b c : Tenants L S) (t : ℕ) → AreLater log disk a b → IsTurn t (Unit {0}) (tenants_in log disk b) (tenants_in log disk c) → c.shelf ≡ b.shelf → c.strays ≡ b.strays → AreLater log disk a c
-later-loss log disk a b c t first loss shelf strays =
-    later-by (disk a.shelf.store) (disk b.shelf.store) (disk c.shelf.store) (numbers_in a.strays) (numbers_in b.strays) (numbers_in c.strays) (tenants_in log disk a) (tenants_in log disk b) (tenants_in log disk c) first
-    (subst (λ files. IsLaterWith (disk b.shelf.store) (disk c.shelf.store) (numbers_in b.strays) (numbers_in files) (tenants_in log disk b) (tenants_in log disk c)) (sym strays)
-    (subst (λ x. IsLaterWith (disk b.shelf.store) (disk x.store) (numbers_in b.strays) (numbers_in b.strays) (tenants_in log disk b) (tenants_in log disk c)) (sym shelf)
-    (later-counted (disk b.shelf.store) (numbers_in b.strays) (tenants_in log disk b) (tenants_in log disk c) loss.names loss.grows)))
+pub later-loss : {L S : Type 0} (log : L → Log) (disk : S → Disk) (a b c : Tenants L S) (t : ℕ) → AreLater log disk a b → IsTurn t (Unit {0}) (tenants_in log disk b) (tenants_in log disk c) → c.shelf ≡ b.shelf → c.strays ≡ b.strays
+    → store_counts c ≡ store_counts b → AreLater log disk a c
+later-loss log disk a b c t first loss shelf strays shares =
+    later-by (disk a.shelf.store) (disk b.shelf.store) (disk c.shelf.store) (numbers_in a.strays) (numbers_in b.strays) (numbers_in c.strays) (tenants_in log disk a) (tenants_in log disk b) (tenants_in log disk c)
+    (store_counts a) (store_counts b) (store_counts c) first
+    (subst (λ files. IsLaterWith (disk b.shelf.store) (disk c.shelf.store) (numbers_in b.strays) (numbers_in files) (tenants_in log disk b) (tenants_in log disk c) (store_counts b) (store_counts c)) (sym strays)
+    (subst (λ x. IsLaterWith (disk b.shelf.store) (disk x.store) (numbers_in b.strays) (numbers_in b.strays) (tenants_in log disk b) (tenants_in log disk c) (store_counts b) (store_counts c)) (sym shelf)
+    (subst (IsLaterWith (disk b.shelf.store) (disk b.shelf.store) (numbers_in b.strays) (numbers_in b.strays) (tenants_in log disk b) (tenants_in log disk c) (store_counts b)) (sym shares)
+    (later-counted (disk b.shelf.store) (numbers_in b.strays) (tenants_in log disk b) (tenants_in log disk c) (store_counts b) loss.names loss.grows))))

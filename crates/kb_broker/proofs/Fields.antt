@@ -271,7 +271,7 @@ minded-more_in H honest whom first a b ns i l m us e sound at is v =
 
 pub number-some : (b : BrokerState) (i n : ℕ) → i < length b.lines → ((d : Line) → (get_or b.lines i d).number ≡ n) → number_at i b ≡ n
 number-some b i n lt some =
-    let d : Line = record { number = 0; session = fresh } in
+    let d : Line = record { number = 0; session = fresh 0 } in
     number_at-is b i (get_or b.lines i d) (get-at b.lines i d lt) ∙ some d
 
 pub minded-take : (whom : Whom) (a b : BrokerState) (ns : List ℕ) (j n : ℕ) → j < length ns → n ≡ get_or ns j 0 → AreMinded whom a b (take j ns ++ n ∷ []) → AreMinded whom a b (take (j + 1) ns)

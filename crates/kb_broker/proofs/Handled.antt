@@ -490,7 +490,7 @@ first-place (l ∷ ls) d = by (can l.session) (first-place ls d)
 
 pub nowhere-able : (ls : List Line) (o : Option ℕ) → o ≡ position (λ (l : Line). can l.session) ls → ((i : ℕ) → o ≡ Some i → ⊥) → first_able ls ≡ None
 nowhere-able ls o e none =
-    let d : Line = record { number = 0; session = fresh } in
+    let d : Line = record { number = 0; session = fresh 0 } in
     let n = position_or_len (λ (l : Line). can l.session) ls in
     first-place ls d ∙ by (nat_lt n (length ls)) n (get_or ls n d) (λ i h. none i (e ∙ h))
   where
@@ -501,7 +501,7 @@ nowhere-able ls o e none =
 pub next-able : (b : BrokerState) (o : Option ℕ) (i : ℕ) → IsSound b → o ≡ position (λ (l : Line). can l.session) b.lines → o ≡ Some i → IsNext i b
 next-able b o i sound e some = record {
   sound = sound;
-  within = (position-Some (λ (l : Line). can l.session) b.lines i (record { number = 0; session = fresh }) (sym e ∙ some)).0;
+  within = (position-Some (λ (l : Line). can l.session) b.lines i (record { number = 0; session = fresh 0 }) (sym e ∙ some)).0;
   first = λ d. first-place b.lines d ∙ by (nat_lt (position_or_len (λ (l : Line). can l.session) b.lines) (length b.lines)) d (position_or_len (λ (l : Line). can l.session) b.lines) (sym e ∙ some);
 }
   where
@@ -522,7 +522,7 @@ full-is (x ∷ xs) r e t h = cc
 -- a piece of no bytes is nothing
 pub step-empty : (b : BrokerState) (i n : ℕ) (piece : List ℕ) → IsReady b → i < length b.lines → ((d : Line) → (get_or b.lines i d).number ≡ n) → piece ≡ [] → IsStep (Comes n piece) b b
 step-empty b i n piece ready lt some e =
-    let d : Line = record { number = 0; session = fresh } in
+    let d : Line = record { number = 0; session = fresh 0 } in
     let h = step-nothing b i (get_or b.lines i d) ready (get-at b.lines i d lt) in
     let k : IsStep (Comes n []) b b = subst (λ m. IsStep (Comes m []) b b) (some d) h in
     subst (λ p. IsStep (Comes n p) b b) (sym e) k

@@ -63,16 +63,16 @@ drained-ready disk a c n ready h =
     ready-on disk a c (ap (λ (x : OnStore _). x.store) h) (taken a.state n) (ap (λ (x : OnStore _). x.state) h) ready (sound-taken a.state n ready.sound) (settled-taken a.state n ready.settled) (unready-taken a.state n)
 
 -- a connection that opens, or cannot be kept, or closes, leaves the store and the tenants' counts as they are
-pub connected-later : {S A E : Type 0} (disk : S → Disk) (r : Result A E) (a c : OnStore S) (n : ℕ) → c.store ≡ a.store → c.strays ≡ a.strays → OnOk r (c.state ≡ opened a.state n) → OnErr r (IsRefused a.state c.state) → IsLater disk a c
-connected-later disk (Ok x) a c n same left ok err =
-    later-is disk a c same left (ap (λ (b : BrokerState). b.tenants) ok) (subst (IsSilent a.state) (sym ok) (silent_opened a.state n))
-connected-later disk (Err x) a c n same left ok err =
-    later-is disk a c same left (ap (λ (b : BrokerState). b.tenants) err.is) (silent_refused a.state c.state err)
+pub connected-later : {S A E : Type 0} (disk : S → Disk) (r : Result A E) (a c : OnStore S) (n : ℕ) → c.store ≡ a.store → c.strays ≡ a.strays → c.by_store ≡ a.by_store → OnOk r (c.state ≡ opened a.state n) → OnErr r (IsRefused a.state c.state) → IsLater disk a c
+connected-later disk (Ok x) a c n same left shares ok err =
+    later-is disk a c same left shares (ap (λ (b : BrokerState). b.tenants) ok) (subst (IsSilent a.state) (sym ok) (silent_opened a.state n))
+connected-later disk (Err x) a c n same left shares ok err =
+    later-is disk a c same left shares (ap (λ (b : BrokerState). b.tenants) err.is) (silent_refused a.state c.state err)
 
 pub disconnected-later : {S : Type 0} (disk : S → Disk) (a c : OnStore S) (n : ℕ) → c ≡ record a { state = closed a.state n } → IsLater disk a c
 disconnected-later disk a c n h =
     let grows = (left-step a c n h).grows in
-    later-silent disk a c (ap (λ (x : OnStore _). x.store) h) (ap (λ (x : OnStore _). x.strays) h) grows.names grows.own
+    later-silent disk a c (ap (λ (x : OnStore _). x.store) h) (ap (λ (x : OnStore _). x.strays) h) (ap (λ (x : OnStore _). x.by_store) h) grows.names grows.own
     (subst (IsSilent a.state) (sym (ap (λ (x : OnStore _). x.state) h)) (silent_closed a.state n))
 
 -- what a call leaves of the members that wait: the engine's own a is the one that clauses see, b

@@ -19,6 +19,7 @@ pub mod Served
 pub mod Happened
 pub mod OpeningParts
 pub mod Renewed
+pub mod RequestLimits
 pub mod RunDrain
 pub mod RunEvents
 pub mod RunHistory
@@ -35,6 +36,7 @@ pub mod ScriptTells
 pub mod Stranded
 pub mod Limited
 pub mod Members
+pub mod Skipped
 pub mod ScriptEvents
 pub mod ScriptPlay
 pub mod ScriptOpening

@@ -44,11 +44,11 @@ listed_from_none key stock_least stock_greatest = (pos key, pos 0, negsuc 0, pos
 abbrev rows : List (ℤ × ℤ × ℤ × ℤ × ℤ)
 rows =
     listed_from 0 3 3 3 6 ∷
-    listed_from 1 4 5 4 6 ∷
+    listed_from 1 4 5 4 9 ∷
     listed_from 2 1 1 1 4 ∷ listed_from 3 1 1 0 7 ∷ listed_from 8 2 2 1 6 ∷ listed_from 9 1 1 1 5 ∷
     listed_from 10 0 0 0 2 ∷ listed_from 11 1 1 1 3 ∷ listed_from 12 0 0 0 2 ∷ listed_from 13 0 0 0 2 ∷ listed_from 14 0 0 0 2 ∷
     listed_from_none 15 0 2 ∷ listed_from_none 16 0 2 ∷ listed_from 17 1 1 0 1 ∷ listed_from 18 0 0 0 2 ∷ listed_from 19 0 0 0 3 ∷
-    listed_from 20 0 0 0 3 ∷ listed_from 21 0 0 0 1 ∷ listed_from 22 0 0 0 1 ∷ listed_from 36 0 0 0 0 ∷ []
+    listed_from 20 0 0 0 3 ∷ listed_from 21 0 0 0 1 ∷ listed_from 22 0 0 0 1 ∷ listed_from_none 32 0 2 ∷ listed_from 36 0 0 0 0 ∷ []
 
 -- from it each listing lists what it is to list
 pub all-listed : (listing : Listing) → filter_map (listed_as listing) rows ≡ listed listing
@@ -119,14 +119,15 @@ map-twice f g [] = refl
 map-twice f g (x ∷ xs) = ap (λ zs. g (f x) ∷ zs) (map-twice f g xs)
 
 -- of these parts what is fixed is made
-pub setup-made : {X : Type 0} (listing : Listing) (f : X → List ℕ) (s : Settings) (names : List X) (versions : List ApiVersion) (users : List Login) (nodes : List Node) (node : Node) (setup : Setup)
+pub setup-made : {X : Type 0} (listing : Listing) (f : X → List ℕ) (s : Settings) (names : List X) (versions : List ApiVersion) (users : List Login) (nodes : List Node) (node : Node) (limit : ℕ) (setup : Setup)
     → map f names ≡ tenants_of s.users.items → versions ≡ listed listing → users ≡ map (login_of (tenants_of s.users.items)) s.users.items
     → nodes ≡ map (λ n. node_named listing (values_of s) (f n)) names → node ≡ node_unnamed listing (values_of s)
-    → setup ≡ record { versions = versions; users = users; nodes = nodes; node = node } → setup ≡ opening_setup listing s
-setup-made listing f s names versions users nodes node setup named v u ns n is =
+    → limit ≡ s.requests.request_bytes
+    → setup ≡ record { versions = versions; users = users; nodes = nodes; node = node; request_bytes = limit } → setup ≡ opening_setup listing s
+setup-made listing f s names versions users nodes node limit setup named v u ns n l is =
     let each : nodes ≡ map (node_named listing (values_of s)) (tenants_of s.users.items) = ns ∙ map-twice f (node_named listing (values_of s)) names ∙ ap (map (node_named listing (values_of s))) named in
-    let made : List ApiVersion → List Login → List Node → Node → Setup = λ v u ns n. record { versions = v; users = u; nodes = ns; node = n } in
-    is ∙ ap (λ v. made v users nodes node) v ∙ ap (λ u. made (listed listing) u nodes node) u
+    let made : List ApiVersion → List Login → List Node → Node → Setup = λ v u ns n. record { versions = v; users = u; nodes = ns; node = n; request_bytes = s.requests.request_bytes } in
+    is ∙ ap (λ k. record { versions = versions; users = users; nodes = nodes; node = node; request_bytes = k }) l ∙ ap (λ v. made v users nodes node) v ∙ ap (λ u. made (listed listing) u nodes node) u
     ∙ ap (λ ns. made (listed listing) (map (login_of (tenants_of s.users.items)) s.users.items) ns node) each
     ∙ ap (made (listed listing) (map (login_of (tenants_of s.users.items)) s.users.items) (map (node_named listing (values_of s)) (tenants_of s.users.items))) n
 

@@ -87,7 +87,7 @@ searched-some b n ls r o e f is =
 pub open-found : (b : BrokerState) (n : ℕ) (o : Option ℕ) → Rising 0 b.last b.lines → IfNone o (AllByRecursion (λ l. l.number ≢ n) b.lines) → IfSome o (λ i. i < length b.lines) → IfSome o (λ i. (d : Line) → (get_or b.lines i d).number ≡ n) → is_some o ≡ is_open n b
 open-found b n None r none within some = sym (ap open_in (find-none n b.lines none))
 open-found b n (Some i) r none within some =
-    let d : Line = record { number = 0; session = fresh } in
+    let d : Line = record { number = 0; session = fresh 0 } in
     let l = get_or b.lines i d in
     sym (ap open_in (find-found b i n l r (record { at = get-at b.lines i d within; number = some d })))
 

@@ -67,7 +67,7 @@ pub numbers-leads : (e : Happening) (es : List Happening) (old new : BrokerState
 numbers-leads (Opens n) es old new ended h = elim h [
   | inl k ↦ same-permutation (numbers_of_lines old.lines ++ n ∷ opening es) (numbered ended ++ connections_of es new) (
       sym (append_assoc (numbers_of_lines old.lines) (n ∷ []) (opening es))
-      ∙ (ap (λ xs. xs ++ opening es) (sym (map-append (λ (l : Line). l.number) old.lines (record { number = n; session = fresh } ∷ [])))
+      ∙ (ap (λ xs. xs ++ opening es) (sym (map-append (λ (l : Line). l.number) old.lines (record { number = n; session = fresh old.setup.request_bytes } ∷ [])))
       ∙ (ap (connections_of es) (sym k.0) ∙ ap (λ ss. numbered ss ++ connections_of es new) (sym k.1))))
   | inr k ↦ subst (IsPermutation (numbers_of_lines old.lines ++ n ∷ opening es)) (
       ap (λ ls. n ∷ (numbers_of_lines ls ++ opening es)) (sym (ap (λ (b : BrokerState). b.lines) k.0.is))

@@ -2,14 +2,14 @@
 use Rattle.std.proofs.Common.{◌≡◌, ℕ, ℤ, zero, suc, Bool, true, false, cond, eqb, nat_lt, List, [], ◌∷◌, ◌++◌, length, refl, sym, ap, ◌∙◌, Option, Some, None, Ok, Err}
 use Rattle.std.specs.Str.{bytes_eq}
 use Rattle.std.specs.Prelude.{codes, Result}
-use Rattle.kb_api_group.specs.Frames.{Front, Whole, Partial, TooSmall, TooLarge, front}
+use Rattle.kb_api_group.specs.Frames.{Front, Whole, Partial, TooSmall, TooLarge}
 use Rattle.kb_tenant.specs.Replies.{reply_size}
 use Rattle.kb_isolation_spec.specs.declared.shut.Shut.{Shut}
 use Rattle.kb_isolation_spec.specs.declared.shut.Shut.TheVariants as causes
 use Rattle.kb_isolation_spec.specs.declared.head.Head.{Head}
 use Rattle.kb_isolation_spec.specs.declared.login.Known.{Known}
 use Rattle.kb_isolation_spec.specs.Requests.{Asked, Versions, OtherVersions, Handshake, Authenticate, Another, Malformed, request, unserved}
-use Rattle.kb_isolation_spec.specs.Session.{Greeting, Unshaken, Shaken, Bare, Stage, Greets, BoundTo, Session, shut_down, replied, throttled, fed, room, unanswerable}
+use Rattle.kb_isolation_spec.specs.Session.{Greeting, Unshaken, Shaken, Bare, Stage, Greets, BoundTo, Session, shut_down, replied, throttled, fed, room, unanswerable, in_front}
 use Rattle.kb_isolation_spec.specs.Greeting.{Setup, bound, failed, failed_reply, login, logged_in, bare_login, greeting_after, shaken, authenticated, greeted_by, greeted_frame, greeted_at, greeted}
 use Rattle.kb_isolation_spec.specs.Machine.{Happening, Opens, Comes, Closes, Moment, Line, again}
 use Rattle.kb_isolation_spec.specs.Owners.{greet_turn_at, greet_turn, heard, whose, destiny, Pairwise}
@@ -85,8 +85,8 @@ same-greeted_at setup h Partial s t e = e
 same-greeted : (setup : Setup) (h : Greeting) (s t : Session) → Same s t → Same (greeted setup h s) (greeted setup h t)
 unfolding greeted
 same-greeted setup h s t e =
-    let f : front s.unread ≡ front t.unread = ap (λ (x : Session). front x.unread) e in
-    same-greeted_at setup h (front s.unread) s t e ∙ ap (λ f. without_output (greeted_at setup h t f)) f
+    let f : in_front s ≡ in_front t = ap (λ (x : Session). in_front x) e in
+    same-greeted_at setup h (in_front s) s t e ∙ ap (λ f. without_output (greeted_at setup h t f)) f
 
 same-turn_at : (setup : Setup) (st : Stage) (s t : Session) → Same s t → Same (greet_turn_at setup s st) (greet_turn_at setup t st)
 same-turn_at setup (Greets h) s t e = same-greeted setup h s t e

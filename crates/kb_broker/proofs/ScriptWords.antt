@@ -41,13 +41,13 @@ still-old : (b : BrokerState) → Rising 0 b.last b.lines → IsQuiet b → AllB
 still-old b rising quiet = all-still b.lines b.lines quiet (found 0 b.last b.lines rising)
 
 pub silent-opened : (b : BrokerState) (n : ℕ) → Rising 0 b.last b.lines → IsQuiet b → words b (opened b n) ≡ []
-silent-opened b n rising quiet = silent b.lines (b.lines ++ record { number = n; session = fresh } ∷ []) (all-push (Still b.lines) b.lines (record { number = n; session = fresh }) (still-old b rising quiet) (record { output = refl; shut = refl }))
+silent-opened b n rising quiet = silent b.lines (b.lines ++ record { number = n; session = fresh b.setup.request_bytes } ∷ []) (all-push (Still b.lines) b.lines (record { number = n; session = fresh b.setup.request_bytes }) (still-old b rising quiet) (record { output = refl; shut = refl }))
 
 pub silent-closed : (b : BrokerState) (n : ℕ) → Rising 0 b.last b.lines → IsQuiet b → words b (closed b n) ≡ []
 silent-closed b n rising quiet = silent b.lines (those (other_than n) b.lines) (all-those (Still b.lines) (other_than n) b.lines (still-old b rising quiet))
 
 pub quiet-opened : (b : BrokerState) (n : ℕ) → IsQuiet b → IsQuiet (opened b n)
-quiet-opened b n quiet = all-push (λ (l : Line). l.session.output ≡ []) b.lines (record { number = n; session = fresh }) quiet refl
+quiet-opened b n quiet = all-push (λ (l : Line). l.session.output ≡ []) b.lines (record { number = n; session = fresh b.setup.request_bytes }) quiet refl
 
 pub quiet-closed : (b : BrokerState) (n : ℕ) → IsQuiet b → IsQuiet (closed b n)
 quiet-closed b n quiet = all-those (λ (l : Line). l.session.output ≡ []) (other_than n) b.lines quiet
@@ -160,26 +160,26 @@ open-lines k (l ∷ ls) = by (eqb l.number k) (open-lines k ls)
 pub at-hushed : (p : Place) (b : BrokerState) → IsAt p b → IsAt p (hushed b)
 at-hushed p b a = record { open_now = λ k. a.open_now k ∙ sym (open-lines k b.lines); last = a.last }
 
-open-push : (k n : ℕ) (ls : List Line) → (k == n || open_in (find_line k ls)) ≡ open_in (find_line k (ls ++ record { number = n; session = fresh } ∷ []))
-open-push k n [] = by (eqb n k) refl (eqb k n) refl
+open-push : (limit k n : ℕ) (ls : List Line) → (k == n || open_in (find_line k ls)) ≡ open_in (find_line k (ls ++ record { number = n; session = fresh limit } ∷ []))
+open-push limit k n [] = by (eqb n k) refl (eqb k n) refl
   where
-    by : (b : Bool) → eqb n k ≡ b → (d : Bool) → eqb k n ≡ d → (d || false) ≡ open_in (cond b (Some fresh) None)
+    by : (b : Bool) → eqb n k ≡ b → (d : Bool) → eqb k n ≡ d → (d || false) ≡ open_in (cond b (Some (fresh limit)) None)
     by true e true f = refl
     by false e false f = refl
     by true e false f = grind (arith, nat_tests)
     by false e true f = grind (arith, nat_tests)
-open-push k n (l ∷ ls) = by (eqb l.number k) (open-push k n ls)
+open-push limit k n (l ∷ ls) = by (eqb l.number k) (open-push limit k n ls)
   where
     or_true : (b : Bool) → (b || true) ≡ true
     or_true true = refl
     or_true false = refl
 
-    by : (b : Bool) → (k == n || open_in (find_line k ls)) ≡ open_in (find_line k (ls ++ record { number = n; session = fresh } ∷ [])) → (k == n || open_in (cond b (Some l.session) (find_line k ls))) ≡ open_in (cond b (Some l.session) (find_line k (ls ++ record { number = n; session = fresh } ∷ [])))
+    by : (b : Bool) → (k == n || open_in (find_line k ls)) ≡ open_in (find_line k (ls ++ record { number = n; session = fresh limit } ∷ [])) → (k == n || open_in (cond b (Some l.session) (find_line k ls))) ≡ open_in (cond b (Some l.session) (find_line k (ls ++ record { number = n; session = fresh limit } ∷ [])))
     by true rest = or_true (eqb k n)
     by false rest = rest
 
 pub open-opened : (b : BrokerState) (n k : ℕ) → (k == n || is_open k b) ≡ is_open k (opened b n)
-open-opened b n k = open-push k n b.lines
+open-opened b n k = open-push b.setup.request_bytes k n b.lines
 
 open-without : (k n : ℕ) (ls : List Line) → (not (k == n) && open_in (find_line k ls)) ≡ open_in (find_line k (those (other_than n) ls))
 open-without k n [] = by (eqb k n)

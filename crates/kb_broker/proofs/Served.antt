@@ -8,7 +8,7 @@ use Rattle.std.specs.Cmp.{nat_cmp_total}
 use Rattle.std.specs.declared.alloc.Global.{Global}
 use Rattle.std.specs.declared.vec.Vec.{Vec}
 use Rattle.std.proofs.lemmas.Bool.Decides.{nat_tests}
-use Rattle.kb_api_group.specs.Frames.{Front, Whole, Partial, TooSmall, TooLarge, front}
+use Rattle.kb_api_group.specs.Frames.{Front, Whole, Partial, TooSmall, TooLarge}
 use Rattle.kb_waits.specs.Queue as queue
 use Rattle.kb_waits.specs.Queue.{Queue, AreParked, IsUnder, IsUnderAny}
 use Rattle.kb_waits.specs.declared.key.WaitKey.{WaitKey}
@@ -28,7 +28,7 @@ use Rattle.kb_isolation_spec.specs.Tenant.{Awaited, Wait, Records, Group, answer
 use Rattle.kb_isolation_spec.specs.Requests as requests
 use Rattle.kb_api_group.specs.declared.api_versions.ApiVersion.{ApiVersion}
 use Rattle.kb_isolation_spec.specs.Requests.{Asked, Versions, OtherVersions, Handshake, Authenticate, Another, Malformed}
-use Rattle.kb_isolation_spec.specs.Session.{Greeting, Stage, Greets, BoundTo, Session, shut_down, waiting, without_wait, is_free}
+use Rattle.kb_isolation_spec.specs.Session.{Greeting, Stage, Greets, BoundTo, Session, shut_down, waiting, without_wait, is_free, in_front}
 use Rattle.kb_isolation_spec.specs.Greeting.{Setup, greeted, for_tenant, node_of}
 use Rattle.kb_isolation_spec.specs.Machine.{Line, after_reaction, after_turn, served_by, served_at, put}
 use Rattle.kb_isolation_spec.proofs.Owners.{stage-shut}
@@ -85,7 +85,7 @@ own_at setup kept clock n s Partial own free = free
 -- a turn that is a matter of the connection alone waits for nothing
 free-own : (setup : Setup) (t : ℕ) (kept : Kept) (clock n : ℕ) (s : Session) → IsOwn setup s → is_free s.stage ≡ true → is_free (after_turn (for_tenant setup t) kept clock n s).stage ≡ true
 unfolding after_turn
-free-own setup t kept clock n s own free = own_at (for_tenant setup t) kept clock n s (front s.unread) own.own free
+free-own setup t kept clock n s own free = own_at (for_tenant setup t) kept clock n s (in_front s) own.own free
 
 pub own-free : (setup : Setup) (t : ℕ) (l new : Line) → l.session.stage ≡ BoundTo t None → IsOwn setup l.session → ((tenant : ℕ) (kept : Kept) (clock n : ℕ) → new ≡ with_session l (after_turn (for_tenant setup tenant) kept clock n l.session)) → is_free new.session.stage ≡ true
 own-free setup t l new bound own is = ap (λ (x : Line). is_free x.session.stage) (is t nothing 0 0) ∙ free-own setup t nothing 0 0 l.session own (ap is_free bound)
@@ -107,11 +107,11 @@ greeted-free setup h l new greets is = ap (λ (x : Line). is_free x.session.stag
 -- 2. A tenant's answer
 
 -- the connection was shut before the answer was given
-pub spent-refused : (versions : List ApiVersion) (l new : Line) → is_tenants_at versions (front l.session.unread) ≡ true → new ≡ with_session l (shut_down causes.Memory l.session) → IsSpent l.session new.session
+pub spent-refused : (versions : List ApiVersion) (l new : Line) → is_tenants_at versions (in_front l.session) ≡ true → new ≡ with_session l (shut_down causes.Memory l.session) → IsSpent l.session new.session
 spent-refused versions l new asks is =
-    let some = fewer-behind versions l.session.unread asks in
+    let some = fewer-behind versions l.session asks in
     let left = ap (λ (x : Line). length x.session.unread) is in
-    record { less = omega (arith, some, left); stage = λ t w e. ap (λ (x : Line). without_wait x.session.stage) is ∙ stage-shut l.session }
+    record { less = omega (arith, some, left); limit = ap (λ (x : Line). x.session.limit) is; stage = λ t w e. ap (λ (x : Line). without_wait x.session.stage) is ∙ stage-shut l.session }
 
 -- in the queue that number alone has changed, to what the answer says
 pub record IsParkedBy (q p : Queue) (t n : ℕ) (r : Answer) : Type 0 where
@@ -229,7 +229,7 @@ keyed-answered H honest setup t clock n ts us l new key version head body r o bo
 
 -- what the tenant was asked is the turn
 pub turned-touched : (H : Type 0) (setup : Setup) (t clock n : ℕ) (ts us : List TenantState) (s r : Session) (touched : Touched) → (H → IsTouchedBy touched t clock ts us)
-    → IsMet t H ts us (λ k l. (r ≡ after_turn (for_tenant setup t) k clock n s) × (l ≡ put (for_tenant setup t) k clock n s.unread)) → H → IsTouchedTurnBy touched setup t clock n ts us s r
+    → IsMet t H ts us (λ k l. (r ≡ after_turn (for_tenant setup t) k clock n s) × (l ≡ put (for_tenant setup t) k clock n (in_front s))) → H → IsTouchedTurnBy touched setup t clock n ts us s r
 turned-touched H setup t clock n ts us s r (touches.Partitions places) touched meets honest =
     let h = touched honest in
     let both = meets honest h.calm in

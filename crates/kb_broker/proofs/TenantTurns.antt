@@ -21,11 +21,12 @@ use Rattle.kb_tenant_api.specs.declared.answer.Answer.{Answer}
 use Rattle.kb_tenant.specs.declared.answer.Answer.TheVariants as answers
 use Rattle.kb_tenant.specs.declared.node.Node.{Node}
 use Rattle.kb_isolation_spec.specs.Tenant.{Awaited, Records, Group, Wait, is_members, answer, asked, ready, ready_for, kept_after}
-use Rattle.kb_isolation_spec.specs.Session.{Greeting, Greets, BoundTo, Session, can, shut_down, waiting, without_wait, unanswerable}
+use Rattle.kb_isolation_spec.specs.Session.{Greeting, Greets, BoundTo, Session, can, shut_down, waiting, without_wait, unanswerable, in_front}
 use Rattle.kb_isolation_spec.specs.Greeting.{Setup, greeted, for_tenant, node_of}
 use Rattle.kb_isolation_spec.specs.Machine.{Line, after_reaction, told, woken, woken_by, after_turn as served_by_turn, put}
 use Rattle.kb_isolation_spec.proofs.Laws.{can-turn, some-left, greeted-less, served-less}
 use Rattle.kb_isolation_spec.proofs.Owners.{stage-served, stage-shut}
+use Rattle.kb_isolation_spec.proofs.RequestLimits.{limit-greeted, limit-served}
 use Rattle.kb_connection.specs.Fronts.{IsAsked}
 use Rattle.kb_connection.specs.View.{with_session, without_front}
 use Rattle.kb_connection.specs.TenantAnswers.{is_quiet}
@@ -65,7 +66,7 @@ answered-now node k l clock n id key version body touched r h =
 -- what stands in front was asked, and answered so: the connection is the machine's
 pub asked-now : (setup : Setup) (t clock n : ℕ) (k m : Kept) (l new : Line) (key version : ℤ) (head : Head) (body : List ℕ) (r : Answer) → IsAsked setup l.session key version head body → m ≡ kept_after (node_of setup t) k clock n key version body → IsAnswer head.correlation_id (answer (node_of setup t) k clock n key version body) r
     → ((key' version' : ℤ) (head' : Head) (body' : List ℕ) (reaction : Reaction) → IsAsked setup l.session key' version' head' body' → IsAnswer head'.correlation_id reaction r → new ≡ with_session l (after_reaction reaction head' version' body' (without_front l.session)))
-    → (new.session ≡ served_by_turn (for_tenant setup t) k clock n l.session) × (m ≡ put (for_tenant setup t) k clock n l.session.unread)
+    → (new.session ≡ served_by_turn (for_tenant setup t) k clock n l.session) × (m ≡ put (for_tenant setup t) k clock n (in_front l.session))
 asked-now setup t clock n k m l new key version head body r asked kept told ok =
     let is = ok key version head body (answer (node_of setup t) k clock n key version body) asked told in
     (ap (λ (x : Line). x.session) is ∙ sym (asked.served t k clock n), kept ∙ sym (asked.put t k clock n))
@@ -135,9 +136,9 @@ asked-on log disk H honest hosts before-honest node us clock t n id key version 
 -- the connection was shut
 pub spent-shut : (l new : Line) → can l.session ≡ true → new ≡ with_session l (shut_down causes.Memory l.session) → IsSpent l.session new.session
 spent-shut l new able is =
-    let some = some-left l.session.unread (can-turn l.session able) in
+    let some = some-left l.session.limit l.session.unread (can-turn l.session able) in
     let left = ap (λ (x : Line). length x.session.unread) is in
-    record { less = omega (arith, some, left); stage = λ t w e. ap (λ (x : Line). without_wait x.session.stage) is ∙ stage-shut l.session }
+    record { less = omega (arith, some, left); limit = ap (λ (x : Line). x.session.limit) is; stage = λ t w e. ap (λ (x : Line). without_wait x.session.stage) is ∙ stage-shut l.session }
 
 -- a matter of the connection alone
 pub spent-served : {A E : Type 0} (result : Result A E) (setup : Setup) (l new : Line) → can l.session ≡ true → ((tenant : ℕ) (kept : Kept) (clock n : ℕ) → OnOk result (new ≡ with_session l (served_by_turn (for_tenant setup tenant) kept clock n l.session)))
@@ -146,7 +147,11 @@ spent-served (Ok x) setup l new able ok err =
     let is = ok 0 nothing 0 0 in
     let less = served-less (for_tenant setup 0) nothing 0 0 l.session (can-turn l.session able) in
     let left = ap (λ (x : Line). length x.session.unread) is in
-    record { less = omega (arith, less, left); stage = λ t w e. ap (λ (x : Line). without_wait x.session.stage) is ∙ stage-served (for_tenant setup 0) nothing 0 0 l.session }
+    record {
+      less = omega (arith, less, left);
+      limit = ap (λ (x : Line). x.session.limit) is ∙ limit-served (for_tenant setup 0) nothing 0 0 l.session;
+      stage = λ t w e. ap (λ (x : Line). without_wait x.session.stage) is ∙ stage-served (for_tenant setup 0) nothing 0 0 l.session;
+    }
 spent-served (Err x) setup l new able ok err = spent-shut l new able err
 
 -- a greeting
@@ -155,7 +160,11 @@ pub spent-greeted : {A E : Type 0} (result : Result A E) (setup : Setup) (h : Gr
 spent-greeted (Ok x) setup h l new greets able ok err =
     let less = greeted-less setup h l.session (can-turn l.session able) in
     let left = ap (λ (x : Line). length x.session.unread) ok in
-    record { less = omega (arith, less, left); stage = λ t w e. (let none : Greets h ≡ BoundTo t w = sym greets ∙ e in absurd (cc)) }
+    record {
+      less = omega (arith, less, left);
+      limit = ap (λ (x : Line). x.session.limit) ok ∙ limit-greeted setup h l.session;
+      stage = λ t w e. (let none : Greets h ≡ BoundTo t w = sym greets ∙ e in absurd (cc));
+    }
 spent-greeted (Err x) setup h l new greets able ok err = spent-shut l new able err
 
 -- a member more waits on the connection only where the connection waits for its group then
@@ -200,10 +209,10 @@ refused-answer t clock n ts us w answers.Shut fetch loud ends =
 pub looked-ok : {A E : Type 0} (H : Type 0) (result : Result A E) (whom : Whom) (clock t : ℕ) (ts us : List TenantState) (l new : Line) (w : Wait) (r : Plain) → l.session.stage ≡ BoundTo t (Some w) → IsLookedFor whom clock t w → IsTurn t H ts us
     → (H → (u : ℕ) → kept_of us u ≡ kept_of ts u) → IsMet t H ts us (λ k m. (m ≡ k) × plain.IsAnswer w.head.correlation_id (ready k clock l.number w) r) → (H → IsLookAnswer t clock l.number ts us w r)
     → ((tenant : ℕ) (x : Wait) (reaction : plain.Reaction) → l.session.stage ≡ BoundTo tenant (Some x) → plain.IsAnswer x.head.correlation_id reaction r → OnOk result (new ≡ with_session l (told reaction x.head l.session)))
-    → new.number ≡ l.number → without_wait new.session.stage ≡ without_wait l.session.stage → length new.session.unread ≤ length l.session.unread
+    → new.number ≡ l.number → without_wait new.session.stage ≡ without_wait l.session.stage → length new.session.unread ≤ length l.session.unread → new.session.limit ≡ l.session.limit
     → (is_quiet r ≡ false → new.session.stage ≡ without_wait l.session.stage)
     → is_err result ≡ false → IsLookedAt H whom clock l.session.stage ts us l new
-looked-ok H result whom clock t ts us l new w r stage yours turn stays meets says ok number same unread ends good =
+looked-ok H result whom clock t ts us l new w r stage yours turn stays meets says ok number same unread limit ends good =
     let met = λ (honest : H) (calm : IsCalm (refusals_of ts t) (refusals_of us t)). let h : OnOk result (new.session ≡ woken (kept_of ts t) clock l.number l.session) = met-looked H honest result clock t ts us l new w r stage meets ok calm in from_ok result false (new.session ≡ woken (kept_of ts t) clock l.number l.session) (sym good) refl h in
     subst (λ st. IsLookedAt H whom clock st ts us l new) (sym stage)
     (inr (
@@ -212,6 +221,7 @@ looked-ok H result whom clock t ts us l new w r stage yours turn stays meets say
         number = number;
         stage = same;
         unread = unread;
+        limit = limit;
         turn = turn;
         stays = stays;
         meets = met;
@@ -272,6 +282,7 @@ looked-err H whom clock t ts us vs l new w stage yours first then stays again co
         number = number;
         stage = same;
         unread = unread;
+        limit = ap (λ (x : Line). x.session.limit) is;
         turn = turn-then t H H ts us vs (λ u. u) first (turn-sure H t us vs then);
         stays = λ honest u. again u ∙ stays honest u;
         meets = λ honest calm. absurd (counted (calm-right (refusals_of ts t) (refusals_of us t) (refusals_of vs t) (first.grows t) (then.grows t) calm));

@@ -119,7 +119,7 @@ output_opened k (l ∷ ls) x e = by (eqb l.number k) (output_opened k ls x e)
 
 pub silent_opened : (b : BrokerState) (n : ℕ) → IsSilent b (opened b n)
 silent_opened b n = record {
-  outputs = λ k. inl (output_opened k b.lines (record { number = n; session = fresh }) refl);
+  outputs = λ k. inl (output_opened k b.lines (record { number = n; session = fresh b.setup.request_bytes }) refl);
   topics = λ t. refl;
 }
 

@@ -1,11 +1,12 @@
 -- A broker on its store, and its tenants there.
-use Rattle.std.specs.Prelude.{◌≡◌, ◌≤◌, ℕ, true, List, [], Option, Some, None, unwrap_or}
+use Rattle.std.specs.Prelude.{◌≡◌, ◌≤◌, ℕ, true, List, [], length, Option, Some, None, unwrap_or}
 use Rattle.kb_store.specs.Disk.{Disk}
 use Rattle.kb_log.specs.OnShelf.{Log}
 use Rattle.kb_tenant.specs.Batches.{HasSmallLogs}
 use Rattle.kb_tenant.specs.LimitsKept.{HasOrderedCommits}
 use Rattle.kb_tenant_api.specs.Hosted.{TenantState, refusals_of}
-use Rattle.kb_tenant_api.specs.Turns.{IsAccounted, all_calm}
+use Rattle.kb_tenant_api.specs.Turns.{all_calm}
+use Rattle.kb_tenants.specs.Counts.{AreShared, store_counts}
 use Rattle.kb_tenants.specs.Tenants.{AreKept, AreKeptIn, AreLeftAlone, hosted, numbers_in}
 use Rattle.kb_tenants.specs.declared.tenants.Tenants.{Tenants}
 use Rattle.kb_isolation_spec.specs.Machine.{Happening, first_able}
@@ -23,27 +24,30 @@ abbrev pub AreHosted : {L S : Type 0} → (L → Log) → (S → Disk) → Tenan
 AreHosted log disk hosts = AreKept log disk hosts
 
 -- At a later moment the store has told the truth only if it had before, and its failures are no fewer. No tenant's count of
--- refusals is smaller, and the counts together have risen by at least as much as the failures, unless one has come to its end. The
--- files that are left alone are the same, and have the bytes that they had.
-pub record IsLaterWith (old new : Disk) (strays left : Option (List ℕ)) (ts us : List TenantState) : Type 0 where
+-- refusals is smaller, and the counts together have risen by at least as much as the failures, unless one has come to its end; and as many
+-- refusals more are the store's. The files that are left alone are the same, and have the bytes that they had.
+pub record IsLaterWith (old new : Disk) (strays left : Option (List ℕ)) (ts us : List TenantState) (cs ds : List ℕ) : Type 0 where
   pub honest : new.honest → old.honest
   pub failures : old.failures ≤ new.failures
+  pub many : length us ≡ length ts
   pub counts : (t : ℕ) → refusals_of ts t ≤ refusals_of us t
-  pub accounted : IsAccounted ts us old.failures new.failures
+  pub accounted : AreShared ts us old.failures new.failures cs ds
   pub strays_are : left ≡ strays
   pub left_alone : AreLeftAlone (unwrap_or strays []) old new
 
 abbrev pub AreLater : {L S : Type 0} → (L → Log) → (S → Disk) → Tenants L S → Tenants L S → Type 0
 AreLater log disk old new = IsLaterWith (disk old.shelf.store) (disk new.shelf.store) (numbers_in old.strays) (numbers_in new.strays)
-    (tenants_in log disk old) (tenants_in log disk new)
+    (tenants_in log disk old) (tenants_in log disk new) (store_counts old) (store_counts new)
 
 -- 2. The broker
 
--- a broker, the store on which it stands, and the files there that are of no log and are left alone, where it is known which they are
+-- a broker, the store on which it stands, the files there that are of no log and are left alone, where it is known which they are, and how
+-- many refusals of each tenant were the store's, by place
 pub record OnStore (S : Type 0) : Type 0 where
   pub state : BrokerState
   pub store : S
   pub strays : Option (List ℕ)
+  pub by_store : List ℕ
 
 -- whether the store has told the truth so far
 abbrev pub is_honest : {S : Type 0} → (S → Disk) → OnStore S → Type 0
@@ -54,8 +58,9 @@ is_honest disk b = (disk b.store).honest
 pub record IsLater {S : Type 0} (disk : S → Disk) (old new : OnStore S) : Type 0 where
   pub honest : is_honest disk new → is_honest disk old
   pub failures : (disk old.store).failures ≤ (disk new.store).failures
+  pub many : length new.state.tenants ≡ length old.state.tenants
   pub counts : (t : ℕ) → refusals_of old.state.tenants t ≤ refusals_of new.state.tenants t
-  pub accounted : IsAccounted old.state.tenants new.state.tenants (disk old.store).failures (disk new.store).failures
+  pub accounted : AreShared old.state.tenants new.state.tenants (disk old.store).failures (disk new.store).failures old.by_store new.by_store
   pub strays_are : new.strays ≡ old.strays
   pub left_alone : AreLeftAlone (unwrap_or old.strays []) (disk old.store) (disk new.store)
   pub spoken : is_honest disk new → SpeaksTruth old.state new.state

@@ -2,6 +2,7 @@ pub mod Able
 pub mod Counts
 pub mod Deadline
 pub mod Hosts
+pub mod Ids
 pub mod Limited
 pub mod Members
 pub mod Nodes

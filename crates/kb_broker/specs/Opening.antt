@@ -4,6 +4,7 @@ use Rattle.kb_wire.specs.declared.api_key.TheConstants.{PRODUCE, FETCH, LIST_OFF
 use Rattle.kb_wire.specs.declared.api_key.TheConstants.{FIND_COORDINATOR, JOIN_GROUP, HEARTBEAT, LEAVE_GROUP, SYNC_GROUP, SASL_HANDSHAKE}
 use Rattle.kb_wire.specs.declared.api_key.TheConstants.{API_VERSIONS, CREATE_TOPICS, DELETE_TOPICS, DELETE_RECORDS, INIT_PRODUCER_ID}
 use Rattle.kb_wire.specs.declared.api_key.TheConstants.{SASL_AUTHENTICATE}
+use Rattle.kb_api_data.specs.declared.config_key.TheConstants.{DESCRIBE_CONFIGS}
 use Rattle.kb_api_group.specs.declared.group_key.TheConstants.{DESCRIBE_GROUPS, LIST_GROUPS}
 use Rattle.kb_api_group.specs.declared.api_versions.ApiVersion.{ApiVersion}
 use Rattle.kb_isolation_spec.specs.Greeting.{Setup, User as Login}
@@ -56,14 +57,14 @@ served_versions =
 abbrev pub stock_versions : List ApiVersion
 stock_versions =
     between PRODUCE 3 6 ∷
-    between FETCH 4 6 ∷
+    between FETCH 4 9 ∷
     between LIST_OFFSETS 1 4 ∷ between METADATA 0 7 ∷
     between OFFSET_COMMIT 1 6 ∷ between OFFSET_FETCH 1 5 ∷ between FIND_COORDINATOR 0 2 ∷
     between JOIN_GROUP 1 3 ∷ between HEARTBEAT 0 2 ∷ between LEAVE_GROUP 0 2 ∷ between SYNC_GROUP 0 2 ∷
     between DESCRIBE_GROUPS 0 2 ∷ between LIST_GROUPS 0 2 ∷
     between SASL_HANDSHAKE 0 1 ∷ between API_VERSIONS 0 2 ∷
     between CREATE_TOPICS 0 3 ∷ between DELETE_TOPICS 0 3 ∷ between DELETE_RECORDS 0 1 ∷
-    between INIT_PRODUCER_ID 0 1 ∷ at_version SASL_AUTHENTICATE 0 ∷ []
+    between INIT_PRODUCER_ID 0 1 ∷ between DESCRIBE_CONFIGS 0 2 ∷ at_version SASL_AUTHENTICATE 0 ∷ []
 
 -- the versions that are listed
 abbrev pub listed : Listing → List ApiVersion
@@ -91,6 +92,7 @@ opening_setup listing s = record {
   users = map (login_of (tenants_of s.users.items)) s.users.items;
   nodes = map (node_named listing (values_of s)) (tenants_of s.users.items);
   node = node_unnamed listing (values_of s);
+  request_bytes = s.requests.request_bytes;
 }
 
 -- nobody is connected, and no time has passed, and the tenants are those

@@ -20,7 +20,7 @@ use Rattle.kb_tenant.specs.declared.answer.Answer.TheVariants as plain
 use Rattle.kb_tenant_api.specs.declared.answer.Answer.{Answer}
 use Rattle.kb_tenant_api.specs.declared.answer.Answer.TheVariants as answers
 use Rattle.kb_isolation_spec.specs.Tenant.{Awaited, Records, Group, Wait, ready, asked}
-use Rattle.kb_isolation_spec.specs.Session.{Stage, Greets, BoundTo, Session, can, is_free}
+use Rattle.kb_isolation_spec.specs.Session.{Stage, Greets, BoundTo, Session, can, is_free, in_front}
 use Rattle.kb_isolation_spec.specs.Greeting.{Setup, for_tenant}
 use Rattle.kb_isolation_spec.specs.Machine.{Line, after_turn, put}
 use Rattle.kb_isolation_spec.specs.Owners.{whose}
@@ -132,7 +132,7 @@ IsAskedOnAt (BoundTo t wait) old new = IsAskedOn t old new
 -- what waits and was not ready is not ready, if the queue has it under what it asks and its connection is not among those
 pub record IsPassedOn (setup : Setup) (t clock n : ℕ) (q : Queue) (old new : List TenantState) (s r : Session) (ns : List ℕ) : Type 0 where
   pub session : r ≡ after_turn (for_tenant setup t) (hosted.kept_of old t) clock n s
-  pub kept : hosted.kept_of new t ≡ put (for_tenant setup t) (hosted.kept_of old t) clock n s.unread
+  pub kept : hosted.kept_of new t ≡ put (for_tenant setup t) (hosted.kept_of old t) clock n (in_front s)
   pub calm : hosted.refusals_of new t ≡ 0
   pub own : Contains ns n
   pub others : (k : ℕ) (w : Wait) → k ≢ n → (Contains ns k → ⊥) → places_of (get q k) ≡ Some (keys_for t (asked (hosted.kept_of old t) w))
@@ -174,7 +174,7 @@ IsTouchedBy touches.Unknown t clock old new = ⊤
 pub record IsTouchedTurn (setup : Setup) (t clock n : ℕ) (old new : List TenantState) (s r : Session)
     (places : List TopicPartition) : Type 0 where
   pub session : r ≡ after_turn (for_tenant setup t) (hosted.kept_of old t) clock n s
-  pub kept : hosted.kept_of new t ≡ put (for_tenant setup t) (hosted.kept_of old t) clock n s.unread
+  pub kept : hosted.kept_of new t ≡ put (for_tenant setup t) (hosted.kept_of old t) clock n (in_front s)
   pub own : (has_released (hosted.kept_of new t).groups ≡ false) ⊎ (is_free r.stage ≡ true)
   pub ready : (k : ℕ) (w : Wait) → AreApart (asked (hosted.kept_of old t) w) places → ready (hosted.kept_of old t) clock k w ≡ Silent
       → ready (hosted.kept_of new t) clock k w ≡ Silent
@@ -238,7 +238,7 @@ IsLeftAmong setup t clock n q old new s r ns =
 -- nothing then, or the groups answer nobody who waited, and what waits elsewhere and was not ready is not ready
 pub record IsQuietTurn (setup : Setup) (t clock n : ℕ) (q : Queue) (old new : List TenantState) (s r : Session) : Type 0 where
   pub session : r ≡ after_turn (for_tenant setup t) (hosted.kept_of old t) clock n s
-  pub kept : hosted.kept_of new t ≡ put (for_tenant setup t) (hosted.kept_of old t) clock n s.unread
+  pub kept : hosted.kept_of new t ≡ put (for_tenant setup t) (hosted.kept_of old t) clock n (in_front s)
   pub own : (has_released (hosted.kept_of new t).groups ≡ false) ⊎ (is_free r.stage ≡ true)
   pub others : IsLeftAmong setup t clock n q old new s r (n ∷ [])
 

@@ -25,7 +25,7 @@ use Rattle.kb_isolation_spec.specs.declared.shut.Shut.TheVariants as causes
 use Rattle.kb_isolation_spec.specs.declared.head.Head.{Head}
 use Rattle.kb_isolation_spec.specs.Stranded.{IsMembersAt, members_of}
 use Rattle.kb_isolation_spec.specs.Tenant.{Awaited, Group, Records, Wait, is_members, ready}
-use Rattle.kb_isolation_spec.specs.Session.{Stage, Greets, BoundTo, Session, shut_down, without_wait, is_free, can}
+use Rattle.kb_isolation_spec.specs.Session.{Stage, Greets, BoundTo, Session, shut_down, without_wait, is_free, can, in_front}
 use Rattle.kb_isolation_spec.specs.Greeting.{Setup, greeted, for_tenant, node_of}
 use Rattle.kb_isolation_spec.specs.Machine.{Line, after_turn, put, woken, first_able, work}
 use Rattle.kb_isolation_spec.specs.Broker.{BrokerState, IsSound, IsUnready, AreUnready, AnyWait, refusals_of}
@@ -90,7 +90,7 @@ abbrev pub IsTakenAt : Type 0 → Setup → ℕ → ℕ → Stage → List Tenan
 IsTakenAt honest setup clock n (Greets handshaken) old new s r = r ≡ greeted setup handshaken s
 IsTakenAt honest setup clock n (BoundTo tenant wait) old new s r =
     IsMet tenant honest old new (λ k l. (r ≡ after_turn (for_tenant setup tenant) k clock n s)
-    × (l ≡ put (for_tenant setup tenant) k clock n s.unread))
+    × (l ≡ put (for_tenant setup tenant) k clock n (in_front s)))
 
 -- The turn of a connection of number n at that stage, also where it is refused, leaves no member more waiting but on that connection,
 -- and of those who waited each waits still or was answered; or it leaves the tenant's groups as they were.
@@ -105,9 +105,10 @@ abbrev pub IsMemberTurnAt : ℕ → Stage → List TenantState → List TenantSt
 IsMemberTurnAt n (Greets handshaken) old new r = ⊤
 IsMemberTurnAt n (BoundTo tenant wait) old new r = IsMembersAt tenant r ⊎ (members_of new tenant n ≤ members_of old tenant n)
 
--- what a turn leaves of a session s in any case: fewer unread bytes, and a bound connection stays bound
+-- what a turn leaves of a session s in any case: fewer unread bytes, the same limit of a request, and a bound connection stays bound
 pub record IsSpent (s r : Session) : Type 0 where
   pub less : length r.unread < length s.unread
+  pub limit : r.limit ≡ s.limit
   pub stage : (tenant : ℕ) (wait : Option Wait) → s.stage ≡ BoundTo tenant wait → without_wait r.stage ≡ without_wait s.stage
 
 -- one refusal more was counted for a tenant, short of the end of its count; a member of its groups that waited on the connection
@@ -161,6 +162,7 @@ pub record IsLooked (honest : Type 0) (t clock : ℕ) (old new : List TenantStat
   pub number : m.number ≡ l.number
   pub stage : without_wait m.session.stage ≡ without_wait l.session.stage
   pub unread : length m.session.unread ≤ length l.session.unread
+  pub limit : m.session.limit ≡ l.session.limit
   pub turn : IsTurn t honest old new
   pub stays : honest → (u : ℕ) → hosted.kept_of new u ≡ hosted.kept_of old u
   pub meets : IsMet t honest old new (λ k n. m.session ≡ woken k clock l.number l.session)

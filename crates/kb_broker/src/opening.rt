@@ -19,6 +19,7 @@ ghost use Rattle.kb_broker.specs.Opening.{tenants_of, login_of, fault_for, Blame
 use crate::broker::Broker;
 use crate::engine::Engine;
 use crate::nodes::{node_unnamed, nodes_named};
+use kb_api_data::config_key;
 use kb_api_group::{ApiVersion, group_key};
 use kb_connection::{Account, Setup};
 use kb_log::{ListLog, PartitionLog, Shelf, ShelfRefused};
@@ -34,9 +35,9 @@ use thiserror::Error;
 type Api = (i16, i16, i16, i16, i16);
 
 /// The APIs that are listed, by rising key (Kafka protocol guide, "Api Keys").
-const APIS: [Api; 20] = [
+const APIS: [Api; 21] = [
     (api_key::PRODUCE, 3, 3, 3, 6),
-    (api_key::FETCH, 4, 5, 4, 6),
+    (api_key::FETCH, 4, 5, 4, 9),
     (api_key::LIST_OFFSETS, 1, 1, 1, 4),
     (api_key::METADATA, 1, 1, 0, 7),
     (api_key::OFFSET_COMMIT, 2, 2, 1, 6),
@@ -54,6 +55,7 @@ const APIS: [Api; 20] = [
     (api_key::DELETE_TOPICS, 0, 0, 0, 3),
     (api_key::DELETE_RECORDS, 0, 0, 0, 1),
     (api_key::INIT_PRODUCER_ID, 0, 0, 0, 1),
+    (config_key::DESCRIBE_CONFIGS, 0, -1, 0, 2),
     (api_key::SASL_AUTHENTICATE, 0, 0, 0, 0),
 ];
 
@@ -62,8 +64,9 @@ const APIS: [Api; 20] = [
 pub enum Listing {
     /// Each API at one version, but Fetch at 4 and 5.
     Served,
-    /// The same, and what stock clients ask for beside: of each API but SaslAuthenticate more versions, and DescribeGroups and
-    /// ListGroups. Older clients log in by SaslHandshake 0, and librdkafka looks for it in the list before it logs in by version 1.
+    /// The same, and what stock clients ask for beside: of each API but SaslAuthenticate more versions, and DescribeGroups, ListGroups
+    /// and DescribeConfigs. Older clients log in by SaslHandshake 0, and librdkafka looks for it in the list before it logs in by
+    /// version 1.
     StockClients,
 }
 
@@ -261,7 +264,8 @@ fn new_setup(
     let versions = listed_versions(alloc, listing)?;
     let nodes = nodes_named(alloc, settings, listing, names)?;
     let node = node_unnamed(alloc, settings, listing)?;
-    Ok(Setup::new(versions, logins, nodes, node))
+    let request_bytes = settings.requests.request_bytes;
+    Ok(Setup::new(versions, logins, nodes, node, request_bytes))
 }
 
 /// The versions that are listed. They fit a reply.

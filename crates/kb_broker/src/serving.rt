@@ -4,7 +4,6 @@ ghost use Rattle.kb_isolation_spec.specs.Greeting.{for_tenant, node_of};
 ghost use Rattle.std.specs.Prelude.{◌≡◌, ◌≢◌, ◌<◌, ◌≤◌, ◌^◌, ◌⊎◌, ℕ, ℤ, List, length, OnOk, OnErr, IfOk, Ok, None, true};
 ghost use Rattle.std.specs.Prelude.{false};
 ghost use Rattle.std.specs.FinMap as fin;
-ghost use Rattle.kb_api_group.specs.Frames.{front};
 ghost use Rattle.kb_tenant_api.specs.Hosted.{kept_of};
 ghost use Rattle.kb_tenant_api.specs.Turns.{IsTurn, IsMet};
 ghost use Rattle.kb_tenant_api.specs.Replies.{Reaction, IsAnswer};
@@ -13,12 +12,13 @@ ghost use Rattle.kb_tenant.specs.Replies as plain;
 ghost use Rattle.kb_tenant.specs.Told.{FailedBy};
 ghost use Rattle.kb_isolation_spec.specs.declared.head.Head.{Head};
 ghost use Rattle.kb_isolation_spec.specs.declared.shut.Shut.TheVariants as causes;
-ghost use Rattle.kb_isolation_spec.specs.Session.{BoundTo, shut_down, can};
+ghost use Rattle.kb_isolation_spec.specs.Session.{BoundTo, shut_down, can, in_front};
 ghost use Rattle.kb_isolation_spec.specs.Machine.{after_reaction, after_turn, put};
 ghost use Rattle.kb_isolation_spec.specs.Broker.{InRange};
 ghost use Rattle.kb_isolation_spec.specs.Tenant.{answer, kept_after, is_past, ready};
 ghost use Rattle.kb_isolation_spec.specs.Turned.{is_looked_for};
 ghost use Rattle.kb_tenant_state.specs.declared.topic_partition.TopicPartition.{TopicPartition};
+ghost use Rattle.kb_tenants.specs.Counts.{AreSameCounts};
 ghost use Rattle.kb_tenants.specs.Tenants.{commands_of, shelf_is_honest, IsCatalogFull};
 ghost use Rattle.kb_connection.specs.Fronts.{is_tenants_at, IsAsked};
 ghost use Rattle.kb_connection.specs.View.{awaited_of, wait_of, with_session, without_front};
@@ -145,6 +145,7 @@ fn whom_it_concerns<L: PartitionLog + Drop, S: Store>(
     ensures counted { IsKnownOrCounted result tenant (tenants_in L.log S.disk tenants.old) (tenants_in L.log S.disk tenants.new) }
     ensures turn { IsTurn tenant (Unit {0}) (tenants_in L.log S.disk tenants.old) (tenants_in L.log S.disk tenants.new) }
     ensures stays { (t : ℕ) → kept_of (tenants_in L.log S.disk tenants.new) t ≡ kept_of (tenants_in L.log S.disk tenants.old) t }
+    ensures counts { AreSameCounts tenants.old tenants.new }
     ensures commands { (t : ℕ) → commands_of L.log tenants.new t ≡ commands_of L.log tenants.old t }
     ensures shelf { tenants.new.shelf ≡ tenants.old.shelf }
     ensures strays { tenants.new.strays ≡ tenants.old.strays }
@@ -251,7 +252,7 @@ fn serve_bound<L: PartitionLog + Drop, S: Store>(
         (tenants_in L.log S.disk tenants.new)
         (λ k l. let own = for_tenant setup.now tenant in
         (connection.new.session ≡ after_turn own k clock connection.old.number connection.old.session)
-        × (l ≡ put own k clock connection.old.number connection.old.session.unread))) }
+        × (l ≡ put own k clock connection.old.number (in_front connection.old.session)))) }
     ensures told { shelf_is_honest S.disk tenants.new → IsToldAt
         (FailedBy (S.disk tenants.old.shelf.store).failures (S.disk tenants.new.shelf.store).failures tenants.new.shelf.next)
         (IsCatalogFull L.log tenants.new) setup.now clock connection.old.number (BoundTo tenant None)
@@ -290,7 +291,7 @@ fn hand_over(
     answer: Answer,
 ) -> Result<(), AllocError>
     requires bound { connection.old.session.stage ≡ BoundTo tenant None }
-    requires asks { is_tenants_at setup.now.versions (front connection.old.session.unread) ≡ true }
+    requires asks { is_tenants_at setup.now.versions (in_front connection.old.session) ≡ true }
     requires free { fin.get parking.old connection.old.number ≡ None }
     ensures number { connection.new.number ≡ connection.old.number }
     ensures spent { IsSpent connection.old.session connection.new.session }

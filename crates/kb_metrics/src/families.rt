@@ -134,6 +134,7 @@ fn api_name(key: usize) -> Option<&'static str>
         20 => Some("DeleteTopics"),
         21 => Some("DeleteRecords"),
         22 => Some("InitProducerId"),
+        32 => Some("DescribeConfigs"),
         36 => Some("SaslAuthenticate"),
         _ => None,
     }

@@ -1,17 +1,22 @@
 //! What a broker counts of what it refuses.
 
-/// What a broker counts of what it refuses.
+/// How many requests of a tenant were refused.
+#[derive(Clone, Copy, Debug, PartialEq, Eq)]
+pub struct TenantRefusals {
+    pub all: u64,
+    /// How many of those the store refused. The others were refused for want of memory.
+    pub by_disk: u64,
+}
+
+/// What a broker counts of what it refuses. Tenants are named by their places in the order of their names.
 pub trait RefusalCounts {
     /// Whether it refused nothing yet.
     fn is_calm(&self) -> bool;
 
-    /// How many requests of a tenant it refused.
-    fn of_tenant(&self, name: &str) -> u64;
+    /// How many requests of the tenant at a place it refused.
+    fn of_tenant(&self, place: usize) -> TenantRefusals;
 
-    /// How many of those its store refused. The others were refused for want of memory.
-    fn of_tenant_by_disk(&self, name: &str) -> u64;
-
-    /// How many sockets it closed since the tenant at a place, in the order of the tenants' names, may have no more.
+    /// How many sockets it closed since the tenant at a place may have no more.
     fn sockets_of_tenant(&self, place: usize) -> u64;
 
     /// How many requests it refused before a login.

@@ -198,6 +198,16 @@ impl Journal {
         }
     }
 
+    /// How many producer ids a tenant's catalog had lost, which are now given out to nobody.
+    pub fn tell_lost_ids(&mut self, alloc: Global, now: u64, tenant: &str, lost: u64) {
+        if !self.is_quiet {
+            let text = format!(in alloc;
+                "producer ids that the catalog of tenant {tenant} had lost: {lost}"
+            );
+            self.lines.tell(now, text);
+        }
+    }
+
     /// What was found in the folder, behind a word.
     pub fn tell_found(&mut self, alloc: Global, now: u64, word: Word, held: Held) {
         if self.is_quiet {

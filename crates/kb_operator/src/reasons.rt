@@ -71,6 +71,7 @@ fn wanted(key: &str) -> Option<&str> {
         "strangers" => Some("a number from 1 to `connections`"),
         "idle_seconds" => Some("a number from 0 to 4294967"),
         "input_bytes" => Some("a number from 8388608 to 4294967295"),
+        "request_bytes" => Some("a number from 2097152 to 104857600"),
         "request_entries" => Some("a number from 1000 to 2097152"),
         "reply_bytes" => Some("a number from 1048576 to 2147483647"),
         "stock_clients" | "logins" => Some("true or false"),

@@ -119,6 +119,7 @@ fn write_edge<W: Write>(settings: &Settings, writer: &mut W) -> io::Result<()> {
     writeln!(writer, "request_seconds = {}", requests.request_seconds)?;
     writeln!(writer, "idle_seconds = {}", requests.idle_seconds)?;
     writeln!(writer, "input_bytes = {}", requests.input_bytes)?;
+    writeln!(writer, "request_bytes = {}", requests.request_bytes)?;
     write_request_limits(settings, writer)?;
     writeln!(writer, "stock_clients = {}", settings.stock_clients)?;
     writeln!(writer, "logins = {}", settings.logins)

@@ -55,7 +55,7 @@ risen (p ∷ ps) (q ∷ qs) (suc t) m lt many grows more =
     let rest : total ps + m ≤ total qs = risen ps qs t m (omega (arith, lt)) (omega (arith, many)) (λ u. grows (suc u)) more in
     omega (arith, here, rest, sum_by-cons (λ (x : TenantState). x.refusals) p ps, sum_by-cons (λ (x : TenantState). x.refusals) q qs)
 
-below_or_ended : (n : ℕ) → (n < END) ⊎ (END ≤ n)
+pub below_or_ended : (n : ℕ) → (n < END) ⊎ (END ≤ n)
 below_or_ended n = grind arith
 
 -- the tenant's count is at least as many above the one before as the store's failures, or at its end

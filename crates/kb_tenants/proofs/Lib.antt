@@ -3,6 +3,7 @@ pub mod Added
 pub mod Alone
 pub mod Answered
 pub mod Causes
+pub mod Shares
 pub mod Change
 pub mod Ended
 pub mod Hosted
@@ -13,6 +14,7 @@ pub mod Ordered
 pub mod Others
 pub mod Passed
 pub mod Renewal
+pub mod Skipped
 pub mod Small
 pub mod SmallLog
 pub mod Synced

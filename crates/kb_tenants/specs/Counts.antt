@@ -1,7 +1,11 @@
 -- What is counted for a tenant beside its refusals: how many of them were the store's.
-use Rattle.std.specs.Prelude.{◌≡◌, ◌≤◌, ◌+◌, ◌-◌, ℕ, List, get_or, map, min}
+use Rattle.std.specs.Prelude.{◌≡◌, ◌≤◌, ◌+◌, ◌-◌, ◌⊎◌, ℕ, zero, suc, List, get_or, length, map, max, min}
+use Rattle.kb_store.specs.Disk.{Disk}
+use Rattle.kb_log.specs.OnShelf.{Log}
 use Rattle.kb_tenant_state.specs.Counts.{END}
 use Rattle.kb_tenant_api.specs.Hosted.{TenantState, refusals_of}
+use Rattle.kb_tenant_api.specs.Turns.{IsAccounted}
+use Rattle.kb_tenants.specs.Tenants.{hosted}
 use Rattle.kb_tenants.specs.declared.counts.Counts.{Counts}
 use Rattle.kb_tenants.specs.declared.tenants.Tenant.{Tenant}
 use Rattle.kb_tenants.specs.declared.tenants.Tenants.{Tenants}
@@ -10,21 +14,74 @@ use Rattle.kb_tenants.specs.declared.tenants.Tenants.{Tenants}
 abbrev pub no_counts : Counts
 no_counts = record { by_store = 0 }
 
+-- a count that rises by so many, and stays at its end
+abbrev pub risen : ℕ → ℕ → ℕ
+risen n count = max count (min (count + n) END)
+
 -- the store has refused so many calls more
 abbrev pub with_store : ℕ → Counts → Counts
-with_store n c = record c { by_store = min (c.by_store + n) END }
+with_store n c = record c { by_store = risen n c.by_store }
 
 -- what is counted for the tenant at a place
 abbrev pub counts_of : {L S : Type 0} → Tenants L S → ℕ → Counts
 counts_of {L} ts t = get_or (map (λ (x : Tenant L). x.counts) ts.tenants.items) t no_counts
 
--- how many of its refusals were the store's
-abbrev pub store_refusals : {L S : Type 0} → Tenants L S → ℕ → ℕ
-store_refusals ts t = (counts_of ts t).by_store
+-- how many refusals of each tenant were the store's, by place
+abbrev pub store_counts : {L S : Type 0} → Tenants L S → List ℕ
+store_counts {L} ts = map (λ (x : Tenant L). x.counts.by_store) ts.tenants.items
 
--- A call for the tenant at a place, in which the store's failures went from one number to another: as many refusals more are the store's,
--- all of them among those that were counted for the tenant, and for another tenant none is.
-pub record IsCaused (t : ℕ) (before after : List TenantState) (failures later : ℕ) (old new : ℕ → Counts) : Type 0 where
-  pub store : (new t).by_store ≡ min ((old t).by_store + (later - failures)) END
+-- of so many refusals of the tenant at a place so many are told as the store's: the others were of memory
+abbrev pub store_share : List ℕ → ℕ → ℕ → ℕ
+store_share counts t refusals = min (get_or counts t 0) refusals
+
+-- ---- a call for one of them
+
+-- A call for the tenant at a place, in which the store's failures went from one number to another. What the store refused was counted;
+-- as many refusals more are the store's, all of them among those that were counted for the tenant; and for another tenant none is.
+pub record IsCounted (t : ℕ) (before after : List TenantState) (failures later : ℕ) (old new : ℕ → Counts) : Type 0 where
+  pub accounted : IsAccounted before after failures later
+  pub store : (new t).by_store ≡ risen (later - failures) (old t).by_store
   pub among : min (refusals_of before t + (later - failures)) END ≤ refusals_of after t
   pub others : (u : ℕ) → (u ≡ t → ⊥) → new u ≡ old u
+
+-- so it is of tenants on their shelf
+abbrev pub IsCountedFor : {L S : Type 0} → (L → Log) → (S → Disk) → ℕ → Tenants L S → Tenants L S → Type 0
+IsCountedFor log disk t old new = IsCounted t (hosted log disk old) (hosted log disk new) (disk old.shelf.store).failures
+    (disk new.shelf.store).failures (counts_of old) (counts_of new)
+
+-- none of these counts is another
+abbrev pub AreSameCounts : {L S : Type 0} → Tenants L S → Tenants L S → Type 0
+AreSameCounts old new = (t : ℕ) → counts_of new t ≡ counts_of old t
+
+-- ---- calls for any of them
+
+-- how many refusals of the first so many tenants are the store's
+abbrev pub store_total : ℕ → (ℕ → Counts) → ℕ
+store_total zero cs = 0
+store_total (suc n) cs = store_total n cs + (cs n).by_store
+
+-- such a count of some tenant has come to its end
+abbrev pub HasEndedAtStore : (ℕ → Counts) → Type 0
+HasEndedAtStore cs = (t : ℕ) × (END ≤ (cs t).by_store)
+
+-- Calls for any tenants, in which the store's failures went from one number to another. What the store refused was counted; of all tenants
+-- together as many refusals more are the store's, unless a count has come to its end; and those of each are among the refusals that were
+-- counted for it.
+pub record AreCounted (before after : List TenantState) (failures later : ℕ) (old new : ℕ → Counts) : Type 0 where
+  pub accounted : IsAccounted before after failures later
+  pub store : (store_total (length before) new + failures ≡ store_total (length before) old + later) ⊎ HasEndedAtStore new
+  pub among : (t : ℕ) → min (refusals_of before t + ((new t).by_store - (old t).by_store)) END ≤ refusals_of after t
+  pub rise : (t : ℕ) → (old t).by_store ≤ (new t).by_store
+
+-- the counts of tenants of whose refusals so many are the store's, by place
+abbrev pub shared_as : List ℕ → ℕ → Counts
+shared_as counts t = record { by_store = get_or counts t 0 }
+
+-- so it is where these are how many of each tenant's refusals are the store's
+abbrev pub AreShared : List TenantState → List TenantState → ℕ → ℕ → List ℕ → List ℕ → Type 0
+AreShared before after failures later old new = AreCounted before after failures later (shared_as old) (shared_as new)
+
+-- so it is of tenants on their shelf
+abbrev pub AreCountedFor : {L S : Type 0} → (L → Log) → (S → Disk) → Tenants L S → Tenants L S → Type 0
+AreCountedFor log disk old new = AreCounted (hosted log disk old) (hosted log disk new) (disk old.shelf.store).failures
+    (disk new.shelf.store).failures (counts_of old) (counts_of new)

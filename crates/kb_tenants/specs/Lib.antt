@@ -1,4 +1,5 @@
 pub mod Counts
+pub mod Ids
 pub mod Limited
 pub mod Members
 pub mod Renewal

@@ -44,6 +44,7 @@ impl<L: PartitionLog + Drop, S: Store> Engine<L, S> {
         ensures silent { IsSilent self.old.state self.new.state }
         ensures store { self.new.store ≡ self.old.store }
         ensures strays { self.new.strays ≡ self.old.strays }
+        ensures by_store { self.new.by_store ≡ self.old.by_store }
     {
         if self.connections[i].overruns(piece) {
             self.leave(i); // it is shut
@@ -72,6 +73,7 @@ impl<L: PartitionLog + Drop, S: Store> Engine<L, S> {
             } }
         ensures store { self.new.store ≡ self.old.store }
         ensures strays { self.new.strays ≡ self.old.strays }
+        ensures by_store { self.new.by_store ≡ self.old.by_store }
     {
         let connection = &self.connections[i];
         if !connection.has_member() {
@@ -376,6 +378,7 @@ impl<L: PartitionLog + Drop, S: Store> Engine<L, S> {
         ensures counted { IsCountedAt number (stage_of phase) self.old.state self.new.state }
         ensures store { self.new.store ≡ self.old.store }
         ensures strays { self.new.strays ≡ self.old.strays }
+        ensures by_store { self.new.by_store ≡ self.old.by_store }
     {
         match phase {
             Phase::Greets(_) => self.unbound_refusals = counted(self.unbound_refusals),

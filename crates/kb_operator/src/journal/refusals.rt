@@ -84,11 +84,12 @@ fn push_grown<B: RefusalCounts>(
     tenant: &mut Tenant,
     broker: &B,
 ) -> Result<(), AllocError> {
-    let grown = tenant.refusals.grown(broker.of_tenant(&tenant.name));
+    let refused = broker.of_tenant(tenant.place);
+    let grown = tenant.refusals.grown(refused.all);
     if grown == 0 {
         return Ok(());
     }
-    let by_disk = tenant.by_disk.grown(broker.of_tenant_by_disk(&tenant.name));
+    let by_disk = tenant.by_disk.grown(refused.by_disk);
     let name = tenant.name.as_str();
     counts.push_str(&format!(in alloc; ", tenant {name} {grown}")?)?;
     if by_disk > 0 {

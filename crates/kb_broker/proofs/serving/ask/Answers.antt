@@ -7,6 +7,7 @@ use Rattle.kb_tenants.specs.Tenants.{shelf_is_honest, IsCatalogFull}
 use Rattle.kb_broker.specs.Hosts.{tenants_in}
 use Rattle.kb_broker.proofs.TenantTurns.{answered-now, asked-on, released-now, touched-now}
 use Rattle.kb_broker.specs.Places.{IsTrueAnswer}
+use Rattle.kb_broker.proofs.Counted.{later-called}
 use Rattle.kb_broker.proofs.serving.ask.Goals as goal
 
 pub returns-then-released-clause-meets : goal.returns-then-released-clause-meets
@@ -109,3 +110,18 @@ returns-then-refused-clause-truthful g c = λ honest.
     let r = c.serve-answer.result in
     let failed = FailedBy (disk a.tenants.now.shelf.store).failures (disk us.shelf.store).failures us.shelf.next in
     (r.touched.items, subst (λ node. IsTrueAnswer failed (IsCatalogFull log us a.tenant) node a.clock q.connection q.api_key q.api_version q.correlation_id q.body.now (kept_of (tenants_in log disk a.tenants.now) a.tenant) (kept_of (tenants_in log disk us) a.tenant) r.touched.items r.answer) c.node-node.ensures.node (record { truthful = c.serve-answer.ensures.truthful honest; groups = c.serve-answer.ensures.groups honest }))
+
+pub returns-then-released-clause-later : goal.returns-then-released-clause-later
+returns-then-released-clause-later g c =
+    let s = c.serve-answer.ensures in
+    later-called g.L.PartitionLog.log g.S.Store.disk c.args.tenants.now c.serve-answer.new.self c.args.tenant (shelf_is_honest g.S.Store.disk c.serve-answer.new.self) c.requires.tenant s.honest s.failures s.turn s.accounted s.strays s.left_alone
+
+pub returns-else-released-clause-later : goal.returns-else-released-clause-later
+returns-else-released-clause-later g c =
+    let s = c.serve-answer.ensures in
+    later-called g.L.PartitionLog.log g.S.Store.disk c.args.tenants.now c.serve-answer.new.self c.args.tenant (shelf_is_honest g.S.Store.disk c.serve-answer.new.self) c.requires.tenant s.honest s.failures s.turn s.accounted s.strays s.left_alone
+
+pub returns-then-refused-clause-later : goal.returns-then-refused-clause-later
+returns-then-refused-clause-later g c =
+    let s = c.serve-answer.ensures in
+    later-called g.L.PartitionLog.log g.S.Store.disk c.args.tenants.now c.serve-answer.new.self c.args.tenant (shelf_is_honest g.S.Store.disk c.serve-answer.new.self) c.requires.tenant s.honest s.failures s.turn s.accounted s.strays s.left_alone

@@ -10,6 +10,8 @@ use Rattle.kb_connection.specs.View.{awaited_of, wait_of}
 use Rattle.kb_broker.specs.Hosts.{tenants_in}
 use Rattle.kb_broker.specs.Places.{TellsAwaited}
 use Rattle.kb_broker.proofs.TenantTurns.{calm-or, refused-answer}
+use Rattle.kb_tenants.specs.Tenants.{shelf_is_honest}
+use Rattle.kb_broker.proofs.Counted.{later-called, later-told}
 use Rattle.kb_broker.proofs.serving.ask_again.Goals as goal
 
 pub returns-in-Records-clause-meets : goal.returns-in-Records-clause-meets
@@ -85,3 +87,13 @@ returns-in-Group-clause-told g c = λ honest.
     let k = kept_of (tenants_in g.L.PartitionLog.log disk a.tenants.now) a.tenant in
     let failed = FailedBy (disk a.tenants.now.shelf.store).failures (disk shelf.store).failures shelf.next in
     subst (λ x. TellsAwaited failed a.waiting.now.head.correlation_id a.clock k (awaited_of x) c.tell.result) (sym c.in-Group.is) tt
+
+pub returns-in-Records-clause-later : goal.returns-in-Records-clause-later
+returns-in-Records-clause-later g c =
+    let s = c.look.ensures in
+    later-called g.L.PartitionLog.log g.S.Store.disk c.args.tenants.now c.look.new.self c.args.tenant (shelf_is_honest g.S.Store.disk c.look.new.self) c.requires.tenant s.honest s.failures s.turn s.accounted s.strays s.left_alone
+
+pub returns-in-Group-clause-later : goal.returns-in-Group-clause-later
+returns-in-Group-clause-later g c =
+    let s = c.tell.ensures in
+    later-told g.L.PartitionLog.log g.S.Store.disk c.args.tenants.now c.tell.new.self c.args.tenant (shelf_is_honest g.S.Store.disk c.tell.new.self) c.requires.tenant s.turn s.accounted s.strays s.shelf

@@ -10,9 +10,12 @@ use Rattle.kb_broker.specs.Hosts.{tenants_in, IsLaterWith}
 use Rattle.kb_broker.specs.Places.{IsLookAnswer, TellsAwaited}
 use Rattle.kb_tenant_api.specs.declared.answer.Answer.TheVariants as any
 use Rattle.kb_broker.proofs.Handled.{from_err, from_ok}
-use Rattle.kb_broker.proofs.Honest.{later-by, later-counted}
+use Rattle.kb_broker.proofs.Honest.{later-by, later-counted, later-none}
 use Rattle.kb_broker.proofs.TenantTurns.{looked-ok, looked-err}
 use Rattle.kb_broker.proofs.PutOut.{again-told, member-answered, put-shut}
+use Rattle.kb_tenants.specs.Counts.{store_counts}
+use Rattle.kb_tenants.proofs.Passed.{length_named}
+use Rattle.kb_tenants.proofs.Shares.{shares_kept}
 use Rattle.kb_broker.proofs.serving.look_again.Goals as goal
 
 pub returns-else-is_err-clause-looked : goal.returns-else-is_err-clause-looked
@@ -26,7 +29,7 @@ returns-else-is_err-clause-looked g c =
     (subst (λ n. IsMet t (shelf_is_honest g.S.Store.disk c.ask_again-answer.new.tenants) (tenants_in g.L.PartitionLog.log g.S.Store.disk a.tenants.now) (tenants_in g.L.PartitionLog.log g.S.Store.disk c.ask_again-answer.new.tenants)
     (λ k m. (m ≡ k) × plain.IsAnswer w.head.correlation_id (ready k a.clock n (wait_of w)) c.ask_again-answer.result)) c.number-number.ensures l.meets)
     (λ honest. subst (λ n. IsLookAnswer t a.clock n (tenants_in g.L.PartitionLog.log g.S.Store.disk a.tenants.now)
-    (tenants_in g.L.PartitionLog.log g.S.Store.disk c.ask_again-answer.new.tenants) (wait_of w) c.ask_again-answer.result) c.number-number.ensures (l.answers honest)) c.wake.ensures.ok c.wake.ensures.number c.wake.ensures.stage c.wake.ensures.unread c.wake.ensures.ends (sym c.is_err.ensures.value ∙ c.if-is_err.false)
+    (tenants_in g.L.PartitionLog.log g.S.Store.disk c.ask_again-answer.new.tenants) (wait_of w) c.ask_again-answer.result) c.number-number.ensures (l.answers honest)) c.wake.ensures.ok c.wake.ensures.number c.wake.ensures.stage c.wake.ensures.unread c.wake.ensures.limit c.wake.ensures.ends (sym c.is_err.ensures.value ∙ c.if-is_err.false)
 
 pub returns-then-is_err-clause-looked : goal.returns-then-is_err-clause-looked
 returns-then-is_err-clause-looked g c =
@@ -48,10 +51,13 @@ returns-then-is_err-clause-later g c =
     let after = c.ask_again-answer.new.tenants in
     let end = c.refuse.new.self in
     let r = c.refuse.ensures in
-    let counted = later-counted (disk after.shelf.store) (numbers_in after.strays) (tenants_in g.L.PartitionLog.log disk after) (tenants_in g.L.PartitionLog.log disk end) r.turn.names r.turn.grows in
-    later-by (disk before.shelf.store) (disk after.shelf.store) (disk end.shelf.store) (numbers_in before.strays) (numbers_in after.strays) (numbers_in end.strays) (tenants_in g.L.PartitionLog.log disk before) (tenants_in g.L.PartitionLog.log disk after) (tenants_in g.L.PartitionLog.log disk end) c.ask_again-answer.ensures.later
-    (subst (λ files. IsLaterWith (disk after.shelf.store) (disk end.shelf.store) (numbers_in after.strays) (numbers_in files) (tenants_in g.L.PartitionLog.log disk after) (tenants_in g.L.PartitionLog.log disk end)) (sym r.strays)
-    (subst (λ shelf. IsLaterWith (disk after.shelf.store) (disk shelf.store) (numbers_in after.strays) (numbers_in after.strays) (tenants_in g.L.PartitionLog.log disk after) (tenants_in g.L.PartitionLog.log disk end)) (sym r.shelf) counted))
+    let counted = later-counted (disk after.shelf.store) (numbers_in after.strays) (tenants_in g.L.PartitionLog.log disk after) (tenants_in g.L.PartitionLog.log disk end) (store_counts after) r.turn.names r.turn.grows in
+    let shares = shares_kept g.L.PartitionLog.log disk after end (length_named (tenants_in g.L.PartitionLog.log disk after) (tenants_in g.L.PartitionLog.log disk end) r.turn.names) r.causes in
+    later-by (disk before.shelf.store) (disk after.shelf.store) (disk end.shelf.store) (numbers_in before.strays) (numbers_in after.strays) (numbers_in end.strays) (tenants_in g.L.PartitionLog.log disk before) (tenants_in g.L.PartitionLog.log disk after) (tenants_in g.L.PartitionLog.log disk end)
+    (store_counts before) (store_counts after) (store_counts end) c.ask_again-answer.ensures.later
+    (subst (λ files. IsLaterWith (disk after.shelf.store) (disk end.shelf.store) (numbers_in after.strays) (numbers_in files) (tenants_in g.L.PartitionLog.log disk after) (tenants_in g.L.PartitionLog.log disk end) (store_counts after) (store_counts end)) (sym r.strays)
+    (subst (λ shelf. IsLaterWith (disk after.shelf.store) (disk shelf.store) (numbers_in after.strays) (numbers_in after.strays) (tenants_in g.L.PartitionLog.log disk after) (tenants_in g.L.PartitionLog.log disk end) (store_counts after) (store_counts end)) (sym r.shelf)
+    (subst (IsLaterWith (disk after.shelf.store) (disk after.shelf.store) (numbers_in after.strays) (numbers_in after.strays) (tenants_in g.L.PartitionLog.log disk after) (tenants_in g.L.PartitionLog.log disk end) (store_counts after)) (sym shares) counted)))
 
 pub returns-else-is_err-clause-told : goal.returns-else-is_err-clause-told
 returns-else-is_err-clause-told g c = λ honest.
@@ -96,3 +102,9 @@ returns-then-is_err-clause-told g c = λ honest.
     (subst (λ shelf. Tells (FailedBy before (disk shelf.store).failures shelf.next)) (sym c.refuse.ensures.shelf)
     (asked.told honest_before))
     (member-answered a.clock n t ts us w answer answers) (put-shut w.head (any.Plain answer) a.connection.now c.wake.new.self shut)
+
+pub returns-in_default-clause-later : goal.returns-in_default-clause-later
+returns-in_default-clause-later g c = later-none (g.S.Store.disk c.args.tenants.now.shelf.store) (numbers_in c.args.tenants.now.strays) (tenants_in g.L.PartitionLog.log g.S.Store.disk c.args.tenants.now) (store_counts c.args.tenants.now)
+
+pub returns-then-not-is_looked_for-clause-later : goal.returns-then-not-is_looked_for-clause-later
+returns-then-not-is_looked_for-clause-later g c = later-none (g.S.Store.disk c.args.tenants.now.shelf.store) (numbers_in c.args.tenants.now.strays) (tenants_in g.L.PartitionLog.log g.S.Store.disk c.args.tenants.now) (store_counts c.args.tenants.now)

@@ -9,15 +9,17 @@ use Rattle.kb_tenant_api.specs.Waiters.{AreServed, IsWaitTold}
 use Rattle.kb_tenant.specs.declared.request.Request.{Request}
 use Rattle.kb_isolation_spec.specs.Machine.{Line}
 use Rattle.kb_isolation_spec.specs.Tenant.{answer, kept_after}
-use Rattle.kb_api_group.specs.Frames.{front}
+use Rattle.kb_isolation_spec.specs.Session.{in_front}
 use Rattle.kb_connection.specs.Fronts.{IsAsked, IsOwn, head_at}
 use Rattle.kb_tenant.specs.Told.{FailedBy}
-use Rattle.kb_tenants.specs.Tenants.{shelf_is_honest, IsCatalogFull}
+use Rattle.kb_tenants.specs.Tenants.{shelf_is_honest, IsCatalogFull, numbers_in}
 use Rattle.kb_broker.specs.Hosts.{tenants_in}
 use Rattle.kb_broker.specs.Places.{IsTrueAnswer}
 use Rattle.kb_broker.proofs.TenantTurns.{member-told, spent-shut, spent-served, asked-now}
 use Rattle.kb_broker.proofs.Served.{dated-none, keyed-answered, keyed-none, owned-none, owned-shut, own-free, own-touched, turned-touched}
 use Rattle.kb_broker.proofs.PutOut.{told-asked, told-own, told-shut}
+use Rattle.kb_tenants.specs.Counts.{store_counts}
+use Rattle.kb_broker.proofs.Honest.{later-none}
 use Rattle.kb_broker.proofs.serving.serve_bound.Goals as goal
 
 pub returns-in_err-serve-in-Ok-None-clause-spent : goal.returns-in_err-serve-in-Ok-None-clause-spent
@@ -67,7 +69,7 @@ returns-clause-ok g c = λ honest calm.
     let a = c.args in
     let q = c.in-Ok-Some.request in
     let s = a.connection.now.session in
-    let h = head_at a.setup.now.versions (front s.unread) in
+    let h = head_at a.setup.now.versions (in_front s) in
     let asked = subst (λ found. IfSome found (λ (r : Request). IsAsked a.setup.now s r.api_key r.api_version h r.body.now)) c.in-Ok-Some.field-0-is c.in-Ok-Some.ensures.asked in
     let numbered : q.correlation_id ≡ h.correlation_id = subst (λ found. IfSome found (λ (r : Request). r.correlation_id ≡ h.correlation_id)) c.in-Ok-Some.field-0-is c.in-Ok-Some.ensures.numbered in
     let same : q.connection ≡ a.connection.now.number = subst (λ found. IfSome found (λ (r : Request). r.connection ≡ a.connection.now.number)) c.in-Ok-Some.field-0-is c.in-Ok-Some.ensures.number in
@@ -83,7 +85,7 @@ returns-clause-keyed g c = λ honest.
     let a = c.args in
     let q = c.in-Ok-Some.request in
     let s = a.connection.now.session in
-    let h = head_at a.setup.now.versions (front s.unread) in
+    let h = head_at a.setup.now.versions (in_front s) in
     let asked = subst (λ found. IfSome found (λ (r : Request). IsAsked a.setup.now s r.api_key r.api_version h r.body.now)) c.in-Ok-Some.field-0-is c.in-Ok-Some.ensures.asked in
     let numbered : q.correlation_id ≡ h.correlation_id = subst (λ found. IfSome found (λ (r : Request). r.correlation_id ≡ h.correlation_id)) c.in-Ok-Some.field-0-is c.in-Ok-Some.ensures.numbered in
     let same : q.connection ≡ a.connection.now.number = subst (λ found. IfSome found (λ (r : Request). r.connection ≡ a.connection.now.number)) c.in-Ok-Some.field-0-is c.in-Ok-Some.ensures.number in
@@ -132,7 +134,7 @@ returns-clause-member g c =
     let t = a.tenant in
     let q = c.in-Ok-Some.request in
     let s = a.connection.now.session in
-    let h = head_at a.setup.now.versions (front s.unread) in
+    let h = head_at a.setup.now.versions (in_front s) in
     let asked = subst (λ found. IfSome found (λ (r : Request). IsAsked a.setup.now s r.api_key r.api_version h r.body.now)) c.in-Ok-Some.field-0-is c.in-Ok-Some.ensures.asked in
     let numbered : q.correlation_id ≡ h.correlation_id = subst (λ found. IfSome found (λ (r : Request). r.correlation_id ≡ h.correlation_id)) c.in-Ok-Some.field-0-is c.in-Ok-Some.ensures.numbered in
     let same = subst (λ found. IfSome found (λ (r : Request). r.connection ≡ a.connection.now.number)) c.in-Ok-Some.field-0-is c.in-Ok-Some.ensures.number in
@@ -184,7 +186,7 @@ returns-clause-told g c = λ honest.
     let disk = g.S.Store.disk in
     let ts = tenants_in log disk a.tenants.now in
     let failed = FailedBy (disk a.tenants.now.shelf.store).failures (disk us.shelf.store).failures us.shelf.next in
-    let h = head_at a.setup.now.versions (front s.unread) in
+    let h = head_at a.setup.now.versions (in_front s) in
     let asked = subst (λ found. IfSome found (λ (r : Request). IsAsked a.setup.now s r.api_key r.api_version h r.body.now)) c.in-Ok-Some.field-0-is c.in-Ok-Some.ensures.asked in
     let numbered : q.correlation_id ≡ h.correlation_id = subst (λ found. IfSome found (λ (r : Request). r.correlation_id ≡ h.correlation_id)) c.in-Ok-Some.field-0-is c.in-Ok-Some.ensures.numbered in
     let same : q.connection ≡ a.connection.now.number = subst (λ found. IfSome found (λ (r : Request). r.connection ≡ a.connection.now.number)) c.in-Ok-Some.field-0-is c.in-Ok-Some.ensures.number in
@@ -204,7 +206,7 @@ returns-in_err-hand_over-clause-told g c = λ honest.
     let disk = g.S.Store.disk in
     let ts = tenants_in log disk a.tenants.now in
     let failed = FailedBy (disk a.tenants.now.shelf.store).failures (disk us.shelf.store).failures us.shelf.next in
-    let h = head_at a.setup.now.versions (front s.unread) in
+    let h = head_at a.setup.now.versions (in_front s) in
     let asked = subst (λ found. IfSome found (λ (r : Request). IsAsked a.setup.now s r.api_key r.api_version h r.body.now)) c.in-Ok-Some.field-0-is c.in-Ok-Some.ensures.asked in
     let numbered : q.correlation_id ≡ h.correlation_id = subst (λ found. IfSome found (λ (r : Request). r.correlation_id ≡ h.correlation_id)) c.in-Ok-Some.field-0-is c.in-Ok-Some.ensures.numbered in
     let same : q.connection ≡ a.connection.now.number = subst (λ found. IfSome found (λ (r : Request). r.connection ≡ a.connection.now.number)) c.in-Ok-Some.field-0-is c.in-Ok-Some.ensures.number in
@@ -212,3 +214,12 @@ returns-in_err-hand_over-clause-told g c = λ honest.
     let truthful = subst (λ n. IsTrueAnswer failed (IsCatalogFull log us t) (node_of a.setup.now a.tenant) a.clock n q.api_key q.api_version h.correlation_id q.body.now (kept_of ts t) (kept_of (tenants_in log disk us) t) truth.0 c.ask.result.0) same
     (subst (λ id. IsTrueAnswer failed (IsCatalogFull log us t) (node_of a.setup.now a.tenant) a.clock q.connection q.api_key q.api_version id q.body.now (kept_of ts t) (kept_of (tenants_in log disk us) t) truth.0 c.ask.result.0) numbered truth.1) in
     told-asked failed (IsCatalogFull log us) a.setup.now a.clock a.connection.now.number t ts (tenants_in log disk us) s c.hand_over.new.connection.session q.api_key q.api_version h q.body.now truth.0 c.ask.result.0 asked truthful (c.hand_over.ensures.output q.api_key q.api_version h q.body.now asked)
+
+pub returns-in_err-serve-in-Ok-None-clause-later : goal.returns-in_err-serve-in-Ok-None-clause-later
+returns-in_err-serve-in-Ok-None-clause-later g c = later-none (g.S.Store.disk c.args.tenants.now.shelf.store) (numbers_in c.args.tenants.now.strays) (tenants_in g.L.PartitionLog.log g.S.Store.disk c.args.tenants.now) (store_counts c.args.tenants.now)
+
+pub returns-in-Ok-None-clause-later : goal.returns-in-Ok-None-clause-later
+returns-in-Ok-None-clause-later g c = later-none (g.S.Store.disk c.args.tenants.now.shelf.store) (numbers_in c.args.tenants.now.strays) (tenants_in g.L.PartitionLog.log g.S.Store.disk c.args.tenants.now) (store_counts c.args.tenants.now)
+
+pub returns-in-Err-clause-later : goal.returns-in-Err-clause-later
+returns-in-Err-clause-later g c = later-none (g.S.Store.disk c.args.tenants.now.shelf.store) (numbers_in c.args.tenants.now.strays) (tenants_in g.L.PartitionLog.log g.S.Store.disk c.args.tenants.now) (store_counts c.args.tenants.now)

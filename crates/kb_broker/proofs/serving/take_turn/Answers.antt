@@ -2,10 +2,10 @@ use Rattle.kb_isolation_spec.specs.Greeting.{for_tenant}
 use Rattle.std.proofs.Common.{◌≡◌, None, inl, inr, subst, sym, ◌∙◌}
 use Rattle.std.specs.FinMap as fin
 use Rattle.kb_tenant.specs.Told.{FailedBy}
-use Rattle.kb_tenants.specs.Tenants.{commands_of, shelf_is_honest, IsCatalogFull}
+use Rattle.kb_tenants.specs.Tenants.{commands_of, shelf_is_honest, IsCatalogFull, numbers_in}
 use Rattle.kb_connection.specs.View.{greeting_of}
 use Rattle.kb_broker.specs.Hosts.{tenants_in}
-use Rattle.kb_isolation_spec.specs.Session.{BoundTo}
+use Rattle.kb_isolation_spec.specs.Session.{BoundTo, in_front}
 use Rattle.kb_isolation_spec.specs.Machine.{after_turn, put}
 use Rattle.kb_broker.specs.Places.{IsMemberTurnAt, IsTakenAt, IsToldAt, IsTurnAt, IsWaitTurnAt}
 use Rattle.kb_broker.proofs.Handled.{able-stage}
@@ -14,6 +14,10 @@ use Rattle.kb_broker.proofs.Counted.{asked-counted, keyed-counted, later-loss, l
 use Rattle.kb_broker.proofs.Served.{dated-none, greeted-free, keyed-none, left-by, own-concern, owned-none, owned-shut}
 use Rattle.kb_broker.proofs.TenantTurns.{spent-greeted, spent-shut}
 use Rattle.kb_broker.proofs.PutOut.{told-counted, told-greeted}
+use Rattle.kb_tenants.specs.Counts.{store_counts}
+use Rattle.kb_tenants.proofs.Passed.{length_named}
+use Rattle.kb_tenants.proofs.Shares.{shares_kept}
+use Rattle.kb_broker.proofs.Honest.{later-none}
 use Rattle.kb_broker.proofs.serving.take_turn.Goals as goal
 
 pub returns-in_err-greet-in-Greets-clause-spent : goal.returns-in_err-greet-in-Greets-clause-spent
@@ -109,6 +113,8 @@ pub returns-in_ok-touched-in-Bound-clause-later : goal.returns-in_ok-touched-in-
 returns-in_ok-touched-in-Bound-clause-later g c =
     let w = c.whom_it_concerns.ensures in
     later-loss g.L.PartitionLog.log g.S.Store.disk c.args.tenants.now c.serve_bound.new.tenants c.whom_it_concerns.new.tenants c.in-Bound.tenant c.serve_bound.ensures.later w.turn w.shelf w.strays
+    (shares_kept g.L.PartitionLog.log g.S.Store.disk c.serve_bound.new.tenants c.whom_it_concerns.new.tenants
+    (length_named (tenants_in g.L.PartitionLog.log g.S.Store.disk c.serve_bound.new.tenants) (tenants_in g.L.PartitionLog.log g.S.Store.disk c.whom_it_concerns.new.tenants) w.turn.names) w.counts)
 
 pub returns-in_ok-touched-in-Bound-clause-turn : goal.returns-in_ok-touched-in-Bound-clause-turn
 returns-in_ok-touched-in-Bound-clause-turn g c =
@@ -147,7 +153,7 @@ returns-in_ok-touched-in-Bound-clause-ok g c =
     let t = c.in-Bound.tenant in
     subst (λ st. IsTakenAt (shelf_is_honest disk vs) a.setup.now a.clock a.connection.now.number st (tenants_in log disk a.tenants.now) (tenants_in log disk vs) a.connection.now.session c.serve_bound.new.connection.session) (sym (sym (able-stage c.args.connection.now.session c.requires.able) ∙ sym c.in-Bound.ensures))
     (met-counted t (tenants_in log disk a.tenants.now) (tenants_in log disk us) (tenants_in log disk vs) w.turn w.stays (shelf_is_honest disk us) (shelf_is_honest disk vs)
-    (λ k l. (c.serve_bound.new.connection.session ≡ after_turn (for_tenant a.setup.now t) k a.clock a.connection.now.number a.connection.now.session) × (l ≡ put (for_tenant a.setup.now t) k a.clock a.connection.now.number a.connection.now.session.unread))
+    (λ k l. (c.serve_bound.new.connection.session ≡ after_turn (for_tenant a.setup.now t) k a.clock a.connection.now.number a.connection.now.session) × (l ≡ put (for_tenant a.setup.now t) k a.clock a.connection.now.number (in_front a.connection.now.session)))
     (λ honest. subst (λ shelf. (g.S.Store.disk shelf.store).honest) c.whom_it_concerns.ensures.shelf honest) (c.serve_bound.ensures.turn.grows t) c.in_ok-touched-in-Bound.ensures.ok)
 
 pub returns-in_ok-touched-in-Bound-clause-waits : goal.returns-in_ok-touched-in-Bound-clause-waits
@@ -226,3 +232,9 @@ returns-in_ok-touched-in-Bound-clause-told g c = λ honest.
     let failed = FailedBy before (disk vs.shelf.store).failures vs.shelf.next in
     subst (λ st. IsToldAt failed (IsCatalogFull log vs) a.setup.now a.clock n st ts (tenants_in log disk vs) s r) (sym bound)
     (told-counted failed (commands_of log us) (commands_of log vs) a.setup.now a.clock n c.in-Bound.tenant ts (tenants_in log disk us) (tenants_in log disk vs) s r w.commands w.stays told)
+
+pub returns-in_err-greet-in-Greets-clause-later : goal.returns-in_err-greet-in-Greets-clause-later
+returns-in_err-greet-in-Greets-clause-later g c = later-none (g.S.Store.disk c.args.tenants.now.shelf.store) (numbers_in c.args.tenants.now.strays) (tenants_in g.L.PartitionLog.log g.S.Store.disk c.args.tenants.now) (store_counts c.args.tenants.now)
+
+pub returns-in_ok-greet-in-Greets-clause-later : goal.returns-in_ok-greet-in-Greets-clause-later
+returns-in_ok-greet-in-Greets-clause-later g c = later-none (g.S.Store.disk c.args.tenants.now.shelf.store) (numbers_in c.args.tenants.now.strays) (tenants_in g.L.PartitionLog.log g.S.Store.disk c.args.tenants.now) (store_counts c.args.tenants.now)

@@ -17,7 +17,7 @@ use Rattle.kb_broker.specs.declared.run.Written.{Written}
 use Rattle.kb_broker.specs.Hosts.{is_honest, IsLater}
 use Rattle.kb_broker.specs.Truth.{IsSilent}
 use Rattle.kb_broker.specs.Runs.{happening_of, happenings, sent_of, connections_of, Passes}
-use Rattle.kb_broker.proofs.Honest.{later-same, later-then, later-is, ready-of, state-is, store-is, strays-is}
+use Rattle.kb_broker.proofs.Honest.{by_store-is, later-same, later-then, later-is, ready-of, state-is, store-is, strays-is}
 use Rattle.kb_isolation_spec.proofs.Greetings.{unowned-greets}
 use Rattle.kb_broker.proofs.RunLast.{told-passes}
 use Rattle.kb_broker.proofs.Truth.{silent_emptied}
@@ -94,7 +94,7 @@ loop-event-preserved g c =
 
 -- the last output is taken of the store as it is
 drained-later : (g : given.Over) (c : goal.After-sort_unstable_by_key g) → IsLater g.S.Store.disk c.loop-event.self c.drain.new.self
-drained-later g c = later-is g.S.Store.disk c.loop-event.self c.drain.new.self (store-is _ _ c.drain.ensures.state) (strays-is _ _ c.drain.ensures.state) (ap (λ (x : BrokerState). x.tenants) (state-is _ _ c.drain.ensures.state))
+drained-later g c = later-is g.S.Store.disk c.loop-event.self c.drain.new.self (store-is _ _ c.drain.ensures.state) (strays-is _ _ c.drain.ensures.state) (by_store-is _ _ c.drain.ensures.state) (ap (λ (x : BrokerState). x.tenants) (state-is _ _ c.drain.ensures.state))
     (subst (IsSilent c.loop-event.self.state) (sym (state-is _ _ c.drain.ensures.state)) (silent_emptied c.loop-event.self.state))
 
 -- the whole history, and the order of its list

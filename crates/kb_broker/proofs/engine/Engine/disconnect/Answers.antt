@@ -2,6 +2,7 @@ use Rattle.std.proofs.Common.{◌≡◌, ◌<◌, List, arith, get_or, length, r
 use Rattle.std.specs.FinMap as fin
 use Rattle.kb_isolation_spec.specs.Session.{fresh}
 use Rattle.kb_isolation_spec.specs.Machine.{Line}
+use Rattle.kb_isolation_spec.specs.RequestLimits.{HaveLimit}
 use Rattle.kb_isolation_spec.specs.Broker.{BrokerState, Rising}
 use Rattle.kb_isolation_spec.specs.Calls.{left_by, output_in}
 use Rattle.kb_isolation_spec.proofs.Sets.{find-none}
@@ -13,7 +14,8 @@ use Rattle.kb_broker.specs.Speakers.{IsHeard}
 use Rattle.kb_broker.proofs.Fields.{carried-on, queue-closed, rising-inside}
 use Rattle.kb_broker.proofs.Handled.{at-inside}
 use Rattle.kb_broker.proofs.Heard.{heard-removed, roomy-removed}
-use Rattle.kb_broker.proofs.Honest.{state-is, store-is, strays-is, stands-on}
+use Rattle.kb_broker.proofs.Honest.{by_store-is, state-is, store-is, strays-is, stands-on}
+use Rattle.kb_broker.proofs.RequestLimits.{limit-removed}
 use Rattle.kb_broker.proofs.engine.Engine.disconnect.Given as given
 use Rattle.kb_broker.proofs.engine.Engine.disconnect.Goals as goal
 
@@ -23,7 +25,7 @@ gone g c = left-found _ c.leave.new.self.state c.args.self.now.state c.in-Some.i
 
 pub note-requires : goal.note-requires
 note-requires g c =
-    let d : Line = record { number = 0; session = fresh } in
+    let d : Line = record { number = 0; session = fresh 0 } in
     let b = c.args.self.now.state in
     let i = c.in-Some.i in
     let ls = c.self.inside.connections.items in
@@ -36,20 +38,21 @@ note-requires g c =
 
 pub remove-requires : goal.remove-requires
 remove-requires g c =
-    let d : Line = record { number = 0; session = fresh } in
+    let d : Line = record { number = 0; session = fresh 0 } in
     let same : length c.self.inside.connections.items ≡ length c.args.self.now.state.lines = ap (λ (x : BrokerState). length x.lines) (state-is _ _ c.self.view_is ∙ c.leave.ensures.state d) in
     omega (arith, c.in-Some.ensures.within, same, c.self.inside.connections.ok.0)
 
 pub returns-in-Some-clause-state : goal.returns-in-Some-clause-state
 returns-in-Some-clause-state g c =
-    stands-on c.args.self.now _ _ _ _ (closed-found _ c.leave.new.self.state c.args.self.now.state c.in-Some.i c.args.number c.remove.result c.remove.new.self.items (state-is _ _ c.self.view_is) c.requires.rising (gone g c) c.remove.ensures.items) (store-is _ _ c.self.view_is ∙ c.leave.ensures.store) (strays-is _ _ c.self.view_is ∙ c.leave.ensures.strays)
+    stands-on c.args.self.now _ _ _ _ _ (closed-found _ c.leave.new.self.state c.args.self.now.state c.in-Some.i c.args.number c.remove.result c.remove.new.self.items (state-is _ _ c.self.view_is) c.requires.rising (gone g c) c.remove.ensures.items) (store-is _ _ c.self.view_is ∙ c.leave.ensures.store) (strays-is _ _ c.self.view_is ∙ c.leave.ensures.strays)
+    (by_store-is _ _ c.self.view_is ∙ c.leave.ensures.by_store)
 
 pub returns-in-Some-clause-output : goal.returns-in-Some-clause-output
 returns-in-Some-clause-output g c =
     c.into_output.ensures ∙ sym (ap output_in (find-found c.args.self.now.state c.in-Some.i c.args.number c.remove.result c.requires.rising (gone g c).found))
 
 pub returns-in-None-clause-state : goal.returns-in-None-clause-state
-returns-in-None-clause-state g c = stands-on c.args.self.now _ _ _ _ (closed-none c.args.self.now.state c.args.number c.in-None.ensures.none) refl refl
+returns-in-None-clause-state g c = stands-on c.args.self.now _ _ _ _ _ (closed-none c.args.self.now.state c.args.number c.in-None.ensures.none) refl refl refl
 
 pub returns-in-None-clause-output : goal.returns-in-None-clause-output
 returns-in-None-clause-output g c = c.new.ensures.items ∙ sym (ap output_in (find-none c.args.number c.args.self.now.state.lines c.in-None.ensures.none))
@@ -75,4 +78,5 @@ invariant_of-self g c =
           (λ k ne. c.forget.ensures.others k (λ e. ne (e ∙ sym h.found.number))) (ap (fin.get p) h.found.number ∙ c.forget.ensures.gone) (λ honest. honest) (carried-on ts ls q)),
       subst (IsHeard c.note.new.speakers) (sym c.remove.ensures.items)
           (heard-removed 0 b.last ls i l c.self.inside.speakers c.note.new.speakers c.args.number c.self.invariant.2 (rising-inside _ left inside c.requires.rising) a (sym h.found.number) c.note.ensures.items c.note.ensures.capacity),
+      subst (HaveLimit c.self.inside.setup.request_bytes) (sym c.remove.ensures.items) (limit-removed c.self.inside.setup.request_bytes ls i l a c.self.invariant.3),
     )

@@ -55,7 +55,7 @@ returns g c =
     let given = c.take_piece.ensures.fed in
     let turned = c.run_turns.ensures.turned in
     let going = going-then a b d given.going c.run_turns.ensures.continues in
-    let kept = later-silent disk c.args.self.now c.take_piece.new.self c.take_piece.ensures.store c.take_piece.ensures.strays
+    let kept = later-silent disk c.args.self.now c.take_piece.new.self c.take_piece.ensures.store c.take_piece.ensures.strays c.take_piece.ensures.by_store
     given.going.grows.names given.going.grows.own c.take_piece.ensures.silent in
     let before : is_honest disk c.run_turns.new.self → is_honest disk c.args.self.now = λ honest. kept.honest (c.run_turns.ensures.later.honest honest) in
     record {

@@ -24,4 +24,4 @@ invariant_of-self g c =
     let is : us ≡ left_by clock l.number l.session.stage ts = c.left.ensures.state
     ∙ (ap (λ n. with_kept t (left clock n (kept_of ts t)) ts) c.number.ensures
     ∙ left-some clock l.number t l.session.stage ts (sym c.if-not-has_member.false ∙ c.has_member.ensures) (sym (ap stage_of c.in-Bound.is) ∙ c.phase.ensures)) in
-    (c.left.ensures.invariant, queue-tenants (shelf_is_honest disk old) (shelf_is_honest disk new) q ts us ls c.self.invariant.1 (λ honest. subst (λ x. (disk x.store).honest) c.left.ensures.shelf honest) (λ honest. subst (λ x. IsCarried ts x ls q) (sym is) (carried-left clock l.number l.session.stage ts ls q)), c.self.invariant.2)
+    (c.left.ensures.invariant, queue-tenants (shelf_is_honest disk old) (shelf_is_honest disk new) q ts us ls c.self.invariant.1 (λ honest. subst (λ x. (disk x.store).honest) c.left.ensures.shelf honest) (λ honest. subst (λ x. IsCarried ts x ls q) (sym is) (carried-left clock l.number l.session.stage ts ls q)), c.self.invariant.2, c.self.invariant.3)

@@ -21,9 +21,10 @@ invariant_of-self g c =
       queue-numbered (shelf_is_honest disk old) (shelf_is_honest disk new) c.self.inside.parking (tenants_in g.L.PartitionLog.log disk old) (tenants_in g.L.PartitionLog.log disk new)
           c.self.inside.connections.items c.self.invariant.1 none (λ honest. subst (λ x. (disk x.store).honest) c.limit_groups.ensures.shelf honest),
       c.self.invariant.2,
+      c.self.invariant.3,
     )
 
 pub returns : goal.returns
 returns g c =
-    limited-made c.args.tenant c.args.limits _ c.args.self.now _ _ _ c.self.view_is c.limit_groups.ensures.state
-    (ap (λ x. x.store) c.limit_groups.ensures.shelf) (ap numbers_in c.limit_groups.ensures.strays)
+    limited-made c.args.tenant c.args.limits _ c.args.self.now _ _ _ _ c.self.view_is c.limit_groups.ensures.state
+    (ap (λ x. x.store) c.limit_groups.ensures.shelf) (ap numbers_in c.limit_groups.ensures.strays) c.limit_groups.ensures.counts

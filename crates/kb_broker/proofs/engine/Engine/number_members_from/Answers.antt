@@ -20,9 +20,10 @@ invariant_of-self g c =
       queue-numbered (shelf_is_honest disk old) (shelf_is_honest disk new) c.self.inside.parking (tenants_in g.L.PartitionLog.log disk old) (tenants_in g.L.PartitionLog.log disk new)
           c.self.inside.connections.items c.self.invariant.1 none (λ honest. subst (λ x. (disk x.store).honest) c.number_members_from.ensures.shelf honest),
       c.self.invariant.2,
+      c.self.invariant.3,
     )
 
 pub returns : goal.returns
 returns g c =
-    numbered-made c.args.first _ c.args.self.now _ _ _ c.self.view_is c.number_members_from.ensures.hosted
-    (ap (λ x. x.store) c.number_members_from.ensures.shelf) (ap numbers_in c.number_members_from.ensures.strays)
+    numbered-made c.args.first _ c.args.self.now _ _ _ _ c.self.view_is c.number_members_from.ensures.hosted
+    (ap (λ x. x.store) c.number_members_from.ensures.shelf) (ap numbers_in c.number_members_from.ensures.strays) c.number_members_from.ensures.counts

@@ -6,9 +6,11 @@ use Rattle.kb_tenants.specs.Tenants.{shelf_is_honest}
 use Rattle.kb_broker.specs.Hosts.{tenants_in}
 use Rattle.kb_broker.specs.Places.{IsCountedAt}
 use Rattle.kb_broker.proofs.Handled.{counted-inside, member_at}
-use Rattle.kb_broker.proofs.Honest.{state-is}
+use Rattle.kb_broker.proofs.Honest.{by_store-is, state-is}
 use Rattle.kb_broker.proofs.Left.{left-length}
 use Rattle.kb_broker.proofs.Parked.{IsCarried, carried-left, carried-same, carried-then, queue-tenants}
+use Rattle.kb_tenants.proofs.Passed.{length_named}
+use Rattle.kb_tenants.proofs.Shares.{shares_kept}
 use Rattle.kb_broker.proofs.engine.Engine.refuse.Goals as goal
 
 pub refuse-requires-clause-tenant : goal.refuse-requires-clause-tenant
@@ -39,6 +41,7 @@ invariant_of-self-in-Bound g c =
       queue-tenants (shelf_is_honest disk old) (shelf_is_honest disk new) q ts vs ls c.self.invariant.1 (λ honest. subst (λ x. (disk x.store).honest) (c.refuse.ensures.shelf ∙ c.left.ensures.shelf) honest)
           (λ honest. carried-then ts us vs ls q first (carried-same us vs ls q c.refuse.ensures.turn.grows c.refuse.ensures.stays)),
       c.self.invariant.2,
+      c.self.invariant.3,
     )
 
 pub returns-in-Bound-clause-counted : goal.returns-in-Bound-clause-counted
@@ -50,3 +53,12 @@ returns-in-Bound-clause-counted g c =
     let end : BrokerState = record { setup = i.setup; tenants = vs; unbound_refusals = i.unbound_refusals; clock = i.clock; last = i.last; lines = i.connections.items } in
     subst (λ st. IsCountedAt c.args.number st c.args.self.now.state end) (sym (ap stage_of c.in-Bound.is))
     (counted-inside _ c.args.self.now.state c.in-Bound.tenant c.args.number (tenants_in log disk c.left.new.self) vs (state-is _ _ c.self.view_is) c.left.ensures.state c.refuse.ensures.turn c.refuse.ensures.stays c.refuse.ensures.once)
+
+pub returns-in-Bound-clause-by_store : goal.returns-in-Bound-clause-by_store
+returns-in-Bound-clause-by_store g c =
+    let disk = g.S.Store.disk in
+    let log = g.L.PartitionLog.log in
+    let mid = c.left.new.self in
+    let new = c.refuse.new.self in
+    shares_kept log disk mid new (length_named (tenants_in log disk mid) (tenants_in log disk new) c.refuse.ensures.turn.names) c.refuse.ensures.causes
+    ∙ (c.left.ensures.counts ∙ by_store-is _ _ c.self.view_is)

@@ -4,6 +4,7 @@ use Rattle.kb_isolation_spec.specs.Broker.{BrokerState}
 use Rattle.kb_isolation_spec.specs.Turned.{IsGoing}
 use Rattle.kb_connection.specs.View.{stage_of}
 use Rattle.kb_tenant.specs.Told.{FailedBy}
+use Rattle.kb_tenants.specs.Counts.{store_counts}
 use Rattle.kb_tenants.specs.Tenants.{numbers_in, shelf_is_honest, commands_of, IsCatalogFull}
 use Rattle.kb_tenants.specs.declared.tenants.Tenants.{Tenants}
 use Rattle.kb_broker.specs.Hosts.{OnStore, tenants_in, IsLaterWith}
@@ -17,6 +18,7 @@ use Rattle.kb_broker.proofs.Fields.{rising-inside}
 use Rattle.kb_broker.proofs.Heard.{heard-set, roomy}
 use Rattle.kb_broker.proofs.Honest.{later-by, later-from, later-on, state-is, store-is}
 use Rattle.kb_broker.proofs.Truth.{silent_counted, speaks_silent, speaks_then, true_turn}
+use Rattle.kb_broker.proofs.RequestLimits.{limit-put}
 use Rattle.kb_broker.proofs.engine.Engine.serve.Given as given
 use Rattle.kb_broker.proofs.engine.Engine.serve.Goals as goal
 
@@ -58,6 +60,8 @@ invariant_of-self g c =
           (state-is _ _ c.self.view_is) c.self.invariant.1 (taken-ok g c) t.later.honest (λ honest. c.requires.unready (subst (λ s. (disk s).honest) (store-is _ _ c.self.view_is) honest)) t.asked t.parked t.dated t.owned t.keyed,
       heard-set 0 c.args.self.now.state.last c.self.inside.connections.items c.args.i c.index_mut-connection.result.now new.connection c.self.inside.speakers c.note.new.speakers c.number-number.result c.speaks.result c.self.invariant.2 (rising-inside _ c.args.self.now.state (state-is _ _ c.self.view_is) c.requires.next.sound.rising)
           (at-inside _ c.args.self.now.state c.args.i c.index_mut-connection.result.now (state-is _ _ c.self.view_is) (at-read _ c.args.self.now.state c.args.i c.index_mut-connection.result.now (state-is _ _ c.self.view_is) c.requires.next.within c.index_mut-connection.ensures.value)) t.number c.number-number.ensures c.speaks.ensures c.note.ensures.items c.note.ensures.capacity,
+      limit-put c.self.inside.setup.request_bytes c.self.inside.connections.items c.args.i c.index_mut-connection.result.now new.connection
+          (at-inside _ c.args.self.now.state c.args.i c.index_mut-connection.result.now (state-is _ _ c.self.view_is) (at-read _ c.args.self.now.state c.args.i c.index_mut-connection.result.now (state-is _ _ c.self.view_is) c.requires.next.within c.index_mut-connection.ensures.value)) t.spent.limit c.self.invariant.3,
     )
 
 pub invariant_of-self-in-Err : goal.invariant_of-self-in-Err
@@ -70,6 +74,8 @@ invariant_of-self-in-Err g c =
           (state-is _ _ c.self.view_is) c.self.invariant.1 (taken-at (shelf_is_honest disk new.tenants) _ c.args.self.now.state c.args.i c.index_mut-connection.result.now new.connection (tenants_in g.L.PartitionLog.log disk new.tenants) (state-is _ _ c.self.view_is) c.requires.next c.index_mut-connection.ensures.value t.number t.spent t.turn t.waits) t.later.honest (λ honest. c.requires.unready (subst (λ s. (disk s).honest) (store-is _ _ c.self.view_is) honest)) t.asked t.parked t.dated t.owned t.keyed,
       heard-set 0 c.args.self.now.state.last c.self.inside.connections.items c.args.i c.index_mut-connection.result.now new.connection c.self.inside.speakers c.note.new.speakers c.number-number.result c.speaks.result c.self.invariant.2 (rising-inside _ c.args.self.now.state (state-is _ _ c.self.view_is) c.requires.next.sound.rising)
           (at-inside _ c.args.self.now.state c.args.i c.index_mut-connection.result.now (state-is _ _ c.self.view_is) (at-read _ c.args.self.now.state c.args.i c.index_mut-connection.result.now (state-is _ _ c.self.view_is) c.requires.next.within c.index_mut-connection.ensures.value)) t.number c.number-number.ensures c.speaks.ensures c.note.ensures.items c.note.ensures.capacity,
+      limit-put c.self.inside.setup.request_bytes c.self.inside.connections.items c.args.i c.index_mut-connection.result.now new.connection
+          (at-inside _ c.args.self.now.state c.args.i c.index_mut-connection.result.now (state-is _ _ c.self.view_is) (at-read _ c.args.self.now.state c.args.i c.index_mut-connection.result.now (state-is _ _ c.self.view_is) c.requires.next.within c.index_mut-connection.ensures.value)) t.spent.limit c.self.invariant.3,
     )
 
 -- what was said in it is the truth, whether it was refused or not
@@ -95,7 +101,7 @@ returns-in-Ok g c =
     let q = c.self.inside.parking in
     let who = c.in-Ok.concerned in
     let here = state-is _ _ c.self.view_is in
-    let earlier = subst (λ (x : OnStore g.row.S.Denot). IsLaterWith (disk x.store) (disk c.take_turn-taken.new.tenants.shelf.store) x.strays (numbers_in c.take_turn-taken.new.tenants.strays) x.state.tenants us) c.self.view_is t.later in
+    let earlier = subst (λ (x : OnStore g.row.S.Denot). IsLaterWith (disk x.store) (disk c.take_turn-taken.new.tenants.shelf.store) x.strays (numbers_in c.take_turn-taken.new.tenants.strays) x.state.tenants us x.by_store (store_counts c.take_turn-taken.new.tenants)) c.self.view_is t.later in
     let taken = taken-ok g c in
     let is : IsTakenAt H b.setup b.clock l.number l.session.stage b.tenants us l.session m.session =
     subst (λ (x : BrokerState). IsTakenAt H x.setup x.clock l.number l.session.stage x.tenants us l.session m.session) here c.in-Ok.ensures.ok in
@@ -138,12 +144,13 @@ returns-in-Err g c =
     let shut = ap (λ (x : Line). x.session) c.in-Err.ensures.err in
     let store = c.take_turn-taken.new.tenants.shelf.store in
     let strays = numbers_in c.take_turn-taken.new.tenants.strays in
-    let earlier = subst (λ (x : OnStore g.row.S.Denot). IsLaterWith (disk x.store) (disk store) x.strays strays x.state.tenants us) c.self.view_is t.later in
-    let same = later-on disk store c.refuse.new.self.store strays c.refuse.new.self.strays us end.tenants c.refuse.ensures.store c.refuse.ensures.strays (names-counted l.number l.session.stage (put_with b i m us) end counted) (counts-counted l.number l.session.stage (put_with b i m us) end counted) in
+    let shares = store_counts c.take_turn-taken.new.tenants in
+    let earlier = subst (λ (x : OnStore g.row.S.Denot). IsLaterWith (disk x.store) (disk store) x.strays strays x.state.tenants us x.by_store shares) c.self.view_is t.later in
+    let same = later-on disk store c.refuse.new.self.store strays c.refuse.new.self.strays us end.tenants shares c.refuse.new.self.by_store c.refuse.ensures.store c.refuse.ensures.strays c.refuse.ensures.by_store (names-counted l.number l.session.stage (put_with b i m us) end counted) (counts-counted l.number l.session.stage (put_with b i m us) end counted) in
     record {
       continues = refused-taken H b end i l m us l.session.stage taken refl shut taken.turn counted;
       later = later-from disk c.args.self.now c.refuse.new.self
-          (later-by (disk c.args.self.now.store) (disk store) (disk c.refuse.new.self.store) c.args.self.now.strays strays c.refuse.new.self.strays b.tenants us end.tenants earlier same)
+          (later-by (disk c.args.self.now.store) (disk store) (disk c.refuse.new.self.store) c.args.self.now.strays strays c.refuse.new.self.strays b.tenants us end.tenants c.args.self.now.by_store shares c.refuse.new.self.by_store earlier same)
           (λ honest. speaks_then b (put_with b i m us) end
           (subst (λ (x : BrokerState). SpeaksTruth b (put_with x i m us)) here
           (turn-told g c.self.inside.tenants.shelf.store c.take_turn-taken.new.tenants _ b i l m here (same.honest honest) taken (t.told (same.honest honest))))

@@ -6,11 +6,11 @@ use Rattle.kb_tenant.specs.Replies.{IsAnswer}
 use Rattle.kb_tenant.specs.Serve.{looked}
 use Rattle.kb_tenant.specs.Told.{AnswersLook, FailedBy}
 use Rattle.kb_tenants.specs.Counts.{with_store}
-use Rattle.kb_tenants.proofs.Causes.{caused_called}
+use Rattle.kb_tenants.proofs.Causes.{counted_called}
 use Rattle.kb_tenants.proofs.Ended.{ended_told}
 use Rattle.kb_tenants.specs.Tenants.{hosted}
 use Rattle.kb_tenants.proofs.Change.{called}
-use Rattle.kb_tenants.proofs.Hosted.{accounted_called, alone_called, sound_here, kept_stay_called, turn_called, met_called, stays_called, told_called, calm_called, calm_from}
+use Rattle.kb_tenants.proofs.Hosted.{alone_called, sound_here, kept_stay_called, turn_called, met_called, stays_called, told_called, calm_called, calm_from}
 use Rattle.kb_tenants.proofs.tenants.Tenants.look.Goals as goal
 
 pub look-answer-requires : goal.look-answer-requires
@@ -64,13 +64,6 @@ returns-then-is_calm-clause-answered g c = λ loud. absurd (loud
     c.requires.tenant c.index_mut-one.ensures.value c.requires.invariant c.look-answer.new.parts c.count.new.parts (min (c.refusals-before.result + (c.failures.result - c.failures-failures.result)) END) c.index_mut-one.result.now.groups c.add_store.new.self c.look-answer.new.shelf c.count.ensures (called c.look-answer.ensures.step)
     (subst (λ n. IsCalm n c.count.new.parts.refusals) c.refusals-before.ensures (c.is_calm.ensures.calm c.if-is_calm.true))))
 
-pub returns-then-is_calm-clause-accounted : goal.returns-then-is_calm-clause-accounted
-returns-then-is_calm-clause-accounted g c =
-    accounted_called g.L.PartitionLog.log g.S.Store.disk g.met.L.PartitionLog.lawful c.args.self.now c.args.tenant c.index_mut-one.result.now
-    c.requires.tenant c.index_mut-one.ensures.value c.requires.invariant c.look-answer.new.parts c.count.new.parts (min (c.refusals-before.result + (c.failures.result - c.failures-failures.result)) END) c.index_mut-one.result.now.groups c.add_store.new.self c.look-answer.new.shelf c.count.ensures (called c.look-answer.ensures.step)
-    (c.failures.result - c.failures-failures.result) (ap (λ k. min (k + (c.failures.result - c.failures-failures.result)) END) c.refusals-before.ensures)
-    (omega (arith, c.failures.ensures, c.failures-failures.ensures, c.look-answer.ensures.step.frame.failures))
-
 -- ---- something was refused, or the count is at its end
 
 pub returns-else-is_calm-clause-invariant : goal.returns-else-is_calm-clause-invariant
@@ -113,29 +106,22 @@ returns-else-is_calm-clause-stays g c =
     stays_called g.L.PartitionLog.log g.S.Store.disk g.met.L.PartitionLog.lawful c.args.self.now c.args.tenant c.index_mut-one.result.now
     c.requires.tenant c.index_mut-one.ensures.value c.requires.invariant c.look-answer.new.parts c.count.new.parts (min (c.refusals-before.result + (c.failures.result - c.failures-failures.result)) END) c.index_mut-one.result.now.groups c.add_store.new.self c.look-answer.new.shelf c.count.ensures (called c.look-answer.ensures.step) refl c.look-answer.ensures.same
 
-pub returns-else-is_calm-clause-accounted : goal.returns-else-is_calm-clause-accounted
-returns-else-is_calm-clause-accounted g c =
-    accounted_called g.L.PartitionLog.log g.S.Store.disk g.met.L.PartitionLog.lawful c.args.self.now c.args.tenant c.index_mut-one.result.now
-    c.requires.tenant c.index_mut-one.ensures.value c.requires.invariant c.look-answer.new.parts c.count.new.parts (min (c.refusals-before.result + (c.failures.result - c.failures-failures.result)) END) c.index_mut-one.result.now.groups c.add_store.new.self c.look-answer.new.shelf c.count.ensures (called c.look-answer.ensures.step)
-    (c.failures.result - c.failures-failures.result) (ap (λ k. min (k + (c.failures.result - c.failures-failures.result)) END) c.refusals-before.ensures)
-    (omega (arith, c.failures.ensures, c.failures-failures.ensures, c.look-answer.ensures.step.frame.failures))
-
-pub returns-then-is_calm-clause-causes : goal.returns-then-is_calm-clause-causes
-returns-then-is_calm-clause-causes g c =
+pub returns-then-is_calm-clause-accounted : goal.returns-then-is_calm-clause-accounted
+returns-then-is_calm-clause-accounted g c =
     let x = c.index_mut-one.result.now in
     let m = c.failures.result - c.failures-failures.result in
-    caused_called g.L.PartitionLog.log g.S.Store.disk g.met.L.PartitionLog.lawful c.args.self.now c.args.tenant x
+    counted_called g.L.PartitionLog.log g.S.Store.disk g.met.L.PartitionLog.lawful c.args.self.now c.args.tenant x
     c.requires.tenant c.index_mut-one.ensures.value c.requires.invariant c.look-answer.new.parts c.count.new.parts
     (min (c.refusals-before.result + (c.failures.result - c.failures-failures.result)) END) x.groups c.add_store.new.self c.look-answer.new.shelf c.count.ensures (called c.look-answer.ensures.step)
     m (ap (λ k. min (k + m) END) c.refusals-before.ensures)
     (omega (arith, c.failures.ensures, c.failures-failures.ensures, c.look-answer.ensures.step.frame.failures))
     (c.add_store.ensures ∙ ap (λ k. with_store (k - c.failures-failures.result) x.counts) (c.failures-2.ensures ∙ sym c.failures.ensures))
 
-pub returns-else-is_calm-clause-causes : goal.returns-else-is_calm-clause-causes
-returns-else-is_calm-clause-causes g c =
+pub returns-else-is_calm-clause-accounted : goal.returns-else-is_calm-clause-accounted
+returns-else-is_calm-clause-accounted g c =
     let x = c.index_mut-one.result.now in
     let m = c.failures.result - c.failures-failures.result in
-    caused_called g.L.PartitionLog.log g.S.Store.disk g.met.L.PartitionLog.lawful c.args.self.now c.args.tenant x
+    counted_called g.L.PartitionLog.log g.S.Store.disk g.met.L.PartitionLog.lawful c.args.self.now c.args.tenant x
     c.requires.tenant c.index_mut-one.ensures.value c.requires.invariant c.look-answer.new.parts c.count.new.parts
     (min (c.refusals-before.result + (c.failures.result - c.failures-failures.result)) END) x.groups c.add_store.new.self c.look-answer.new.shelf c.count.ensures (called c.look-answer.ensures.step)
     m (ap (λ k. min (k + m) END) c.refusals-before.ensures)

@@ -1,8 +1,9 @@
-use Rattle.std.proofs.Common.{List, sym, subst}
+use Rattle.std.proofs.Common.{◌∙◌, List, map, ap, sym, subst}
 use Rattle.std.specs.List.{All}
 use Rattle.std.specs.Vec.{with_items}
 use Rattle.kb_tenants.specs.Members.{HasNoGroup}
 use Rattle.kb_tenants.specs.declared.tenants.Tenant.{Tenant}
+use Rattle.kb_tenants.proofs.Causes.{stores_numbered}
 use Rattle.kb_tenants.proofs.Members.{hosted_numbered, items_numbered, kept_numbered, none_in, parts_numbered}
 use Rattle.kb_tenants.proofs.tenants.Tenants.number_members_from.Goals as goal
 
@@ -29,3 +30,9 @@ returns-clause-parts g c =
     let v = c.args.self.now.tenants in
     parts_numbered g.L.PartitionLog.log g.S.Store.disk c.args.first c.args.self.now (with_items v c.number_each.new.tenants)
     (items_numbered c.args.first v c.deref_mut.result.now c.number_each.new.tenants c.deref_mut.ensures.value c.number_each.ensures)
+
+pub returns-clause-counts : goal.returns-clause-counts
+returns-clause-counts g c =
+    let v = c.args.self.now.tenants in
+    let is = items_numbered c.args.first v c.deref_mut.result.now c.number_each.new.tenants c.deref_mut.ensures.value c.number_each.ensures in
+    ap (map (λ (z : Tenant g.row.L.Denot). z.counts.by_store)) is ∙ stores_numbered c.args.first v.items

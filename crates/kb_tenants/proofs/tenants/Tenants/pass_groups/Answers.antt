@@ -6,7 +6,8 @@ use Rattle.kb_tenant_api.specs.Hosted.{Kept, kept_of}
 use Rattle.kb_tenant_api.specs.Waiters.{AreTicked}
 use Rattle.kb_tenant_api.proofs.WaitersServed.{passed_told}
 use Rattle.kb_tenants.specs.Tenants.{hosted}
-use Rattle.kb_tenants.proofs.Hosted.{accounted_counted, groups_counted, kept_counted, kept_own, met_counted, met_own, stays_own, topics_counted, turn_counted}
+use Rattle.kb_tenants.proofs.Causes.{counted_counted, counted_own}
+use Rattle.kb_tenants.proofs.Hosted.{groups_counted, kept_counted, kept_own, met_counted, met_own, stays_own, topics_counted, turn_counted}
 use Rattle.kb_tenants.proofs.tenants.Tenants.pass_groups.Goals as goal
 
 -- ---- nothing was due
@@ -33,6 +34,11 @@ returns-in_default-clause-waits g c =
     c.requires.tenant c.index_mut-one.ensures.value c.requires.invariant c.in_default.ensures.none.1 c.args.tenant in
     let was = kept_of (hosted g.L.PartitionLog.log g.S.Store.disk c.args.self.now) c.args.tenant in
     subst (λ (k : Kept). AreTicked was.groups k.groups) (sym same) (λ k. (omega arith, omega arith))
+
+pub returns-in_default-clause-accounted : goal.returns-in_default-clause-accounted
+returns-in_default-clause-accounted g c =
+    counted_own g.L.PartitionLog.log g.S.Store.disk g.met.L.PartitionLog.lawful c.args.self.now c.args.tenant c.index_mut-one.result.now c.pass.new.self
+    c.requires.tenant c.index_mut-one.ensures.value c.requires.invariant c.in_default.ensures.none.1
 
 -- ---- a moment
 
@@ -64,7 +70,7 @@ returns-clause-turn g c =
 
 pub returns-clause-accounted : goal.returns-clause-accounted
 returns-clause-accounted g c =
-    accounted_counted g.L.PartitionLog.log g.S.Store.disk g.met.L.PartitionLog.lawful c.args.self.now c.args.tenant c.index_mut-one.result.now c.pass.new.self
+    counted_counted g.L.PartitionLog.log g.S.Store.disk g.met.L.PartitionLog.lawful c.args.self.now c.args.tenant c.index_mut-one.result.now c.pass.new.self
     c.requires.tenant c.index_mut-one.ensures.value c.requires.invariant c.count.new.parts
     (min (c.refusals-before.result + c.in-Some.refused) END) c.count.ensures
 

@@ -1,14 +1,22 @@
-use Rattle.std.proofs.Common.{◌≡◌, ◌∙◌, ◌++◌, inr, ap, subst, sym}
+use Rattle.std.proofs.Common.{◌≡◌, ◌<◌, ◌∙◌, ◌++◌, inr, ap, subst, sym, arith}
 use Rattle.std.specs.Prelude.{Contains}
 use Rattle.std.proofs.lemmas.List.Elements.{Contains-append_left}
 use Rattle.kb_tenant_api.specs.Hosted.{Kept, kept_of, passed}
 use Rattle.kb_tenant_api.specs.Waiters.{AreTicked}
 use Rattle.kb_tenants.specs.Tenants.{answered_connections, hosted, shelf_is_honest}
-use Rattle.kb_tenants.proofs.Accounted.{accounted_then}
+use Rattle.kb_log.specs.Shelf.{Shelved}
+use Rattle.kb_tenants.specs.Counts.{counts_of}
+use Rattle.kb_tenants.proofs.Causes.{counted_then}
 use Rattle.kb_tenants.proofs.Alone.{alone_since, alone_still, honest_before}
 use Rattle.kb_tenants.proofs.Answered.{quiet_listed, quiet_turn}
-use Rattle.kb_tenants.proofs.Passed.{disturbed_both, loud_both, met_both, met_still, turn_both, turn_where}
+use Rattle.kb_tenants.proofs.Passed.{disturbed_both, length_named, loud_both, met_both, met_still, turn_both, turn_where}
 use Rattle.kb_tenants.proofs.tenants.Tenants.pass_one.Goals as goal
+
+pub list_answered-requires-clause-tenant : goal.list_answered-requires-clause-tenant
+list_answered-requires-clause-tenant g c =
+    let seen = hosted g.L.PartitionLog.log g.S.Store.disk in
+    let names = c.retain_one.ensures.turn.names ∙ c.pass_groups-regrouped.ensures.turn.names in
+    subst (λ n. c.args.tenant < n) (sym (length_named (seen c.args.self.now) (seen c.retain_one.new.self) names)) c.requires.tenant
 
 pub returns-then-retain_one-clause-meets : goal.returns-then-retain_one-clause-meets
 returns-then-retain_one-clause-meets g c =
@@ -107,6 +115,32 @@ returns-else-not-regrouped-clause-honest g c = λ honest.
     let seen = hosted g.L.PartitionLog.log disk in
     honest_before disk old old mid c.pass_groups-regrouped.ensures.shelf (c.retain_one.ensures.honest (honest_before disk old ret new c.list_answered.ensures.shelf honest))
 
+pub returns-then-retain_one-clause-accounted : goal.returns-then-retain_one-clause-accounted
+returns-then-retain_one-clause-accounted g c =
+    let disk = g.S.Store.disk in
+    let t = c.args.tenant in
+    let old = c.args.self.now in
+    let mid = c.pass_groups-regrouped.new.self in
+    let ret = c.retain_one.new.self in
+    let seen = hosted g.L.PartitionLog.log disk in
+    let same = ap (λ (s : Shelved g.row.S.Denot). (disk s.store).failures) c.pass_groups-regrouped.ensures.shelf in
+    counted_then t (seen old) (seen mid) (seen ret) (disk old.shelf.store).failures (disk mid.shelf.store).failures (disk ret.shelf.store).failures
+    (counts_of old) (counts_of mid) (counts_of ret) (omega (arith, same)) c.retain_one.ensures.failures c.retain_one.ensures.turn.grows
+    c.pass_groups-regrouped.ensures.accounted c.retain_one.ensures.accounted
+
+pub returns-then-not-regrouped-clause-accounted : goal.returns-then-not-regrouped-clause-accounted
+returns-then-not-regrouped-clause-accounted g c =
+    let disk = g.S.Store.disk in
+    let t = c.args.tenant in
+    let old = c.args.self.now in
+    let mid = c.pass_groups-regrouped.new.self in
+    let ret = c.retain_one.new.self in
+    let seen = hosted g.L.PartitionLog.log disk in
+    let same = ap (λ (s : Shelved g.row.S.Denot). (disk s.store).failures) c.pass_groups-regrouped.ensures.shelf in
+    counted_then t (seen old) (seen mid) (seen ret) (disk old.shelf.store).failures (disk mid.shelf.store).failures (disk ret.shelf.store).failures
+    (counts_of old) (counts_of mid) (counts_of ret) (omega (arith, same)) c.retain_one.ensures.failures c.retain_one.ensures.turn.grows
+    c.pass_groups-regrouped.ensures.accounted c.retain_one.ensures.accounted
+
 pub returns-else-not-regrouped-clause-accounted : goal.returns-else-not-regrouped-clause-accounted
 returns-else-not-regrouped-clause-accounted g c =
     let disk = g.S.Store.disk in
@@ -116,8 +150,13 @@ returns-else-not-regrouped-clause-accounted g c =
     let ret = c.retain_one.new.self in
     let new = c.list_answered.new.self in
     let seen = hosted g.L.PartitionLog.log disk in
-    accounted_then (seen old) (seen ret) (seen new) (disk old.shelf.store).failures (disk ret.shelf.store).failures (disk new.shelf.store).failures c.list_answered.ensures.turn.grows
-    (accounted_then (seen old) (seen mid) (seen ret) (disk old.shelf.store).failures (disk mid.shelf.store).failures (disk ret.shelf.store).failures c.retain_one.ensures.turn.grows
+    let same = ap (λ (s : Shelved g.row.S.Denot). (disk s.store).failures) c.pass_groups-regrouped.ensures.shelf in
+    let still = ap (λ (s : Shelved g.row.S.Denot). (disk s.store).failures) c.list_answered.ensures.shelf in
+    let more = c.retain_one.ensures.failures in
+    counted_then t (seen old) (seen ret) (seen new) (disk old.shelf.store).failures (disk ret.shelf.store).failures (disk new.shelf.store).failures
+    (counts_of old) (counts_of ret) (counts_of new) (omega (arith, same, more)) (omega (arith, still)) c.list_answered.ensures.turn.grows
+    (counted_then t (seen old) (seen mid) (seen ret) (disk old.shelf.store).failures (disk mid.shelf.store).failures (disk ret.shelf.store).failures
+    (counts_of old) (counts_of mid) (counts_of ret) (omega (arith, same)) more c.retain_one.ensures.turn.grows
     c.pass_groups-regrouped.ensures.accounted c.retain_one.ensures.accounted) c.list_answered.ensures.accounted
 
 pub returns-else-not-regrouped-clause-quiet : goal.returns-else-not-regrouped-clause-quiet

@@ -1,7 +1,9 @@
-use Rattle.std.proofs.Common.{negsuc, refl}
+use Rattle.std.proofs.Common.{◌∙◌, List, get_or, map, ap, negsuc, refl}
 use Rattle.kb_tenants.specs.Tenants.{hosted}
 use Rattle.kb_tenants.specs.declared.tenants.Tenant.{Tenant}
 use Rattle.kb_tenants.specs.declared.tenants.Tenants.{Tenants}
+use Rattle.kb_tenants.specs.Counts.{no_counts}
+use Rattle.kb_tenants.proofs.Causes.{counts_pushed}
 use Rattle.kb_tenants.proofs.Added.{kept_left, kept_pushed, unknown, unknown_strays}
 use Rattle.kb_tenants.proofs.Idle.{idle_unknown}
 use Rattle.kb_tenants.proofs.tenants.Tenants.restore.Goals as goal
@@ -19,3 +21,13 @@ returns-clause-invariant g c =
 pub returns-in_err-push-clause-invariant : goal.returns-in_err-push-clause-invariant
 returns-in_err-push-clause-invariant g c =
     kept_left g.L.PartitionLog.log g.S.Store.disk c.args.self.now (record c.args.self.now { tenants = c.push.new.self }) c.in_err-push.ensures.items refl refl refl c.requires.invariant
+
+pub returns-clause-counts : goal.returns-clause-counts
+returns-clause-counts g c = λ t.
+    let x : Tenant g.row.L.Denot = record { name = c.in_ok-from_str.field-0; parts = c.args.parts; groups = c.new.result; renew_at = 4096; counts = c.none.result } in
+    ap (λ (xs : List (Tenant g.row.L.Denot)). get_or (map (λ (z : Tenant g.row.L.Denot). z.counts) xs) t no_counts) c.in_ok-push.ensures.items
+    ∙ counts_pushed c.args.self.now.tenants.items x c.none.ensures t
+
+pub returns-in_err-push-clause-counts : goal.returns-in_err-push-clause-counts
+returns-in_err-push-clause-counts g c = λ t.
+    ap (λ (xs : List (Tenant g.row.L.Denot)). get_or (map (λ (z : Tenant g.row.L.Denot). z.counts) xs) t no_counts) c.in_err-push.ensures.items

@@ -5,9 +5,9 @@ use Rattle.kb_tenant_state.specs.Counts.{END}
 use Rattle.kb_tenant_api.specs.Hosted.{kept_in}
 use Rattle.kb_tenants.specs.Counts.{with_store}
 use Rattle.kb_tenants.specs.Tenants.{drops, retained}
-use Rattle.kb_tenants.proofs.Causes.{caused_called}
+use Rattle.kb_tenants.proofs.Causes.{counted_called}
 use Rattle.kb_tenants.proofs.Change.{called}
-use Rattle.kb_tenants.proofs.Hosted.{accounted_called, alone_called, sound_here, groups_called, kept_called, turn_called, met_called, stays_called}
+use Rattle.kb_tenants.proofs.Hosted.{alone_called, sound_here, groups_called, kept_called, turn_called, met_called, stays_called}
 use Rattle.kb_tenants.proofs.tenants.Tenants.retain_one.Goals as goal
 
 pub retain_all-dropped-requires-clause-sound : goal.retain_all-dropped-requires-clause-sound
@@ -45,24 +45,17 @@ returns-clause-stays g c = λ none.
     c.requires.tenant c.index_mut-one.ensures.value c.requires.invariant c.retain_all-dropped.new.self c.count.new.parts (min (c.refusals-before.result + (c.failures.result - c.failures-failures.result)) END) c.index_mut-one.result.now.groups c.add_store.new.self c.retain_all-dropped.new.shelf c.count.ensures (called c.retain_all-dropped.ensures.step)
     refl (c.retain_all-dropped.ensures.same none)
 
-pub returns-clause-accounted : goal.returns-clause-accounted
-returns-clause-accounted g c =
-    accounted_called g.L.PartitionLog.log g.S.Store.disk g.met.L.PartitionLog.lawful c.args.self.now c.args.tenant c.index_mut-one.result.now
-    c.requires.tenant c.index_mut-one.ensures.value c.requires.invariant c.retain_all-dropped.new.self c.count.new.parts (min (c.refusals-before.result + (c.failures.result - c.failures-failures.result)) END) c.index_mut-one.result.now.groups c.add_store.new.self c.retain_all-dropped.new.shelf c.count.ensures (called c.retain_all-dropped.ensures.step)
-    (c.failures.result - c.failures-failures.result) (ap (λ k. min (k + (c.failures.result - c.failures-failures.result)) END) c.refusals-before.ensures)
-    (omega (arith, c.failures.ensures, c.failures-failures.ensures, c.retain_all-dropped.ensures.step.frame.failures))
-
 pub returns-clause-groups : goal.returns-clause-groups
 returns-clause-groups g c =
     groups_called g.L.PartitionLog.log g.S.Store.disk g.met.L.PartitionLog.lawful c.args.self.now c.args.tenant c.index_mut-one.result.now
     c.requires.tenant c.index_mut-one.ensures.value c.requires.invariant c.retain_all-dropped.new.self c.count.new.parts (min (c.refusals-before.result + (c.failures.result - c.failures-failures.result)) END) c.index_mut-one.result.now.groups c.add_store.new.self c.retain_all-dropped.new.shelf c.count.ensures (called c.retain_all-dropped.ensures.step)
     (λ a b. b ≡ a) refl
 
-pub returns-clause-causes : goal.returns-clause-causes
-returns-clause-causes g c =
+pub returns-clause-accounted : goal.returns-clause-accounted
+returns-clause-accounted g c =
     let x = c.index_mut-one.result.now in
     let m = c.failures.result - c.failures-failures.result in
-    caused_called g.L.PartitionLog.log g.S.Store.disk g.met.L.PartitionLog.lawful c.args.self.now c.args.tenant x
+    counted_called g.L.PartitionLog.log g.S.Store.disk g.met.L.PartitionLog.lawful c.args.self.now c.args.tenant x
     c.requires.tenant c.index_mut-one.ensures.value c.requires.invariant c.retain_all-dropped.new.self c.count.new.parts
     (min (c.refusals-before.result + (c.failures.result - c.failures-failures.result)) END) c.index_mut-one.result.now.groups c.add_store.new.self c.retain_all-dropped.new.shelf c.count.ensures (called c.retain_all-dropped.ensures.step)
     m (ap (λ k. min (k + m) END) c.refusals-before.ensures)

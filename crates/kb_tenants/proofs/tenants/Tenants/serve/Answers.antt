@@ -9,9 +9,9 @@ use Rattle.kb_tenant_api.specs.Serve.{has_released, served, AreGroupsAfter, IsOu
 use Rattle.kb_tenant.specs.Told.{FailedBy}
 use Rattle.kb_tenants.specs.Counts.{with_store}
 use Rattle.kb_tenants.specs.Tenants.{IsTruthfulFor}
-use Rattle.kb_tenants.proofs.Causes.{caused_called}
+use Rattle.kb_tenants.proofs.Causes.{counted_called}
 use Rattle.kb_tenants.proofs.Change.{called}
-use Rattle.kb_tenants.proofs.Hosted.{accounted_called, alone_called, sound_here, groups_called, kept_called, turn_called, met_called}
+use Rattle.kb_tenants.proofs.Hosted.{alone_called, sound_here, groups_called, kept_called, turn_called, met_called}
 use Rattle.kb_tenants.proofs.Hosted.{now_called, truthful_called, calm_called, calm_from}
 use Rattle.kb_tenants.proofs.Ended.{refused, unrefused}
 use Rattle.kb_tenants.proofs.tenants.Tenants.serve.Goals as goal
@@ -50,13 +50,6 @@ returns-clause-released g c =
     let now = now_called g.L.PartitionLog.log g.S.Store.disk g.met.L.PartitionLog.lawful c.args.self.now c.args.tenant c.index_mut-one.result.now
     c.requires.tenant c.index_mut-one.ensures.value c.requires.invariant c.serve-served.new.parts c.count.new.parts (min (c.refusals-before.result + (c.failures.result - c.failures-failures.result)) END) c.serve-served.new.groups c.add_store.new.self c.serve-served.new.shelf c.count.ensures (called c.serve-served.ensures.step) in
     c.serve-served.ensures.released ∙ ap (λ k. has_released k.groups) (sym now)
-
-pub returns-clause-accounted : goal.returns-clause-accounted
-returns-clause-accounted g c =
-    accounted_called g.L.PartitionLog.log g.S.Store.disk g.met.L.PartitionLog.lawful c.args.self.now c.args.tenant c.index_mut-one.result.now
-    c.requires.tenant c.index_mut-one.ensures.value c.requires.invariant c.serve-served.new.parts c.count.new.parts (min (c.refusals-before.result + (c.failures.result - c.failures-failures.result)) END) c.serve-served.new.groups c.add_store.new.self c.serve-served.new.shelf c.count.ensures (called c.serve-served.ensures.step)
-    (c.failures.result - c.failures-failures.result) (ap (λ k. min (k + (c.failures.result - c.failures-failures.result)) END) c.refusals-before.ensures)
-    (omega (arith, c.failures.ensures, c.failures-failures.ensures, c.serve-served.ensures.step.frame.failures))
 
 pub returns-clause-waits : goal.returns-clause-waits
 returns-clause-waits g c =
@@ -114,11 +107,11 @@ returns-clause-loud g c = λ loud calm.
     (calm_from g.L.PartitionLog.log g.S.Store.disk g.met.L.PartitionLog.lawful c.args.self.now c.args.tenant c.index_mut-one.result.now
     c.requires.tenant c.index_mut-one.ensures.value c.requires.invariant c.serve-served.new.parts c.count.new.parts (min (c.refusals-before.result + (c.failures.result - c.failures-failures.result)) END) c.serve-served.new.groups c.add_store.new.self c.serve-served.new.shelf c.count.ensures (called c.serve-served.ensures.step) calm))
 
-pub returns-clause-causes : goal.returns-clause-causes
-returns-clause-causes g c =
+pub returns-clause-accounted : goal.returns-clause-accounted
+returns-clause-accounted g c =
     let x = c.index_mut-one.result.now in
     let m = c.failures.result - c.failures-failures.result in
-    caused_called g.L.PartitionLog.log g.S.Store.disk g.met.L.PartitionLog.lawful c.args.self.now c.args.tenant x
+    counted_called g.L.PartitionLog.log g.S.Store.disk g.met.L.PartitionLog.lawful c.args.self.now c.args.tenant x
     c.requires.tenant c.index_mut-one.ensures.value c.requires.invariant c.serve-served.new.parts c.count.new.parts
     (min (c.refusals-before.result + (c.failures.result - c.failures-failures.result)) END) c.serve-served.new.groups c.add_store.new.self c.serve-served.new.shelf c.count.ensures (called c.serve-served.ensures.step)
     m (ap (λ k. min (k + m) END) c.refusals-before.ensures)

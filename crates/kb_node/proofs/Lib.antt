@@ -8,3 +8,6 @@ pub mod Cores
 pub mod Goes
 pub mod Numbers
 pub mod Waiting
+pub mod Told
+pub mod PutBack
+pub mod Isolated

@@ -20,7 +20,7 @@ abbrev login_in : List (List ℕ) → Account → Login
 login_in names a = record { name = a.name; password = a.password; tenant = place_of a.tenant names }
 
 abbrev broker_of : Values → List (List ℕ) → List Login → BrokerState
-broker_of v names logins = record { setup = record { versions = served_versions; users = logins; nodes = map (node_named listings.Served v) names; node = node_unnamed listings.Served v }; tenants = map new_tenant names; unbound_refusals = 0; clock = 0; last = 0; lines = [] }
+broker_of v names logins = record { setup = record { versions = served_versions; users = logins; nodes = map (node_named listings.Served v) names; node = node_unnamed listings.Served v; request_bytes = v.requests.request_bytes }; tenants = map new_tenant names; unbound_refusals = 0; clock = 0; last = 0; lines = [] }
 
 abbrev broker_for : Values → BrokerState
 broker_for v = broker_of v (names_of v.users) (map (login_in (names_of v.users)) v.users)

@@ -41,6 +41,7 @@ standard_broker = record {
     } ∷ [];
     nodes = standard_node ∷ standard_node ∷ [];
     node = standard_node;
+    request_bytes = 2097152;
   };
   tenants = new_tenant (codes "a") ∷ new_tenant (codes "b") ∷ [];
   unbound_refusals = 0;

@@ -151,6 +151,7 @@ impl<R: Net, S: Store, L: PartitionLog + Drop> Edge<R, S, L> {
         ensures err { IfErr result (λ refused. refused.broker ≡ broker) }
         ensures empty { IfOk result (λ edge. vec_len edge.sockets ≡ 0) }
         ensures host { IfOk result (λ edge. (edge.host.broker ≡ broker) × (edge.host.tried ≡ broker.state.last)) }
+        ensures fault { IfOk result (λ edge. edge.host.commits.fault ≡ None) }
     {
         Edge::open(net, alloc, broker, address, limits, None)
     }
@@ -166,6 +167,7 @@ impl<R: Net, S: Store, L: PartitionLog + Drop> Edge<R, S, L> {
         ensures err { IfErr result (λ refused. refused.broker ≡ broker) }
         ensures empty { IfOk result (λ edge. vec_len edge.sockets ≡ 0) }
         ensures host { IfOk result (λ edge. (edge.host.broker ≡ broker) × (edge.host.tried ≡ broker.state.last)) }
+        ensures fault { IfOk result (λ edge. edge.host.commits.fault ≡ None) }
     {
         match Watch::new(net, alloc) {
             Ok(watch) => Edge::open(net, alloc, broker, address, limits, Some(watch)),
@@ -192,6 +194,7 @@ impl<R: Net, S: Store, L: PartitionLog + Drop> Edge<R, S, L> {
         ensures err { IfErr result (λ refused. refused.broker ≡ broker) }
         ensures empty { IfOk result (λ edge. vec_len edge.sockets ≡ 0) }
         ensures host { IfOk result (λ edge. (edge.host.broker ≡ broker) × (edge.host.tried ≡ broker.state.last)) }
+        ensures fault { IfOk result (λ edge. edge.host.commits.fault ≡ None) }
         ensures login { IfOk result (λ edge. edge.strangers.millis ≡ limits.login_seconds * 1000) }
         ensures reply { IfOk result (λ edge. edge.reply_millis ≡ limits.reply_seconds * 1000) }
         ensures strangers { IfOk result (λ edge. edge.stranger_limit ≡ limits.strangers) }
@@ -325,6 +328,7 @@ impl<R: Net, S: Store, L: PartitionLog + Drop> Edge<R, S, L> {
     pub fn turn(&mut self, alloc: Global, now: u64) -> Result<Turn, StoreFault>
         requires { now ≤ 2 ^ 62 }
         ensures refused { IfErr result (λ fault. self.new.host.commits.fault ≡ Some fault) }
+        ensures well { OnOk result (self.new.host.commits.fault ≡ None) }
         ensures dead { IfSome self.old.host.commits.fault (λ fault. (result ≡ Err fault) × (self.new ≡ self.old)) }
         ensures turn { self.old.host.commits.fault ≡ None → IsTurn S.disk R.Stream.contents R.Stream.remaining now
             (seen self.old.host self.old.sockets.items) (seen self.new.host self.new.sockets.items) }
@@ -388,6 +392,7 @@ impl<R: Net, S: Store, L: PartitionLog + Drop> Edge<R, S, L> {
     #[tactic(auto, using(crate::proofs::Goes::goes_then, crate::proofs::Goes::goes_none, crate::proofs::Goes::goes_committed))]
     fn answer(&mut self, alloc: Global, now: u64, turn: &mut Turn) -> Result<(), StoreFault>
         ensures refused { IfErr result (λ fault. self.new.host.commits.fault ≡ Some fault) }
+        ensures well { OnOk result (self.new.host.commits.fault ≡ None) }
         ensures goes { Goes S.disk R.Stream.contents R.Stream.remaining (seen self.old.host self.old.sockets.items)
             (seen self.new.host self.new.sockets.items) }
     {

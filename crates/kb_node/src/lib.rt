@@ -41,7 +41,9 @@ pub use kb_settings::{Sync, tenant_names};
 pub use kb_store::{Store, StoreFault};
 pub use limits::Limits;
 pub use news::{LoginAttempt, News};
-pub use promises::{a_turn_goes_on_with_the_run, sockets_stand_by_number, turns_are_a_run};
+pub use promises::{
+    a_turn_goes_on_with_the_run, sockets_stand_by_number, turns_are_a_run, turns_keep_tenants_apart,
+};
 pub use replies::{input_shares, reply_shares};
 pub use script::{play_script, play_script_on, play_script_with};
 pub use socket_shares::SocketShares;

@@ -153,7 +153,8 @@ impl<R: Net, S: Store, L: PartitionLog + Drop> Edge<R, S, L> {
     /// before.
     #[tactic(auto, using(crate::proofs::Goes::goes_then, crate::proofs::Goes::goes_none))]
     pub(super) fn close_late(&mut self, alloc: Global, turn: &mut Turn)
-        ensures { Goes S.disk R.Stream.contents R.Stream.remaining (seen self.old.host self.old.sockets.items)
+        ensures commits { self.new.host.commits ≡ self.old.host.commits }
+        ensures goes { Goes S.disk R.Stream.contents R.Stream.remaining (seen self.old.host self.old.sockets.items)
             (seen self.new.host self.new.sockets.items) }
     {
         self.close_slow(alloc, turn);
@@ -165,7 +166,8 @@ impl<R: Net, S: Store, L: PartitionLog + Drop> Edge<R, S, L> {
     /// their time begins anew.
     #[tactic(auto, using(crate::proofs::Goes::goes_then, crate::proofs::Goes::goes_none))]
     fn close_slow(&mut self, alloc: Global, turn: &mut Turn)
-        ensures { Goes S.disk R.Stream.contents R.Stream.remaining (seen self.old.host self.old.sockets.items)
+        ensures commits { self.new.host.commits ≡ self.old.host.commits }
+        ensures goes { Goes S.disk R.Stream.contents R.Stream.remaining (seen self.old.host self.old.sockets.items)
             (seen self.new.host self.new.sockets.items) }
     {
         for _ in 0..self.limit {
@@ -179,7 +181,8 @@ impl<R: Net, S: Store, L: PartitionLog + Drop> Edge<R, S, L> {
     /// Closes the socket of a connection, unless its holder has too much unread and its time can begin anew.
     #[tactic(auto, using(crate::proofs::Goes::goes_then, crate::proofs::Goes::goes_none))]
     fn close_unless_put_off(&mut self, alloc: Global, number: u64, turn: &mut Turn)
-        ensures { Goes S.disk R.Stream.contents R.Stream.remaining (seen self.old.host self.old.sockets.items)
+        ensures commits { self.new.host.commits ≡ self.old.host.commits }
+        ensures goes { Goes S.disk R.Stream.contents R.Stream.remaining (seen self.old.host self.old.sockets.items)
             (seen self.new.host self.new.sockets.items) }
     {
         if !self.may_ask(number) && self.put_off(number) {
@@ -191,7 +194,8 @@ impl<R: Net, S: Store, L: PartitionLog + Drop> Edge<R, S, L> {
 
     /// A request has its whole time from now on.
     fn put_off(&mut self, number: u64) -> bool
-        ensures { seen self.new.host self.new.sockets.items ≡ seen self.old.host self.old.sockets.items }
+        ensures host { self.new.host ≡ self.old.host }
+        ensures seen { seen self.new.host self.new.sockets.items ≡ seen self.old.host self.old.sockets.items }
     {
         let Some(place) = self.place_of(number) else {
             return false;
@@ -205,7 +209,8 @@ impl<R: Net, S: Store, L: PartitionLog + Drop> Edge<R, S, L> {
     /// Closes the sockets that are idle for too long.
     #[tactic(auto, using(crate::proofs::Goes::goes_then, crate::proofs::Goes::goes_none))]
     fn close_idle(&mut self, alloc: Global, turn: &mut Turn)
-        ensures { Goes S.disk R.Stream.contents R.Stream.remaining (seen self.old.host self.old.sockets.items)
+        ensures commits { self.new.host.commits ≡ self.old.host.commits }
+        ensures goes { Goes S.disk R.Stream.contents R.Stream.remaining (seen self.old.host self.old.sockets.items)
             (seen self.new.host self.new.sockets.items) }
     {
         for _ in 0..self.limit {
@@ -219,7 +224,8 @@ impl<R: Net, S: Store, L: PartitionLog + Drop> Edge<R, S, L> {
     /// Closes the socket of a connection, unless it was used of late.
     #[tactic(auto, using(crate::proofs::Goes::goes_then, crate::proofs::Goes::goes_none))]
     fn close_unless_used(&mut self, alloc: Global, number: u64, turn: &mut Turn)
-        ensures { Goes S.disk R.Stream.contents R.Stream.remaining (seen self.old.host self.old.sockets.items)
+        ensures commits { self.new.host.commits ≡ self.old.host.commits }
+        ensures goes { Goes S.disk R.Stream.contents R.Stream.remaining (seen self.old.host self.old.sockets.items)
             (seen self.new.host self.new.sockets.items) }
     {
         if self.is_used(number) {
@@ -231,7 +237,8 @@ impl<R: Net, S: Store, L: PartitionLog + Drop> Edge<R, S, L> {
 
     /// Whether a socket was used of late, or something is waited for, which is looked at again once it may be idle for too long.
     fn is_used(&mut self, number: u64) -> bool
-        ensures { seen self.new.host self.new.sockets.items ≡ seen self.old.host self.old.sockets.items }
+        ensures host { self.new.host ≡ self.old.host }
+        ensures seen { seen self.new.host self.new.sockets.items ≡ seen self.old.host self.old.sockets.items }
     {
         let Some(place) = self.place_of(number) else {
             return true;
@@ -371,7 +378,8 @@ impl<R: Net, S: Store, L: PartitionLog + Drop> Edge<R, S, L> {
     /// Where a turn closed some, the sockets whose connections are closed are kept no longer.
     #[tactic(auto, using(crate::proofs::Goes::goes_then, crate::proofs::Goes::goes_none))]
     fn drop_ended(&mut self, turn: &Turn)
-        ensures { Goes S.disk R.Stream.contents R.Stream.remaining (seen self.old.host self.old.sockets.items)
+        ensures commits { self.new.host.commits ≡ self.old.host.commits }
+        ensures goes { Goes S.disk R.Stream.contents R.Stream.remaining (seen self.old.host self.old.sockets.items)
             (seen self.new.host self.new.sockets.items) }
     {
         if turn.closed > 0 {

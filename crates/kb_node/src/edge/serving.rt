@@ -1,6 +1,6 @@
 //! How an edge serves its sockets.
 
-ghost use Rattle.std.specs.Prelude.{◌≡◌, ◌≢◌, ◌-◌, min, true, false, Some, IfErr, IfSome, slice_get, slice_set, vec_len};
+ghost use Rattle.std.specs.Prelude.{◌≡◌, ◌≢◌, ◌-◌, min, true, false, None, Some, IfErr, IfSome, OnOk, slice_get, slice_set, vec_len};
 ghost use Rattle.kb_node.specs.Moves.{Goes};
 ghost use Rattle.kb_node.specs.Cores.{seen};
 ghost use Rattle.kb_node.specs.Commits.{may_tell, tells_at_once};
@@ -67,7 +67,8 @@ impl<R: Net, S: Store, L: PartitionLog + Drop> Edge<R, S, L> {
     #[tactic(auto, using(crate::proofs::Goes::goes_then, crate::proofs::Goes::goes_none))]
     pub(super) fn serve_at_once(&mut self, alloc: Global, turn: &mut Turn)
         requires { tells_at_once self.old.host.commits ≡ true }
-        ensures { Goes S.disk R.Stream.contents R.Stream.remaining (seen self.old.host self.old.sockets.items)
+        ensures commits { tells_at_once self.new.host.commits ≡ true }
+        ensures goes { Goes S.disk R.Stream.contents R.Stream.remaining (seen self.old.host self.old.sockets.items)
             (seen self.new.host self.new.sockets.items) }
     {
         self.line_up(alloc, true);
@@ -131,6 +132,7 @@ impl<R: Net, S: Store, L: PartitionLog + Drop> Edge<R, S, L> {
         turn: &mut Turn,
     ) -> Result<(), StoreFault>
         ensures refused { IfErr result (λ fault. self.new.host.commits.fault ≡ Some fault) }
+        ensures well { OnOk result (self.new.host.commits.fault ≡ None) }
         ensures goes { Goes S.disk R.Stream.contents R.Stream.remaining (seen self.old.host self.old.sockets.items)
             (seen self.new.host self.new.sockets.items) }
     {
@@ -325,7 +327,8 @@ impl<R: Net, S: Store, L: PartitionLog + Drop> Edge<R, S, L> {
     #[tactic(auto, using(crate::proofs::Goes::goes_then, crate::proofs::Goes::goes_none))]
     fn tell_asked(&mut self, alloc: Global, turn: &mut Turn)
         requires { may_tell self.old.host.commits ≡ true }
-        ensures { Goes S.disk R.Stream.contents R.Stream.remaining (seen self.old.host self.old.sockets.items)
+        ensures commits { self.new.host.commits ≡ self.old.host.commits }
+        ensures goes { Goes S.disk R.Stream.contents R.Stream.remaining (seen self.old.host self.old.sockets.items)
             (seen self.new.host self.new.sockets.items) }
     {
         let mut round = mem::replace(&mut self.asked, Vec::new(alloc));

@@ -1,5 +1,9 @@
+use Rattle.std.proofs.Common.{◌∙◌}
 use Rattle.kb_node.proofs.Goes.{goes_then}
 use Rattle.kb_node.proofs.edge.Edge.close_idle.Goals as goal
 
 pub loop-preserved : goal.loop-preserved
-loop-preserved g c = goes_then c.loop.invariant c.close_unless_used.ensures
+loop-preserved g c = (
+  c.close_unless_used.ensures.commits ∙ c.loop.invariant.0,
+  goes_then c.loop.invariant.1 c.close_unless_used.ensures.goes,
+)

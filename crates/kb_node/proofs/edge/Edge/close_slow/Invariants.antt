@@ -1,7 +1,8 @@
+use Rattle.std.proofs.Common.{◌≡◌}
 use Rattle.kb_node.specs.Moves.{Goes}
 use Rattle.kb_node.specs.Cores.{seen}
 use Rattle.kb_node.proofs.edge.Edge.close_slow.Given as goal
 
--- deeds without a moment lead here
+-- what is known of commits stays, and deeds without a moment lead here
 abbrev pub invariant-loop : goal.invariant-loop
-invariant-loop g l = Goes g.S.Store.disk g.R.Stream.Write.contents g.R.Stream.Read.remaining (seen l.fn.self.host l.fn.self.sockets.items) (seen l.self.host l.self.sockets.items)
+invariant-loop g l = (l.self.host.commits ≡ l.fn.self.host.commits) × Goes g.S.Store.disk g.R.Stream.Write.contents g.R.Stream.Read.remaining (seen l.fn.self.host l.fn.self.sockets.items) (seen l.self.host l.self.sockets.items)

@@ -3,6 +3,6 @@ use Rattle.kb_node.specs.Cores.{core}
 use Rattle.kb_node.proofs.Cores.{same_at}
 use Rattle.kb_node.proofs.edge.Edge.put_off.Goals as goal
 
-pub returns : goal.returns
-returns g c = same_at _ c.args.self.now.sockets c.in-Some.place c.in-Some-get_mut.socket.now c.put_off.new.socket
+pub returns-clause-seen : goal.returns-clause-seen
+returns-clause-seen g c = same_at _ c.args.self.now.sockets c.in-Some.place c.in-Some-get_mut.socket.now c.put_off.new.socket
     (c.in-Some-get_mut.ensures.variant.0 refl) c.in-Some-get_mut.ensures.value (ap core c.put_off.ensures.rest)

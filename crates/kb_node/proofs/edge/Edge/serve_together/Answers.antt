@@ -1,4 +1,4 @@
-use Rattle.std.proofs.Common.{refl}
+use Rattle.std.proofs.Common.{refl, ap, ◌∙◌}
 use Rattle.kb_node.proofs.Goes.{goes_committed, goes_still, goes_then}
 use Rattle.kb_node.proofs.edge.Edge.serve_together.Goals as goal
 
@@ -8,4 +8,7 @@ returns-in_err-commit-clause-goes g c =
 
 pub returns-clause-goes : goal.returns-clause-goes
 returns-clause-goes g c = goes_then c.hand_on.ensures (goes_then (goes_still c.hear_speakers.ensures) (goes_then (goes_committed c.commit.ensures.tried c.commit.ensures.commits refl)
-    (goes_then c.tell.ensures.goes c.tell_asked.ensures)))
+    (goes_then c.tell.ensures.goes c.tell_asked.ensures.goes)))
+
+pub returns-clause-well : goal.returns-clause-well
+returns-clause-well g c = ap (λ x. x.fault) (c.tell_asked.ensures.commits ∙ c.tell.ensures.commits) ∙ c.in_ok-commit.ensures.well.1

@@ -1,3 +1,4 @@
+use Rattle.std.proofs.Common.{ap, ◌∙◌}
 use Rattle.kb_node.proofs.Goes.{goes_then, run_of, turned}
 use Rattle.kb_node.proofs.edge.Edge.turn.Goals as goal
 
@@ -11,8 +12,11 @@ returns-in_err-answer-clause-run g c = λ _. run_of
 
 pub returns-clause-turn : goal.returns-clause-turn
 returns-clause-turn g c =
-    λ _. turned c.begin.ensures.moment c.begin.ensures.tried c.begin.ensures.sockets (goes_then c.close_silent.ensures (goes_then c.accept.ensures (goes_then c.answer.ensures.goes c.close_late.ensures)))
+    λ _. turned c.begin.ensures.moment c.begin.ensures.tried c.begin.ensures.sockets (goes_then c.close_silent.ensures (goes_then c.accept.ensures (goes_then c.answer.ensures.goes c.close_late.ensures.goes)))
 
 pub returns-clause-run : goal.returns-clause-run
 returns-clause-run g c = λ _. run_of
-    (turned c.begin.ensures.moment c.begin.ensures.tried c.begin.ensures.sockets (goes_then c.close_silent.ensures (goes_then c.accept.ensures (goes_then c.answer.ensures.goes c.close_late.ensures))))
+    (turned c.begin.ensures.moment c.begin.ensures.tried c.begin.ensures.sockets (goes_then c.close_silent.ensures (goes_then c.accept.ensures (goes_then c.answer.ensures.goes c.close_late.ensures.goes))))
+
+pub returns-clause-well : goal.returns-clause-well
+returns-clause-well g c = ap (λ x. x.fault) c.close_late.ensures.commits ∙ c.in_ok-answer.ensures.well

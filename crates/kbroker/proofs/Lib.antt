@@ -3,3 +3,4 @@ mod Named
 mod Noted
 mod Opened
 mod Told
+mod Turned

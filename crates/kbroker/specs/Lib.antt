@@ -1,4 +1,6 @@
 pub mod Causes
 pub mod Observed
 pub mod Pages
+pub mod Refusals
 pub mod Server
+pub mod Turned

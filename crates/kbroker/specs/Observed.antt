@@ -15,6 +15,7 @@ use Rattle.kb_metrics.specs.declared.gauges.TenantGauges.{TenantGauges}
 use Rattle.kb_metrics.specs.declared.limits.Limits.{Limits}
 use Rattle.kb_node.specs.declared.tenant_traffic.TenantTraffic.{TenantTraffic}
 use Rattle.kb_tenant_api.specs.Hosted.{TenantState}
+use Rattle.kb_tenants.specs.Counts.{store_share}
 
 -- the requests that were counted, by API key: of nobody where they are not counted
 abbrev pub requests_of : Option TenantTraffic → List ℕ
@@ -45,10 +46,9 @@ abbrev pub limits_of : List ℕ → Values → Limits
 limits_of name values = limits_in (data_of name values) (groups_of name values)
 
 -- What is told of the tenant at a place: what it keeps, its limits, how many connections are bound to it and how many of them wait, and what
--- was counted at its place. Two numbers stand apart: the bytes of its batches, which may not be known, and how many of its refusals are
--- the store's.
-abbrev pub observed_at : Values → ℕ → List Line → List TenantTraffic → TenantState → Observed
-observed_at values place lines traffic t = record {
+-- was counted at its place. One number stands apart: the bytes of its batches, which may not be known.
+abbrev pub observed_at : Values → ℕ → List Line → List ℕ → List TenantTraffic → TenantState → Observed
+observed_at values place lines by_store traffic t = record {
   name = t.name;
   world = t.kept.world;
   stored = None;
@@ -60,7 +60,7 @@ observed_at values place lines traffic t = record {
   request_bytes = request_bytes_of (slice_get traffic place);
   response_bytes = response_bytes_of (slice_get traffic place);
   refusals = t.refusals;
-  store_refusals = 0;
+  store_refusals = store_share by_store place t.refusals;
 }
 
 -- what there is, as a list
@@ -69,16 +69,17 @@ listed None = []
 listed (Some x) = x ∷ []
 
 -- of the tenant at a place of a broker, where there is one
-abbrev pub observed_slot : Values → BrokerState → List TenantTraffic → ℕ → List Observed
-observed_slot values b traffic place = listed (option_map (observed_at values place b.lines traffic) (slice_get b.tenants place))
+abbrev pub observed_slot : Values → BrokerState → List ℕ → List TenantTraffic → ℕ → List Observed
+observed_slot values b by_store traffic place =
+    listed (option_map (observed_at values place b.lines by_store traffic) (slice_get b.tenants place))
 
 -- of all its tenants, by their places
-abbrev pub observed_from : Values → BrokerState → List TenantTraffic → List Observed
-observed_from values b traffic = flat_map (observed_slot values b traffic) (range_with_len 0 (length b.tenants))
+abbrev pub observed_from : Values → BrokerState → List ℕ → List TenantTraffic → List Observed
+observed_from values b by_store traffic = flat_map (observed_slot values b by_store traffic) (range_with_len 0 (length b.tenants))
 
--- what is observed of a tenant, but for the bytes of its batches, and how many of its refusals are the store's
+-- what is observed of a tenant, but for the bytes of its batches
 abbrev pub unstored : Observed → Observed
-unstored o = record o { stored = None; store_refusals = 0 }
+unstored o = record o { stored = None }
 
 abbrev pub looked_at : {L : Type 0} → (L → Log) → Files → TenantGauges L → Observed
 looked_at log files g = unstored (observed log files g)

@@ -1,5 +1,4 @@
--- What each page is. What is observed of tenants leaves out the bytes of their batches, and how many of their refusals are the store's: a page
--- tells them as they are.
+-- What each page is. What is observed of tenants leaves out the bytes of their batches: a page tells them as they are.
 use Rattle.std.specs.Prelude.{◌≡◌, ◌++◌, ℕ, List, map, Option, Some}
 use Rattle.std.specs.List.{find}
 use Rattle.std.specs.Str.{bytes_eq}

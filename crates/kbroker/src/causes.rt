@@ -55,11 +55,12 @@ const NAMES: [&str; 48] = [
     "OffsetDelete",
 ];
 
-/// Why a connection was shut, in words. They depend on the cause alone.
-pub fn text_of(alloc: Global, cause: Shut) -> Result<String, AllocError> {
+/// Why a connection was shut on which no request of more than `request_bytes` is read, in words. They depend on nothing else but the
+/// cause.
+pub fn text_of(alloc: Global, cause: Shut, request_bytes: u32) -> Result<String, AllocError> {
     match cause {
         Shut::TooShort => String::from_str(alloc, "a request is too short for its header"),
-        Shut::TooLong => String::from_str(alloc, "a request is longer than 2097152 bytes"),
+        Shut::TooLong => format!(in alloc; "a request is longer than {request_bytes} bytes"),
         Shut::NotServed {
             api_key,
             api_version,

@@ -1,5 +1,7 @@
 //! Where a broker listens, and what it says when clients can connect.
 
+ghost use Rattle.std.specs.Prelude.{◌≡◌, IfOk, None, vec_len};
+
 use crate::Fault;
 use kb_broker::Broker;
 use kb_log::PartitionLog;
@@ -11,12 +13,16 @@ use kb_version::VERSION;
 use std::alloc::Global;
 use std::net::Net;
 
-/// Listens on every address of the settings' host.
+/// Listens on every address of the settings' host. Nobody is connected yet, and the broker is as it was handed over.
 pub fn listen<S: Store + Drop, L: PartitionLog + Drop>(
     rt: &HostRuntime,
     broker: Broker<S, L>,
     settings: &Settings,
-) -> Result<Edge<HostRuntime, S, L>, Fault> {
+) -> Result<Edge<HostRuntime, S, L>, Fault>
+    ensures host { IfOk result (λ edge. (edge.host.broker ≡ broker) × (edge.host.tried ≡ broker.state.last)) }
+    ensures fault { IfOk result (λ edge. edge.host.commits.fault ≡ None) }
+    ensures empty { IfOk result (λ edge. vec_len edge.sockets ≡ 0) }
+{
     let alloc = rt.alloc();
     let address = address_text(alloc, &settings.host, settings.port)?;
     let Ok(shares) = SocketShares::of(alloc, settings) else {

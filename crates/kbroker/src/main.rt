@@ -12,6 +12,7 @@ mod causes;
 mod check;
 mod dump;
 mod history;
+mod ids;
 mod listening;
 mod monitoring;
 mod open;
@@ -53,6 +54,9 @@ enum Fault {
     /// There is no folder at this path.
     #[error("kbroker: no folder {0}")]
     NoFolder(String),
+    /// The producer ids that a tenant's catalog has lost are not given out: behind it stands which tenant's, and why.
+    #[error("kbroker: {0}")]
+    Ids(String),
     /// A standard stream is closed, and nothing can be opened in its place.
     #[error("kbroker: cannot open /dev/null: {0}")]
     Streams(io::Error),

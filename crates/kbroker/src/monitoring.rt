@@ -1,5 +1,7 @@
 //! The pages of a broker that serves: where they are listened on, and when they are served.
 
+ghost use Rattle.std.specs.Prelude.{◌≡◌};
+
 use crate::Fault;
 use crate::history::History;
 use crate::shown::Shown;
@@ -23,14 +25,17 @@ pub struct Monitoring<'a> {
 }
 
 impl<'a> Monitoring<'a> {
-    /// The pages on the address that the settings name, where they name one. From then on the edge counts what its tenants ask. The moment
-    /// is in milliseconds since the beginning of 1970.
+    /// The pages on the address that the settings name, where they name one. From then on the edge counts what its tenants ask, and does
+    /// nothing else. The moment is in milliseconds since the beginning of 1970.
     pub fn open<R: Net, S: Store, L: PartitionLog + Drop>(
         rt: &HostRuntime,
         settings: &'a Settings,
         edge: &mut Edge<R, S, L>,
         started: u64,
-    ) -> Result<Option<Monitoring<'a>>, Fault> {
+    ) -> Result<Option<Monitoring<'a>>, Fault>
+        ensures host { edge.new.host ≡ edge.old.host }
+        ensures sockets { edge.new.sockets ≡ edge.old.sockets }
+    {
         let alloc = rt.alloc();
         let Some(endpoint) = &settings.metrics.address else {
             return Ok(None);
@@ -79,14 +84,18 @@ impl<'a> Monitoring<'a> {
         self.begun = Instant::now(rt).ok();
     }
 
-    /// Counts what a turn of the edge at that moment did, and serves who asks for a page. The moment is in milliseconds.
+    /// Counts what a turn of the edge at that moment did, and serves who asks for a page. The moment is in milliseconds. The broker and its
+    /// sockets stay as they are.
     pub fn turn<R: Net, S: Store, L: PartitionLog + Drop>(
         &mut self,
         rt: &HostRuntime,
         edge: &mut Edge<R, S, L>,
         turn: &Turn,
         now: u64,
-    ) {
+    )
+        ensures host { edge.new.host ≡ edge.old.host }
+        ensures sockets { edge.new.sockets ≡ edge.old.sockets }
+    {
         let is_asked = edge.take_beside();
         let micros = micros_since(rt, self.begun);
         self.history.note(edge, turn, micros, now);

@@ -1,7 +1,13 @@
 //! `kbroker serve`: serves sockets, and tells of it.
 
-ghost use Rattle.std.specs.Prelude.{◌≡◌, ◌≤◌, ◌<◌, ◌*◌, ◌-◌, ◌^◌, max, min};
+ghost use Rattle.std.specs.Prelude.{◌≡◌, ◌≤◌, ◌<◌, ◌*◌, ◌-◌, ◌/◌, ◌^◌, max, min, length, List, [], IfErr, IfOk, OnOk, None, Some};
+ghost use Rattle.kb_server_log.specs.Guard.{clock_after};
+ghost use Rattle.kb_server_log.specs.declared.guard.Reading.{Reading};
+ghost use Rattle.kb_node.specs.Cores.{seen};
+ghost use Rattle.kb_node.specs.Moves.{IsTurn};
+ghost use Rattle.kbroker.specs.Turned.{AreTurned, IsServed};
 
+use crate::ids::skip_ids;
 use crate::listening::{listen, tell_listening};
 use crate::monitoring::Monitoring;
 use crate::open::{Start, consent_of, open_on, with_consent};
@@ -11,7 +17,7 @@ use clap::{Arg, ArgAction, ArgMatches, Command};
 use kb_broker::{Broker, group_limits};
 use kb_disk::disk_to_serve;
 use kb_log::PartitionLog;
-use kb_node::{Edge, Listing, Store};
+use kb_node::{Edge, Listing, Settings, Store, Turn};
 use kb_operator::{
     FolderJournal, Held, Journal, Word, data_folder, hold, last_change, look_at_start, settings_of,
 };
@@ -116,31 +122,64 @@ fn serve_on<S: PutsOff + Drop>(
 ) -> Result<(), Fault> {
     let alloc = rt.alloc();
     let (opened, held) = open(rt, start, store, folder, journal)?;
-    let mut edge = listen(rt, opened.broker, start.settings)?;
-    let mut monitoring = Monitoring::open(rt, start.settings, &mut edge, now(rt))?;
-    tell_listening(rt, &edge, folder.folder())?;
-    journal.tell_found(alloc, now(rt), Word::Start, held);
-    journal.tell_change(alloc, now(rt), changed);
-    let served = turn_on(rt, &mut edge, &mut monitoring, journal, folder);
-    journal.tell_stop(alloc, now(rt));
+    let found = Found { held, changed };
+    let (_edge, served) = serve_broker(rt, opened.broker, start.settings, found, folder, journal)?;
     match served {
         Ok(()) => Ok(()),
         Err(fault) => Err(Fault::Operator(folder.of_store(alloc, fault))),
     }
 }
 
-/// Opens the broker that is served. Members of a broker before are none of this one.
+/// What a start found: what the broker then has, and when its files were changed last.
+#[derive(Clone, Copy)]
+struct Found {
+    held: Held,
+    changed: Option<u64>,
+}
+
+/// Serves sockets on a broker until the turns are used up, or a commit is refused: its edge as it then is, and how that ended.
+///
+/// What is done to the broker is one run of it, in which tenants are kept apart.
+fn serve_broker<S: Store + Drop, L: PartitionLog + Drop>(
+    rt: &HostRuntime,
+    broker: Broker<S, L>,
+    settings: &Settings,
+    found: Found,
+    folder: &mut FolderJournal,
+    journal: &mut Journal,
+) -> Result<(Edge<HostRuntime, S, L>, Result<(), StoreFault>), Fault>
+    requires { broker.state.lines ≡ [] }
+    ensures served { IfOk result (λ ended. IsServed S.disk broker ended.0.host) }
+    ensures refused { IfOk result (λ ended. IfErr ended.1 (λ fault. ended.0.host.commits.fault ≡ Some fault)) }
+{
+    let alloc = rt.alloc();
+    let mut edge = listen(rt, broker, settings)?;
+    let mut monitoring = Monitoring::open(rt, settings, &mut edge, now(rt))?;
+    tell_listening(rt, &edge, folder.folder())?;
+    journal.tell_found(alloc, now(rt), Word::Start, found.held);
+    journal.tell_change(alloc, now(rt), found.changed);
+    let mut clock = GuardedClock::starting(Reading::of(rt));
+    let served = turn_on(rt, &mut edge, &mut clock, &mut monitoring, journal, folder);
+    journal.tell_stop(alloc, now(rt));
+    Ok((edge, served))
+}
+
+/// Opens the broker that is served, to which nobody is connected. Members of a broker before are none of this one, and no producer id of a
+/// batch is given out again.
 fn open<S: PutsOff + Drop>(
     rt: &HostRuntime,
     start: Start<'_>,
     store: S,
     folder: &FolderJournal,
     journal: &mut Journal,
-) -> Result<(Restarted<S>, Held), Fault> {
+) -> Result<(Restarted<S>, Held), Fault>
+    ensures alone { IfOk result (λ both. both.0.broker.state.lines ≡ []) }
+{
     let (mut opened, held) = open_on(rt, start, store, folder, journal)?;
     let limits = group_limits(rt.alloc(), start.settings)?;
     opened.broker.limit_groups(&limits);
     opened.broker.number_members_from(first_member(now(rt)));
+    skip_ids(rt, &mut opened.broker, folder, journal)?;
     if start.settings.sync != Sync::Never
         && let Err(fault) = settle(&mut opened.broker)
     {
@@ -150,7 +189,10 @@ fn open<S: PutsOff + Drop>(
 }
 
 /// Makes what a start left last before anybody is served: else what is acknowledged next would stand behind what was dropped.
-fn settle<S: Store, L: PartitionLog + Drop>(broker: &mut Broker<S, L>) -> Result<(), StoreFault> {
+fn settle<S: Store, L: PartitionLog + Drop>(broker: &mut Broker<S, L>) -> Result<(), StoreFault>
+    requires { broker.old.state.lines ≡ [] }
+    ensures { broker.new.state.lines ≡ [] }
+{
     for _ in 0..TURNS {
         if broker.is_synced() {
             break;
@@ -162,27 +204,79 @@ fn settle<S: Store, L: PartitionLog + Drop>(broker: &mut Broker<S, L>) -> Result
 
 /// Turns an edge until the turns are used up, by a clock that follows the wall clock but not its jumps. An `Err` is that of a commit:
 /// behind it nobody was told anything.
+///
+/// All turns together are one run of the broker, that of an `Err` too: each reading of the clock gives one turn its moment.
 fn turn_on<R: Net, S: Store, L: PartitionLog + Drop>(
     rt: &HostRuntime,
     edge: &mut Edge<R, S, L>,
+    clock: &mut GuardedClock,
     monitoring: &mut Option<Monitoring<'_>>,
     journal: &mut Journal,
     folder: &mut FolderJournal,
-) -> Result<(), StoreFault> {
-    let mut clock = GuardedClock::starting(Reading::of(rt));
+) -> Result<(), StoreFault>
+    requires { edge.old.host.commits.fault ≡ None }
+    ensures turned { (readings : List Reading) × AreTurned S.disk R.Stream.contents R.Stream.remaining readings clock.old clock.new
+        (seen edge.old.host edge.old.sockets.items) (seen edge.new.host edge.new.sockets.items)
+        × OnOk result (length readings ≡ 2 ^ 63 - 1) }
+    ensures refused { IfErr result (λ fault. edge.new.host.commits.fault ≡ Some fault) }
+    ensures well { OnOk result (edge.new.host.commits.fault ≡ None) }
+{
     for _ in 0..TURNS {
-        edge.wait();
-        if let Some(monitoring) = monitoring {
-            monitoring.begin(rt);
-        }
-        let tick = clock.next(Reading::of(rt));
-        let turn = edge.turn(rt.alloc(), tick.moment);
-        folder.tell(rt, journal.lines(), tick.moment);
-        let turn = turn?;
-        tell_turn(rt, journal, edge, &turn, tick);
-        if let Some(monitoring) = monitoring {
-            monitoring.turn(rt, edge, &turn, tick.moment);
-        }
+        turn_once(rt, edge, clock, monitoring, journal, folder)?;
     }
     Ok(())
+}
+
+/// Waits until there may be something to do, reads the clock, and turns the edge once at the moment that it then gives.
+fn turn_once<R: Net, S: Store, L: PartitionLog + Drop>(
+    rt: &HostRuntime,
+    edge: &mut Edge<R, S, L>,
+    clock: &mut GuardedClock,
+    monitoring: &mut Option<Monitoring<'_>>,
+    journal: &mut Journal,
+    folder: &mut FolderJournal,
+) -> Result<(), StoreFault>
+    requires { edge.old.host.commits.fault ≡ None }
+    ensures clock { (reading : Reading) × (clock.new ≡ clock_after clock.old reading) }
+    ensures turn { IsTurn S.disk R.Stream.contents R.Stream.remaining (clock.new.time / 2000)
+        (seen edge.old.host edge.old.sockets.items) (seen edge.new.host edge.new.sockets.items) }
+    ensures refused { IfErr result (λ fault. edge.new.host.commits.fault ≡ Some fault) }
+    ensures well { OnOk result (edge.new.host.commits.fault ≡ None) }
+{
+    edge.wait();
+    begin_turn(rt, monitoring);
+    let tick = clock.next(Reading::of(rt));
+    let turned = edge.turn(rt.alloc(), tick.moment);
+    folder.tell(rt, journal.lines(), tick.moment);
+    match turned {
+        Ok(turn) => {
+            tell_turn(rt, journal, edge, &turn, tick);
+            note_turn(rt, edge, monitoring, &turn, tick.moment);
+            Ok(())
+        }
+        Err(fault) => Err(fault),
+    }
+}
+
+/// A turn of the edge begins, for the pages.
+fn begin_turn(rt: &HostRuntime, monitoring: &mut Option<Monitoring<'_>>) {
+    if let Some(monitoring) = monitoring {
+        monitoring.begin(rt);
+    }
+}
+
+/// What a turn of the edge at that moment did is told on the pages. The broker and its sockets stay as they are.
+fn note_turn<R: Net, S: Store, L: PartitionLog + Drop>(
+    rt: &HostRuntime,
+    edge: &mut Edge<R, S, L>,
+    monitoring: &mut Option<Monitoring<'_>>,
+    turn: &Turn,
+    now: u64,
+)
+    ensures host { edge.new.host ≡ edge.old.host }
+    ensures sockets { edge.new.sockets ≡ edge.old.sockets }
+{
+    if let Some(monitoring) = monitoring {
+        monitoring.turn(rt, edge, turn, now);
+    }
 }

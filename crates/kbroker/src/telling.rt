@@ -1,13 +1,14 @@
 //! What a journal is told of a broker.
 
-ghost use Rattle.std.specs.Prelude.{◌≤◌, ◌^◌};
+ghost use Rattle.std.specs.Prelude.{◌≡◌, ◌≤◌, ◌^◌};
+ghost use Rattle.kbroker.specs.Refusals.{refusals_at};
 
 use crate::causes::text_of;
 use kb_broker::Broker;
 use kb_isolation_spec::Login;
 use kb_log::PartitionLog;
 use kb_node::{Edge, Store, Turn};
-use kb_operator::{Closed, Journal, RefusalCounts};
+use kb_operator::{Closed, Journal, RefusalCounts, TenantRefusals};
 use kb_server_log::{Tick, now};
 use kb_tenants::TenantView;
 use std::net::Net;
@@ -21,25 +22,8 @@ impl<'a, S: Store, L: PartitionLog + Drop> RefusalCounts for CountsOf<'a, S, L> 
         self.0.is_calm()
     }
 
-    fn of_tenant(&self, name: &str) -> u64 {
-        self.0.refusals(name)
-    }
-
-    fn of_tenant_by_disk(&self, name: &str) -> u64 {
-        for place in 0..self.0.tenants_len() {
-            if let Some(view) = self.0.tenant(place) {
-                let TenantView {
-                    name: found,
-                    parts: _,
-                    groups: _,
-                    store_refusals,
-                } = view;
-                if found == name {
-                    return store_refusals;
-                }
-            }
-        }
-        0
+    fn of_tenant(&self, place: usize) -> TenantRefusals {
+        refusals_at(self.0, place)
     }
 
     fn sockets_of_tenant(&self, place: usize) -> u64 {
@@ -52,6 +36,29 @@ impl<'a, S: Store, L: PartitionLog + Drop> RefusalCounts for CountsOf<'a, S, L> 
 
     fn of_disk(&self) -> u64 {
         self.0.store().failures()
+    }
+}
+
+/// How many requests of the tenant at a place the broker refused: none where there is no such tenant. It looks at no other tenant.
+fn refusals_at<S: Store, L: PartitionLog + Drop>(
+    broker: &Broker<S, L>,
+    place: usize,
+) -> TenantRefusals
+    ensures { result ≡ refusals_at place broker.now.state.tenants broker.now.by_store }
+{
+    match broker.tenant(place) {
+        Some(
+            TenantView {
+                name: _,
+                parts,
+                groups: _,
+                store_refusals,
+            },
+        ) => TenantRefusals {
+            all: parts.refusals(),
+            by_disk: store_refusals,
+        },
+        None => TenantRefusals { all: 0, by_disk: 0 },
     }
 }
 
@@ -130,9 +137,10 @@ fn tell_closed<R: Net, S: Store, L: PartitionLog + Drop>(
     second: u64,
 ) {
     let (alloc, now) = (rt.alloc(), now(rt));
+    let request_bytes = edge.broker().request_bytes();
     let shut = &edge.news().closed;
     for closed in shut.first() {
-        let cause = text_of(alloc, closed.cause);
+        let cause = text_of(alloc, closed.cause, request_bytes);
         journal.tell_shut(alloc, now, second, closed.address, closed.tenant, cause);
     }
     journal.count_shut(shut.more());

@@ -3,7 +3,7 @@
 use crate::data::read_request;
 use crate::said::Field::Number;
 use crate::said::Said;
-use kb_api_group::{FrameFeed, Next, RequestHeader, RequestStart};
+use kb_api_group::{FrameFeed, Next, REPLY_LIMIT, RequestHeader, RequestStart};
 use kb_wire::{Layout, ReadFault, Sink, WireFault};
 use std::alloc::{AllocError, Global};
 
@@ -100,10 +100,10 @@ pub fn name(fault: ReadFault) -> &'static str {
 fn frame(alloc: Global, body: &str, frame: &[u8], said: &mut Said) -> Result<(), AllocError> {
     let mut feed = FrameFeed::new(alloc);
     is_fed(&mut feed, frame, said)?;
-    if let Next::Frame(bytes) = feed.next() {
+    if let Next::Frame(bytes) = feed.next(REPLY_LIMIT) {
         request(alloc, body, bytes.as_slice(), said)?;
     }
-    feed.skip();
+    feed.skip(REPLY_LIMIT);
     if feed.unread() > 0 {
         return said.line("bytes are left");
     }
@@ -114,7 +114,7 @@ fn frame(alloc: Global, body: &str, frame: &[u8], said: &mut Said) -> Result<(),
 fn is_fed(feed: &mut FrameFeed, frame: &[u8], said: &mut Said) -> Result<(), AllocError> {
     let (front, rest) = frame.split_at_checked(3).unwrap_or((frame, b""));
     feed.push(front)?;
-    if !matches!(feed.next(), Next::More) {
+    if !matches!(feed.next(REPLY_LIMIT), Next::More) {
         said.line("three bytes are a frame")?;
     }
     feed.push(rest)

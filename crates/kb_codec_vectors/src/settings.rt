@@ -149,6 +149,10 @@ fn say(settings: &Settings, said: &mut Said) -> Result<(), AllocError> {
             Number(settings.requests.idle_seconds as i64),
         ),
         ("input_bytes", Number(settings.requests.input_bytes as i64)),
+        (
+            "request_bytes",
+            Number(settings.requests.request_bytes as i64),
+        ),
         ("request_entries", limit(settings.requests.request_entries)),
         ("reply_bytes", limit(settings.requests.reply_bytes)),
         ("stock_clients", Text(yes_or_no(settings.stock_clients))),

@@ -2,6 +2,8 @@
 
 use kb_broker::ScriptFault;
 use kb_node::{NodeFault, StartFault, play_script};
+use std::alloc::{AllocError, Global};
+use std::fmt::Display;
 use std::io;
 use std::io::{Error, ErrorKind, Write};
 use std::test::Fail;
@@ -36,46 +38,38 @@ fn output_that_is_not_handed_on_is_a_fault(rt: HostRuntime) -> Result<(), Fail> 
     Ok(())
 }
 
-#[test]
-fn faults_of_a_script_have_their_texts(rt: HostRuntime) -> Result<(), Fail> {
-    let faults = [
-        (
-            NodeFault::Script(ScriptFault::BadLine(2)),
-            "kbroker: bad line 2",
-        ),
-        (
-            NodeFault::Script(ScriptFault::TooLong),
-            "kbroker: script too long",
-        ),
-        (NodeFault::Script(ScriptFault::Read), "kbroker: read fault"),
-        (
-            NodeFault::Script(ScriptFault::Write),
-            "kbroker: write fault",
-        ),
-        (
-            NodeFault::Script(ScriptFault::Memory),
-            "kbroker: out of memory",
-        ),
-        (NodeFault::Write, "kbroker: write fault"),
-        (NodeFault::Memory, "kbroker: out of memory"),
-    ];
-    for (fault, text) in &faults {
-        let written = format!(in rt.alloc(); "{fault}")?;
-        assert!(rt; written.as_str() == *text);
-    }
-    Ok(())
+/// Whether a fault has that text.
+fn is_said<F: Display>(alloc: Global, fault: &F, text: &str) -> Result<bool, AllocError> {
+    let written = format!(in alloc; "{fault}")?;
+    Ok(written.as_str() == text)
 }
 
+/// The faults of a script that no exchange ends in.
+const OF_SCRIPTS: [(NodeFault, &str); 6] = [
+    (
+        NodeFault::Script(ScriptFault::TooLong),
+        "kbroker: script too long",
+    ),
+    (NodeFault::Script(ScriptFault::Read), "kbroker: read fault"),
+    (
+        NodeFault::Script(ScriptFault::Write),
+        "kbroker: write fault",
+    ),
+    (
+        NodeFault::Script(ScriptFault::Memory),
+        "kbroker: out of memory",
+    ),
+    (NodeFault::Write, "kbroker: write fault"),
+    (NodeFault::Memory, "kbroker: out of memory"),
+];
+
 #[test]
-fn faults_of_a_start_have_their_texts(rt: HostRuntime) -> Result<(), Fail> {
-    let faults = [
-        (StartFault::Store, "kbroker: store fault"),
-        (StartFault::Listen, "kbroker: cannot listen"),
-        (StartFault::Memory, "kbroker: out of memory"),
-    ];
-    for (fault, text) in &faults {
-        let written = format!(in rt.alloc(); "{fault}")?;
-        assert!(rt; written.as_str() == *text);
+fn faults_have_their_texts(rt: HostRuntime) -> Result<(), Fail> {
+    for (fault, text) in &OF_SCRIPTS {
+        assert!(rt; is_said(rt.alloc(), fault, text)?);
     }
+    assert!(rt; is_said(rt.alloc(), &StartFault::Store, "kbroker: store fault")?);
+    assert!(rt; is_said(rt.alloc(), &StartFault::Listen, "kbroker: cannot listen")?);
+    assert!(rt; is_said(rt.alloc(), &StartFault::Memory, "kbroker: out of memory")?);
     Ok(())
 }

@@ -1,4 +1,5 @@
-//! A broker's calls one by one, a whole run, an opening that is refused, and a broker on a network.
+//! What no clause and no exchange says of brokers: how early there is something to do, that a run and an opening do not give up, the
+//! texts of faults, and what an edge does with sockets over the loopback.
 //!
 //! There is nothing here but tests. The bytes are those of the Kafka protocol guide's layouts, written down beforehand; the
 //! checksums of the record batches are CRC-32C by another program. Exchanges that need nothing of this stand as data in
@@ -6,28 +7,16 @@
 #![tactic(auto)]
 
 #[cfg(test)]
-mod bench;
-#[cfg(test)]
-mod calls;
-#[cfg(test)]
-mod crowd;
+mod edge;
 #[cfg(test)]
 mod faults;
 #[cfg(test)]
-mod groups;
+mod host;
 #[cfg(test)]
-mod logins;
+mod moves;
 #[cfg(test)]
-mod running;
+mod scenes;
 #[cfg(test)]
-mod runs;
-#[cfg(test)]
-mod scripts;
-#[cfg(test)]
-mod sockets;
-#[cfg(test)]
-mod stores;
-#[cfg(test)]
-mod unread;
+mod steps;
 #[cfg(test)]
 mod words;

@@ -11,6 +11,7 @@ deletes it. Both use the same names at the same time, and neither sees the other
 import struct
 import sys
 import tempfile
+import time
 
 from wire import Broker, Client, Cursor, batch, place, text
 
@@ -208,10 +209,10 @@ class Java(Client):
             self.no_epoch("ListOffsets", got)
         return found
 
-    def fetch(self, offset, epoch):
+    def fetch(self, offset, epoch, named=0):
         """Fetch: the error code of its session, the session, and how many topics follow. A version without sessions has neither."""
         version = self.versions["Fetch"]
-        session = struct.pack(">ii", 0, epoch) if version >= 7 else b""
+        session = struct.pack(">ii", named, epoch) if version >= 7 else b""
         leader = struct.pack(">i", 7) if version >= 9 else b""
         asked = place(TOPIC) + leader + struct.pack(">qqi", offset, -1, 1 << 20)
         body = struct.pack(">iiiib", -1, 0, 1, 1 << 20, 0) + session + asked + (struct.pack(">i", 0) if version >= 7 else b"")
@@ -219,9 +220,9 @@ class Java(Client):
         code, found = (got.take(">h"), got.take(">i")) if version >= 7 else (0, 0)
         return code, found, got.take(">i"), got
 
-    def goes_on(self):
+    def goes_on(self, named):
         """A fetch that goes on with a session: its error code, the session and how many topics follow. The client begins anew then."""
-        return self.fetch(0, 1)[:3] if self.versions["Fetch"] >= 7 else (70, 0, 0)
+        return self.fetch(0, 1, named)[:3] if self.versions["Fetch"] >= 7 else (70, 0, 0)
 
     def read(self, offset):
         """A full fetch, which begins a session: the error code, the high watermark, the log's start, and the bytes."""
@@ -240,6 +241,15 @@ def must(what, got, wanted):
         raise SystemExit(f"{what}: {got!r}, and not {wanted!r}")
 
 
+def soon(ask, wanted):
+    """What is answered, once it is what is wanted or two seconds are over: another connection's request may be read after this one's."""
+    over = time.monotonic() + 2
+    got = ask()
+    while got != wanted and time.monotonic() < over:
+        got = ask()
+    return got
+
+
 def group(port, one, two, value):
     """Two members of a group share a topic; the first one leads, and commits."""
     must("FindCoordinator", one.find(), (0, port))
@@ -250,7 +260,7 @@ def group(port, one, two, value):
     one.sync(first, lead, {lead: b"all"})
     must("SyncGroup", one.synced(), (0, b"all"))
     two.join(b"")
-    must("Heartbeat in a rebalance", one.beat(first, lead), 27)
+    must("Heartbeat in a rebalance", soon(lambda: one.beat(first, lead), 27), 27)
     one.join(lead)
     code, second, again, members = one.joined()
     other_code, generation, other, none = two.joined()
@@ -263,7 +273,8 @@ def group(port, one, two, value):
     for _ in range(2):
         code, mark, start, got = one.read(0)
         must("Fetch", (code, mark, start, value in got), (0, 2, 0, True))
-        must("Fetch in a session", one.goes_on(), (70, 0, 0))
+        must("Fetch in a session", [one.goes_on(named) for named in (0, 5)], [(70, 0, 0)] * 2)
+        must("Fetch that ends a session", [one.fetch(0, epoch, 5)[:3] for epoch in (0, -1)], [(0, 0, 1)] * 2)
     must("OffsetCommit", (one.commit(second, lead, 2), one.commit(first, lead, 1), one.committed()), (0, 22, 2))
     must("LeaveGroup", (two.leave(other), one.leave(lead), one.leave(lead)), (0, 0, 25))
 

@@ -1,13 +1,13 @@
 #!/usr/bin/env python3
 """localhost.py KBROKER [KCONSOLE]: a broker on `localhost` answers at each address of it, and tells clients what is advertised.
 
-`localhost` is to be `::1` and `127.0.0.1`. Where /etc/hosts does not say so, the script runs itself in a mount namespace of its own with
+`localhost` is to be `::1` and, twice, `127.0.0.1`, which is listened on once. The script runs itself in a mount namespace of its own with
 another file bound over it (`unshare -m`, as root); the system's file is not changed. A second run is in a network namespace without
 IPv6: the broker goes on with `127.0.0.1`. It takes some seconds, uses 127.0.0.1 and ::1 alone, and prints how many addresses answered."""
 import fcntl, os, shutil, socket, struct, subprocess, sys, tempfile, time
 
 ADDRESSES = ("127.0.0.1", "::1")
-HOSTS = "127.0.0.1 localhost\n::1 localhost ip6-localhost\n"
+HOSTS = "127.0.0.1 localhost\n::1 localhost ip6-localhost\n127.0.0.1 localhost\n"
 USER = 'connections = 64\n[[user]]\nname = "ann"\npassword = "pw1"\ntenant = "a"\n'
 
 
@@ -122,6 +122,7 @@ def with_both(program, home):
     address = f'host = "localhost"\nport = {port}\n'
     with Broker(program, f"{home}/told", address + 'advertise = "broker.example:19999"\n') as broker:
         print(broker.line)
+        right &= expect("times that 127.0.0.1 is listened on", broker.line.count(f"127.0.0.1:{port}"), 1)
         right &= expect("ApiVersions answered at", answering(port, ADDRESSES), list(ADDRESSES))
         right &= expect("Metadata tells", told_at("127.0.0.1", port), ("broker.example", 19999))
         taken = Broker(program, f"{home}/taken", address).fault()

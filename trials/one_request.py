@@ -56,6 +56,10 @@ def requests():
     yield "DeleteTopics", 20, 0, struct.pack(">i", ENTRIES) + b"".join(text(it) for it in names) + struct.pack(">i", 0)
     yield "CreateTopics of 64", 19, 0, creations([b"w%d" % n for n in range(900)], 64)
     yield "DescribeGroups", 15, 0, struct.pack(">i", ENTRIES) + text(b"g") * ENTRIES
+    yield "DescribeConfigs of a topic", 32, 0, struct.pack(">i", ENTRIES) + (b"\2" + text(NAMES) + struct.pack(">i", -1)) * ENTRIES
+    yield "DescribeConfigs of the broker", 32, 0, struct.pack(">i", ENTRIES) + (b"\4" + text(b"0") + struct.pack(">i", -1)) * ENTRIES
+    keys = struct.pack(">i", ENTRIES) + text(b"retention.bytes.of.none") * ENTRIES
+    yield "DescribeConfigs, many names", 32, 0, struct.pack(">i", 1) + b"\4" + text(b"0") + keys
 
 
 class Beside:

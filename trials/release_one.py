@@ -1,5 +1,5 @@
 #!/usr/bin/python3
-"""Clients that take the broker for one of Kafka 1.0 by its list, for each of two tenants.
+"""Clients that take the broker for one of a release by its list, for each of two tenants.
 
     trials/release_one.py KBROKER
 
@@ -85,7 +85,7 @@ def kafka_python(count, port):
     """Admin, producer and a group of each tenant."""
     for user in USERS:
         admin = kafka.KafkaAdminClient(**login(port, user))
-        count.must(f"{user}, the release that is inferred", admin.config["api_version"], (1, 0, 0))
+        count.must(f"{user}, the release that is inferred", admin.config["api_version"], (2, 0, 0))
         admin.create_topics([NewTopic(TOPIC, 4, 1)])
         count.must(f"{user}, topics", admin.list_topics(), [TOPIC])
         producer = kafka.KafkaProducer(acks="all", **login(port, user))

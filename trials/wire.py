@@ -75,12 +75,13 @@ def varint(number):
     return out + bytes([number])
 
 
-def batch(value, now=None):
-    """A record batch of magic 2 with one record, whose timestamp is now, or the one that is given."""
+def batch(value, now=None, producer=(-1, -1, -1)):
+    """A record batch of magic 2 with one record, whose timestamp is now, or the one that is given. A producer is its id, its epoch and the
+    batch's sequence."""
     time_of = int(time.time() * 1000) if now is None else now
     record = b"\0" + varint(0) + varint(0) + varint(-1) + varint(len(value)) + value + varint(0)
     records = varint(len(record)) + record
-    body = struct.pack(">hiqqqhii", 0, 0, time_of, time_of, -1, -1, -1, 1) + records
+    body = struct.pack(">hiqqqhii", 0, 0, time_of, time_of, *producer, 1) + records
     head = struct.pack(">ib", 0, 2) + struct.pack(">I", castagnoli(body))
     return struct.pack(">qi", 0, len(head) + len(body)) + head + body
 

@@ -15,7 +15,8 @@ use std::alloc::{AllocError, Global};
 use std::hash::RandomState;
 use std::io;
 
-/// The store of a data folder's files, of which a loss of power leaves simple things alone, with what was read and written last in memory.
+/// The store of a data folder's files, of which a loss of power leaves simple things alone, with what was read last, and what was written
+/// to files that are read, in memory.
 /// Nothing of it is cut or removed before the first write.
 pub type Disk = Postponed<CachedStore<DurableStore<DataStore>>>;
 

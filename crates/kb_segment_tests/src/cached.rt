@@ -1,5 +1,5 @@
 //! Logs and files over a store with a cache: the answers are those of the store inside, and what is kept is answered without it.
-ghost use Rattle.std.specs.Prelude.{◌≡◌, [], IfOk};
+ghost use Rattle.std.specs.Prelude.{◌≡◌, [], false, IfOk};
 ghost use Rattle.kb_log.specs.OnShelf.{on, IsSound};
 
 use crate::alone::{is_alone, is_empty};
@@ -24,7 +24,14 @@ fn cached<S: Store + Drop>(
     most_entries: u32,
     most_bytes: u64,
 ) -> Result<CachedStore<S>, Fail>
-    ensures { IfOk result (λ store. store ≡ record { store = inside; entries = []; most_entries = most_entries; most_bytes = most_bytes }) }
+    ensures { IfOk result (λ store. store ≡ record {
+      store = inside;
+      entries = [];
+      most_entries = most_entries;
+      most_bytes = most_bytes;
+      asked = [];
+      writes = false;
+    }) }
 {
     let hasher = RandomState::new(rt)?;
     Ok(CachedStore::new(rt.alloc(), hasher, inside, most_entries, most_bytes))
@@ -79,6 +86,37 @@ fn nothing_old_is_answered_after_a_cut_and_a_removal(rt: HostRuntime) -> Result<
             "{most_entries} entries"
         );
     }
+    Ok(())
+}
+
+/// How many calls of the store inside it takes to find that the file 0 has some bytes.
+fn calls_to_find(
+    alloc: Global,
+    store: &mut CachedStore<FusedStore<MemoryStore>>,
+    bytes: &[u8],
+) -> Result<u64, Fail> {
+    let before = store.store().calls;
+    if !has(alloc, store, bytes)? {
+        return Err("other bytes".into());
+    }
+    Ok(store.store().calls.saturating_sub(before))
+}
+
+/// What is appended is kept once the file is read, and not before. What was read before the first append does not count.
+#[test]
+fn a_reader_that_follows_is_answered_from_memory(rt: HostRuntime) -> Result<(), Fail> {
+    let alloc = rt.alloc();
+    let inside = FusedStore::new(MemoryStore::new(alloc), Fuse::From(u64::MAX), 0);
+    let mut store = cached(&rt, inside, 64, 1 << 20)?;
+    make(alloc, &mut store)?;
+    let _ = calls_to_find(alloc, &mut store, b"")?;
+    add(alloc, &mut store, b"first ")?;
+    let read = calls_to_find(alloc, &mut store, b"first ")?;
+    let kept = calls_to_find(alloc, &mut store, b"first ")?;
+    assert_eq!(rt; read.saturating_sub(kept), 1);
+    add(alloc, &mut store, b"second")?;
+    let followed = calls_to_find(alloc, &mut store, b"first second")?;
+    assert_eq!(rt; followed, kept);
     Ok(())
 }
 

@@ -46,6 +46,7 @@ pub mod RetainMoves
 pub mod Room
 pub mod ServeMoves
 pub mod Serving
+pub mod Sessions
 pub mod Settings
 pub mod Small
 pub mod Spelled

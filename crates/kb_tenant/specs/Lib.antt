@@ -21,6 +21,7 @@ pub mod Repeated
 pub mod Replies
 pub mod Room
 pub mod Serve
+pub mod Sessions
 pub mod Settings
 pub mod Told
 pub mod Turns

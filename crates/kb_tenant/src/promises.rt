@@ -1,19 +1,28 @@
 //! Laws about the definitions, each as the contract of a function with an empty body.
-ghost use Rattle.std.specs.Prelude.{◌≡◌, ◌<◌, ℕ, ℤ, List, Option, Ok, None};
+ghost use Rattle.std.specs.Prelude.{◌≡◌, ◌<◌, ℕ, ℤ, pos, List, Option, Ok, None};
 ghost use Rattle.std.specs.List.{Contains};
+ghost use Rattle.kb_wire.specs.Codec.{array, string, whole};
 ghost use Rattle.kb_wire.specs.declared.api_key.TheConstants.{FETCH};
+ghost use Rattle.kb_api_data.specs.Both.{both};
+ghost use Rattle.kb_api_data.specs.FetchSession.{fetch_partition_v9, fetch_request_v7};
+ghost use Rattle.kb_api_data.specs.Layouts.{fetch_topic_v5};
+ghost use Rattle.kb_api_data.specs.declared.both.Both.{Both};
 ghost use Rattle.kb_api_data.specs.declared.fetch.FetchRequest.{FetchRequest};
+ghost use Rattle.kb_api_data.specs.declared.fetch_v5.FetchTopicV5.{FetchTopicV5};
+ghost use Rattle.kb_api_data.specs.declared.fetch_v7.FetchPartitionV9.{FetchPartitionV9};
+ghost use Rattle.kb_api_data.specs.declared.fetch_v7.FetchRequestV7.{FetchRequestV7};
 ghost use Rattle.kb_api_group.specs.declared.offset_commit.OffsetCommitRequest.{OffsetCommitRequest};
 ghost use Rattle.kb_tenant_state.specs.Tied.{IsTied};
 ghost use Rattle.kb_tenant_state.specs.World.{World, new_world};
 ghost use Rattle.kb_tenant_state.specs.Calls.{retain, retain_all};
 ghost use Rattle.kb_tenant_state.specs.declared.topic_partition.TopicPartition.{TopicPartition};
 ghost use Rattle.kb_tenant.specs.Batches.{HasSmallLogs, HoldsBatches};
-ghost use Rattle.kb_tenant.specs.Fetch.{asked_fetch, fetch_answer, places_of};
+ghost use Rattle.kb_tenant.specs.Fetch.{asked_code, asked_fetch, fetch_answer, places_of};
 ghost use Rattle.kb_tenant.specs.LimitsKept.{AreLimitsKept, HasOrderedCommits};
 ghost use Rattle.kb_tenant.specs.OffsetCommit.{committed_all};
-ghost use Rattle.kb_tenant.specs.Replies.{Replies};
+ghost use Rattle.kb_tenant.specs.Replies.{Replies, Waits};
 ghost use Rattle.kb_tenant.specs.Serve.{plainly_served, looked};
+ghost use Rattle.kb_tenant.specs.Sessions.{GoesOn, session_not_found};
 ghost use Rattle.kb_tenant.specs.Waiting.{AreApart, HasOwnNames, StillWaits};
 ghost use Rattle.kb_tenant.specs.declared.limits.DataLimits.{DataLimits};
 ghost use Rattle.kb_tenant.specs.declared.node.Node.{Node};
@@ -103,6 +112,21 @@ pub fn fetches_give_whole_batches()
     ensures looked { (w : World) (clock deadline : ℕ) (version : ℤ) (limit : Option ℕ) (body bytes : List ℕ) (r : FetchRequest)
         → HasSmallLogs w → asked_fetch version body ≡ Ok r
         → looked w clock deadline version limit body ≡ Replies bytes → HoldsBatches version w r bytes }
+{}
+
+/// A Fetch 7 or 9 that goes on with a session is answered at once, whatever else it asks: there is no session. A fetch that waits goes
+/// on with none, and so has no error of a session later.
+pub fn no_session_is_found()
+    ensures without_epochs { (node : Node) (w : World) (clock n : ℕ) (body : List ℕ) (q : FetchRequestV7 FetchTopicV5)
+        → whole (fetch_request_v7 fetch_topic_v5) body ≡ Ok q → GoesOn q.session_epoch
+        → (plainly_served node w clock n FETCH (pos 7) body).reaction ≡ Replies session_not_found }
+    ensures with_epochs { (node : Node) (w : World) (clock n : ℕ) (body : List ℕ)
+        (q : FetchRequestV7 (Both (List ℕ) (List FetchPartitionV9)))
+        → whole (fetch_request_v7 (both string (array fetch_partition_v9))) body ≡ Ok q → GoesOn q.session_epoch
+        → (plainly_served node w clock n FETCH (pos 9) body).reaction ≡ Replies session_not_found }
+    ensures waits { (node : Node) (w : World) (clock n : ℕ) (version : ℤ) (body : List ℕ) (deadline : ℕ) (limit : Option ℕ)
+        (places : List TopicPartition) → (plainly_served node w clock n FETCH version body).reaction ≡ Waits deadline limit places
+        → asked_code version body ≡ pos 0 }
 {}
 
 /// No group has two offsets of a partition, from the start on, whatever is asked, committed or dropped by retention, at whatever time.

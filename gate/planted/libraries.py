@@ -1,4 +1,5 @@
-"""The crates below one: as libraries where `rt ci` on this machine has kept them of just these sources, and as sources where not."""
+"""The crates below one: as libraries where `rt` on this machine has kept or built them of just these sources, and as sources where not."""
+import functools
 import hashlib
 import json
 import os
@@ -9,11 +10,17 @@ from planted.prover import LIB, RT
 
 
 class Libraries:
-    """What `rt ci` has kept of the crates of a repository. What of it is asked for stands in a room, by its key."""
+    """The libraries that there are of a repository's crates. What of `rt ci`'s is asked for stands in a room, by its key.
+
+    A toolchain whose `rt ci` keeps nothing leaves what it and `rt lib` built in each crate's own folder, and that is taken there."""
 
     def __init__(self, crates, room: str):
         RT.Crate.allowed = RT.handles_of(os.getcwd())
-        self.kept, self.room, self.alone = RT.Kept([*crates]), room, threading.RLock()
+        self.kept = RT.Kept([*crates]) if hasattr(RT, "Kept") else None
+        if not self.kept:
+            # (each crate asks those below it for theirs, again and again)
+            LIB.Crate.stamp = functools.cache(LIB.Crate.stamp)
+        self.room, self.alone = room, threading.RLock()
         self.found: Dict[str, str] = {}
         self.asked = set()
 
@@ -23,8 +30,16 @@ class Libraries:
             if crate.name not in self.asked:
                 self.asked.add(crate.name)
                 if all([self.has(it) for it in crate.below()]):
-                    self.take(crate)
+                    self.take(crate) if self.kept else self.take_built(crate)
             return crate.name in self.found
+
+    def take_built(self, crate):
+        """Takes a library from its crate's folder, where it is of these sources by its stamp, or newer than they and the libraries below."""
+        at = f"{crate.folder}/out/rlib/{crate.name}.rlib"
+        older = [*LIB.files_of(crate.folder), *(self.found[it.name] for it in crate.below())]
+        is_newer = os.path.isdir(at) and all(os.path.getmtime(it) <= os.path.getmtime(at) for it in older)
+        if crate.makes_rlib() and (is_newer or crate.is_built()):
+            self.found[crate.name] = at
 
     def take(self, crate):
         key = self.kept.key(crate)

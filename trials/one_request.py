@@ -56,6 +56,8 @@ def requests():
     yield "DeleteTopics", 20, 0, struct.pack(">i", ENTRIES) + b"".join(text(it) for it in names) + struct.pack(">i", 0)
     yield "CreateTopics of 64", 19, 0, creations([b"w%d" % n for n in range(900)], 64)
     yield "DescribeGroups", 15, 0, struct.pack(">i", ENTRIES) + text(b"g") * ENTRIES
+    # (a group counts 64: of more the connection is closed)
+    yield "DeleteGroups, unknown groups", 42, 0, struct.pack(">i", ENTRIES // 64) + b"".join(text(b"g%d" % n) for n in range(ENTRIES // 64))
 
 
 class Beside:

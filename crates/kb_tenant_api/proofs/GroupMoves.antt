@@ -1,5 +1,6 @@
 -- DeleteGroups tells no place, touches no log and no name, and makes nothing more.
-use Rattle.std.proofs.Common.{◌≡◌, ◌∙◌, ◌≤◌, ℕ, ℤ, Bool, true, false, List, [], ◌∷◌, length, map, None, refl, sym, subst, ap, arith, length-map}
+use Rattle.std.proofs.Common.{◌≡◌, ◌∙◌, ◌≤◌, ℕ, ℤ, Bool, true, false, List, [], ◌∷◌, length, map, None, refl, sym, subst, ap, arith}
+use Rattle.std.proofs.lemmas.List.{length-map}
 use Rattle.std.specs.Prelude.{if◌then◌else◌}
 use Rattle.std.specs.Option.{option_map}
 use Rattle.std.specs.Ordering.{nat_cmp}
@@ -116,7 +117,7 @@ ordered_topics group (e ∷ ts) all = (ordered_parts group e.1.partitions all.0,
 gone_less : (w : World) (group : List ℕ) → Less w (record w { known = without_group w.known group })
 gone_less w group = record {
   bytes = omega arith;
-  topics = (let same = length-map w.known.topics (λ e. (e.0, without_commits group e.1)) in omega (arith, same));
+  topics = (let one : ℕ × TopicState → ℕ × TopicState = λ e. (e.0, without_commits group e.1) in let same = length-map w.known.topics one in omega (arith, same));
   partitions = partitions_less group w.known.topics;
   offsets = topics_less group w.known.topics;
 }

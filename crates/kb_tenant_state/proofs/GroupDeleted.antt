@@ -1,5 +1,6 @@
 -- What a call that deletes all that a group committed makes of the catalog.
-use Rattle.std.proofs.Common.{◌≡◌, ◌∙◌, ℕ, zero, suc, Bool, true, false, cond, List, [], ◌∷◌, length, map, Option, Some, None, refl, sym, ap, subst, length-map}
+use Rattle.std.proofs.Common.{◌≡◌, ◌∙◌, ℕ, zero, suc, Bool, true, false, cond, List, [], ◌∷◌, length, map, Option, Some, None, refl, sym, ap, subst}
+use Rattle.std.proofs.lemmas.List.{length-map}
 use Rattle.std.specs.Prelude.{pos, slice_get}
 use Rattle.std.specs.Option.{option_map, option_and_then}
 use Rattle.kb_topics.specs.declared.command.Command.TheVariants.{DeleteGroup}
@@ -26,7 +27,7 @@ group_counts group (e ∷ ts) = λ i. (e.0, length-map e.1.partitions (without_c
 pub group_were : (k : Known) (group : List ℕ) → WereThere k (without_group k group)
 group_were k group i t at =
     let was = was_there group (topic_at i k.topics) t (sym (at_less group i k.topics) ∙ at) in
-    record { former = was.0; at = was.1.0; config = ap (λ (x : TopicState). x.config) was.1.1 }
+    record { former = was.0; at = was.1; config = ap (λ (x : TopicState). x.config) was.2 }
 
 same_start : (group : List ℕ) (ps : List PartitionState) (p : ℕ) → start_said (slice_get (map (without_commit group) ps) p) ≡ start_said (slice_get ps p)
 same_start group [] p = refl

@@ -1,5 +1,5 @@
 -- Topics without what a group committed: they stand under the same instances, with the same names and as many partitions.
-use Rattle.std.proofs.Common.{◌≡◌, ◌∙◌, ◌≤◌, ℕ, Bool, true, false, cond, List, [], ◌∷◌, length, map, Option, Some, None, refl, sym, ap, subst, arith, length-map}
+use Rattle.std.proofs.Common.{◌≡◌, ◌∙◌, ◌≤◌, ℕ, Bool, true, false, cond, List, [], ◌∷◌, length, map, Option, Some, None, refl, sym, ap, subst, arith}
 use Rattle.std.specs.Prelude.{pos, ◌==◌, slice_get}
 use Rattle.std.specs.Option.{option_map}
 use Rattle.std.specs.Ordering.{nat_cmp}
@@ -10,6 +10,7 @@ use Rattle.std.specs.Map.{keys_of, lookup}
 use Rattle.std.specs.BTreeMap.{BTreeMap, get_by_text, is_at}
 use Rattle.std.specs.Str.{bytes_eq}
 use Rattle.std.specs.declared.string.String.{String}
+use Rattle.std.proofs.lemmas.List.{length-map}
 use Rattle.std.proofs.lemmas.Map.Made.{keys_of-map_values, lookup-map_values}
 use Rattle.kb_topics.specs.Known.{Known, PartitionState, TopicState, named, topic_at, without_commit, without_commits, without_group}
 use Rattle.kb_topics.specs.Linked.{IsLinked}
@@ -72,7 +73,8 @@ apart_less group (e ∷ ts) apart = (named_less group e.1.name ts ∙ apart.0, a
 
 pub well_formed_less : (k : Known) (group : List ℕ) → IsWellFormed k → IsWellFormed (without_group k group)
 well_formed_less k group is =
-    let same = length-map k.topics (λ e. (e.0, without_commits group e.1)) in
+    let one : ℕ × TopicState → ℕ × TopicState = λ e. (e.0, without_commits group e.1) in
+    let same = length-map k.topics one in
     let few = is.few in
     record {
       few = omega (arith, same, few);
@@ -88,11 +90,11 @@ well_formed_less k group is =
 pub linked_less : {Y : Type 0} (names : BTreeMap (String Y) ℕ) (ts us : List (ℕ × TopicState)) (creates : ℕ) (group : List ℕ) → us ≡ less group ts → IsLinked names ts creates → IsLinked names us creates
 linked_less names ts us creates group same is = subst (λ x. IsLinked names x creates) (sym same) (record {
   ordered = subst (λ ks. IsStrictlySortedBy nat_cmp ks) (sym (keys_less group ts)) is.ordered;
-  below = λ i t at. let was = was_there group (topic_at i ts) t (sym (at_less group i ts) ∙ at) in is.below i was.0 was.1.0;
+  below = λ i t at. let was = was_there group (topic_at i ts) t (sym (at_less group i ts) ∙ at) in is.below i was.0 was.1;
   forth = λ i t at.
       let was = was_there group (topic_at i ts) t (sym (at_less group i ts) ∙ at) in
-      ap (λ (x : TopicState). get_by_text names x.name) was.1.1 ∙ is.forth i was.0 was.1.0;
+      ap (λ (x : TopicState). get_by_text names x.name) was.2 ∙ is.forth i was.0 was.1;
   back = λ q i at.
       let found = is.back q i at in
-      (without_commits group found.0, (at_less group i ts ∙ ap (option_map (without_commits group)) found.1.0, found.1.1));
+      (without_commits group found.0, at_less group i ts ∙ ap (option_map (without_commits group)) found.1, found.2);
 })

@@ -38,19 +38,22 @@ without_none id (x ∷ es) p = by (bytes_eq x.id id) (place_of id es) p (λ q. w
 -- ## What holds of the rest
 
 all_removed : (P : List ℕ → Type 0) (es : List Entry) (i : ℕ) → AllByRecursion P (map (λ e. e.id) es) → AllByRecursion P (map (λ e. e.id) (remove es i))
-all_removed P [] i all = tt
+all_removed P [] zero all = tt
+all_removed P [] (suc i) all = tt
 all_removed P (e ∷ es) zero all = all.1
 all_removed P (e ∷ es) (suc i) all = (all.0, all_removed P es i all.1)
 
 pub sorted_removed : (es : List Entry) (i : ℕ) → AreSorted es → AreSorted (remove es i)
 unfolding IsStrictlySortedBy
-sorted_removed [] i rises = tt
+sorted_removed [] zero rises = tt
+sorted_removed [] (suc i) rises = tt
 sorted_removed (e ∷ es) zero rises = rises.1
 sorted_removed (e ∷ es) (suc i) rises = (all_removed _ es i rises.0, sorted_removed es i rises.1)
 
 pub due_removed : (es : List Entry) (i q : ℕ) → q ≤ earliest es → q ≤ earliest (remove es i)
 unfolding earliest
-due_removed [] i q h = h
+due_removed [] zero q h = h
+due_removed [] (suc i) q h = h
 due_removed (e ∷ es) zero q h = omega (arith, h)
 due_removed (e ∷ es) (suc i) q h = omega (arith, h, due_removed es i q (omega (arith, h)))
 

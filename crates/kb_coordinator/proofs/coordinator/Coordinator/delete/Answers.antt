@@ -1,9 +1,8 @@
 use Rattle.std.proofs.Common.{◌≡◌, ◌∙◌, ◌<◌, ◌≤◌, ◌+◌, ◌-◌, sym, subst, ap, arith, Some, None, length, slice_get}
 use Rattle.std.specs.List.{flat_map, remove}
 use Rattle.std.specs.Prelude.{is_some}
-use Rattle.kb_groups.specs.declared.state.State.{State}
 use Rattle.kb_coordinator.specs.Calls.{deleted}
-use Rattle.kb_coordinator.specs.Groups.{AreSorted, AreWithin, Groups, earliest, found, place_of, without}
+use Rattle.kb_coordinator.specs.Groups.{AreSorted, AreWithin, Groups, earliest, found, place_of}
 use Rattle.kb_coordinator.proofs.Deleted.{due_removed, removed_fits, sorted_removed, within_removed, without_at, without_none}
 use Rattle.kb_coordinator.proofs.Lists.{at_index, found_at, found_none, place_below}
 use Rattle.kb_coordinator.proofs.Places.{groups_of}

@@ -66,8 +66,8 @@ pub enum Listing {
     /// Each API at one version, but Fetch at 4 and 5.
     Served,
     /// The same, and what stock clients ask for beside: of each API but SaslAuthenticate more versions, and DescribeGroups, ListGroups,
-    /// DeleteGroups and DescribeConfigs. Older clients log in by SaslHandshake 0, and librdkafka looks for it in the list before it logs in by
-    /// version 1.
+    /// DeleteGroups and DescribeConfigs. Older clients log in by SaslHandshake 0, and librdkafka looks for it in the list before it
+    /// logs in by version 1.
     StockClients,
 }
 

@@ -57,8 +57,8 @@ fn serve_by_key<L: PartitionLog + Drop, S: Store>(
     ensures stays { let a = scene L.log S.disk parts.old shelf.old in let b = scene L.log S.disk parts.new shelf.new in
         IsOfMembers request.now.api_key → b.state.world ≡ a.state.world }
     ensures groups { let a = scene L.log S.disk parts.old shelf.old in
-        AreGroupsOf request.now.api_key groups.old (served node.now a.state.world clock groups.old request.now.connection request.now.api_key
-        request.now.api_version request.now.body.now).groups result groups.new }
+        AreGroupsOf request.now.api_key groups.old (served node.now a.state.world clock groups.old request.now.connection
+        request.now.api_key request.now.api_version request.now.body.now).groups result groups.new }
     ensures waits { IsWaitToldBy request.now.connection groups.old result groups.new }
 {
     let limits = node.limits;
@@ -132,8 +132,8 @@ pub fn serve<L: PartitionLog + Drop, S: Store>(
         request.now.api_key ≡ PRODUCE
         → IsPlainly (IsSpared request.now.api_version a.state.world request.now.body.now b.state.world) result.answer }
     ensures groups { let a = scene L.log S.disk parts.old shelf.old in
-        AreGroupsAfter request.now.api_key groups.old (served node.now a.state.world clock groups.old request.now.connection request.now.api_key
-        request.now.api_version request.now.body.now).groups result.answer groups.new }
+        AreGroupsAfter request.now.api_key groups.old (served node.now a.state.world clock groups.old request.now.connection
+        request.now.api_key request.now.api_version request.now.body.now).groups result.answer groups.new }
     ensures waits { IsWaitTold request.now.connection groups.old result.answer groups.new }
     ensures released { result.released ≡ has_released groups.new }
 {

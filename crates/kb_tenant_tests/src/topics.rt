@@ -9,8 +9,8 @@ use std::test::Fail;
 use steps::{Kept, Step};
 
 /// The meta log of the creation of `t` and of `u`, the deletion of `u`, the producer ids 0, 1 and 2, the start of partition 0 of
-/// `t` moved to 1, the commit of offset 1 there by `g` with metadata `m`, and the deletion of `g`: each batch as its offset, length, epoch, magic and
-/// checksum, its front and its record.
+/// `t` moved to 1, the commit of offset 1 there by `g` with metadata `m`, and the deletion of `g`: each batch as its offset, length,
+/// epoch, magic and checksum, its front and its record.
 const RECORDED: &str = "\
     0000000000000000 00000058 00000000 02 1b94e8c5 front 4c00000001400100017400000000000000000000000100000000240c8400ffffffffffffffff00 \
     0000000000000001 00000058 00000000 02 e72def6e front 4c000000014001000175000000000000000100000003ffffffffffffffff00000000000003e800 \

@@ -1,20 +1,26 @@
 #!/usr/bin/python3
-"""Tools that list and describe consumer groups, for each of two tenants.
+"""Tools that list, describe and delete consumer groups, for each of two tenants.
 
     trials/group_tools.py KBROKER
 
 Two tenants have groups of the same name and others, in each state that a group has. Each is asked by frames of each version of
-ListGroups and DescribeGroups, whose bytes are composed here, by kafka-python's admin client and by confluent_kafka's `list_groups`. It
-says what each tenant has, and how many of the answers are wrong. It needs Debian's python3-kafka and python3-confluent-kafka.
+ListGroups and DescribeGroups, whose bytes are composed here, by kafka-python's admin client and by confluent_kafka's `list_groups`.
+
+Then groups are deleted by kafka-python's `delete_consumer_groups`, by librdkafka's `rd_kafka_DeleteGroups` and by frames of each version:
+such as committed, such as have members, and such as are not there. The broker is killed (SIGKILL) between, and starts again. What each
+tenant's groups committed is asked after each.
+
+It says what each tenant has, and how many of the answers are wrong. It needs Debian's python3-kafka and python3-confluent-kafka.
 """
 
+import ctypes
 import itertools
 import struct
 import sys
 import tempfile
 import time
 
-from wire import Broker, Client, Cursor, in_debians_python, text
+from wire import Broker, Client, Cursor, commit, create, in_debians_python, text
 
 in_debians_python("confluent_kafka", "kafka")
 
@@ -22,7 +28,8 @@ import confluent_kafka.admin
 import kafka
 
 USERS = {"ann": "pw1", "bob": "pw2"}
-LIST, DESCRIBE = 16, 15
+LIST, DESCRIBE, DELETE = 16, 15, 42
+DELETED, ILLEGAL, NON_EMPTY, NOT_FOUND = 0, 24, 68, 69
 VERSIONS = (0, 1, 2)
 
 
@@ -52,7 +59,7 @@ class Member(Client):
     def asks_to_join(self):
         """JoinGroup, by the protocols `range` and `roundrobin`."""
         protocols = text(b"range") + blob(self.metadata) + text(b"roundrobin") + blob(b"other")
-        body = text(self.group) + struct.pack(">ii", 30_000, 60_000) + text(self.id) + text(b"consumer") + struct.pack(">i", 2) + protocols
+        body = text(self.group) + struct.pack(">ii", 600_000, 600_000) + text(self.id) + text(b"consumer") + struct.pack(">i", 2) + protocols
         self.send([(11, 1, body)])
 
     def joined(self):
@@ -191,6 +198,121 @@ def ask_librdkafka(count, port, user, groups):
         count.must(f"{user}, confluent_kafka, {name or 'all groups'}", got, wanted)
 
 
+def offsets_of(client, group):
+    """All that a group committed, by topic and partition: OffsetFetch 2 of all topics."""
+    got, offsets = Cursor(client.ask(9, 2, text(group) + struct.pack(">i", -1))), {}
+    for _ in range(got.take(">i")):
+        topic = got.text()
+        for _ in range(got.take(">i")):
+            partition = got.take(">i")
+            offsets[topic, partition] = got.take(">q")
+            got.text(), got.take(">h")
+    return offsets
+
+
+class Committed:
+    """What groups of both users committed, as it is to be."""
+
+    def __init__(self, count):
+        self.count, self.groups = count, {}
+
+    def make(self, port):
+        """Both users have a topic of three partitions, to each of which some groups commit. `gone` has a member that left it."""
+        for user in USERS:
+            client, topic = Client(port, user.encode(), USERS[user].encode()), b"of-" + user.encode()
+            self.count.must(f"{user} makes a topic", client.all([create(topic, 3)]), [0])
+            for number, group in enumerate((b"done", b"gone", b"kept", b"late")):
+                offsets = {(topic, part): 100 * number + part for part in range(3)}
+                codes = client.all([commit(group, topic, offset=offset, partition=part) for (_, part), offset in offsets.items()])
+                self.count.must(f"{user} commits", codes, [0, 0, 0])
+                self.groups[user, group] = offsets
+
+    def look(self, port, when):
+        """Each group of each user has what it is to have."""
+        for (user, group), wanted in self.groups.items():
+            got = offsets_of(Client(port, user.encode(), USERS[user].encode()), group)
+            self.count.must(f"{when}: offsets of {user}'s {group.decode()}", got, wanted)
+
+    def deleted(self, user, what, got, wanted):
+        """Counts what a deletion was answered, group by group. What was deleted has committed nothing."""
+        self.count.must(f"{user}, {what}", got, wanted)
+        for group, code in wanted.items():
+            if code == DELETED and (user, group) in self.groups:
+                self.groups[user, group] = {}
+
+
+def delete_by_frames(port, user, version, groups):
+    """DeleteGroups; the error code of each entry, in order."""
+    client = Client(port, user.encode(), USERS[user].encode())
+    got = Cursor(client.ask(DELETE, version, struct.pack(">i", len(groups)) + b"".join(text(it) for it in groups)))
+    throttled = got.take(">i")
+    codes = [(got.text(), got.take(">h")) for _ in range(got.take(">i"))]
+    if throttled or got.at != len(got.got):
+        raise SystemExit(f"a reply of DeleteGroups: {got.got!r}")
+    return codes
+
+
+def delete_by_kafka_python(port, user, groups):
+    """The error code of each group, as kafka-python's admin client tells it."""
+    admin = kafka.KafkaAdminClient(
+        bootstrap_servers=f"127.0.0.1:{port}", security_protocol="SASL_PLAINTEXT", sasl_mechanism="PLAIN",
+        sasl_plain_username=user, sasl_plain_password=USERS[user])
+    told = admin.delete_consumer_groups([it.decode() for it in groups])
+    admin.close()
+    return {name.encode(): error.errno for name, error in told}
+
+
+def delete_by_librdkafka(port, user, groups):
+    """The error code of each group, as librdkafka tells it. Debian's confluent_kafka has no call for it: the library's own is made."""
+    lib, words = ctypes.CDLL("librdkafka.so.1"), ctypes.create_string_buffer(512)
+
+    def call(name, result, *values):
+        it = getattr(lib, f"rd_kafka_{name}")
+        it.restype = result
+        return it(*values)
+
+    pointer = ctypes.c_void_p
+    conf = pointer(call("conf_new", pointer))
+    for key, value in (("bootstrap.servers", f"127.0.0.1:{port}"), ("security.protocol", "SASL_PLAINTEXT"),
+                       ("sasl.mechanisms", "PLAIN"), ("sasl.username", user), ("sasl.password", USERS[user])):
+        if call("conf_set", ctypes.c_int, conf, key.encode(), value.encode(), words, ctypes.c_size_t(512)):
+            raise SystemExit(words.value)
+    client = pointer(call("new", pointer, 0, conf, words, ctypes.c_size_t(512)))
+    queue = pointer(call("queue_new", pointer, client))
+    asked = (pointer * len(groups))(*(call("DeleteGroup_new", pointer, it) for it in groups))
+    call("DeleteGroups", None, client, asked, ctypes.c_size_t(len(groups)), None, queue)
+    event = pointer(call("queue_poll", pointer, queue, 60_000))
+    count, codes = ctypes.c_size_t(0), {}
+    if event:
+        result = pointer(call("event_DeleteGroups_result", pointer, event))
+        told = call("DeleteGroups_result_groups", ctypes.POINTER(pointer), result, ctypes.byref(count))
+        for place in range(count.value):
+            name = call("group_result_name", ctypes.c_char_p, pointer(told[place]))
+            error = call("group_result_error", pointer, pointer(told[place]))
+            codes[name] = call("error_code", ctypes.c_int, pointer(error)) if error else DELETED
+        call("event_destroy", None, event)
+    call("queue_destroy", None, queue)
+    call("destroy", None, client)
+    return codes
+
+
+def delete_groups(count, committed, port):
+    """Groups are deleted by each client, of one tenant after the other."""
+    wanted = {b"done": DELETED, b"orders": NON_EMPTY, b"of-nobody": NOT_FOUND}
+    committed.deleted("ann", "kafka-python deletes", delete_by_kafka_python(port, "ann", list(wanted)), wanted)
+    committed.look(port, "after kafka-python")
+    wanted = {b"gone": DELETED, b"waiting": NON_EMPTY, b"done": NOT_FOUND}
+    committed.deleted("ann", "librdkafka deletes", delete_by_librdkafka(port, "ann", list(wanted)), wanted)
+    committed.look(port, "after librdkafka")
+    twice = [(b"late", DELETED), (b"", ILLEGAL), (b"late", NOT_FOUND), (b"new", NON_EMPTY), (b"gone", NOT_FOUND)]
+    count.must("ann, DeleteGroups 0", delete_by_frames(port, "ann", 0, [it[0] for it in twice]), twice)
+    committed.groups["ann", b"late"] = {}
+    committed.look(port, "after DeleteGroups 0")
+    ann = Client(port, b"ann", b"pw1")
+    listed = struct.pack(">hi", 0, 3) + b"".join(text(it) + text(b"consumer") for it in (b"new", b"orders", b"waiting"))
+    count.must("ann, ListGroups after deletions", ann.ask(LIST, 0, b""), listed)
+
+
 def main(program):
     """Both tenants."""
     count = Count()
@@ -208,6 +330,27 @@ def main(program):
                 ask(count, broker.port, user, groups)
             for user, (groups, _) in made.items():
                 print(f"{user}: " + ", ".join(f"{it.name.decode()} {it.state.decode()}" for it in groups))
+            committed = Committed(count)
+            committed.make(broker.port)
+            committed.look(broker.port, "before a deletion")
+            delete_groups(count, committed, broker.port)
+            broker.stop()
+            broker = Broker(program, room)
+            if not broker.listens():
+                raise SystemExit(broker.log())
+            committed.look(broker.port, "after a kill and a start")
+            # (nobody is a member of a group any more)
+            again = [(b"orders", NOT_FOUND), (b"done", DELETED), (b"kept", DELETED)]
+            count.must("bob, DeleteGroups 1", delete_by_frames(broker.port, "bob", 1, [it[0] for it in again]), again)
+            committed.groups["bob", b"done"] = committed.groups["bob", b"kept"] = {}
+            committed.look(broker.port, "after DeleteGroups 1")
+            broker.stop()
+            broker = Broker(program, room)
+            if not broker.listens():
+                raise SystemExit(broker.log())
+            committed.look(broker.port, "after another start")
+            left = [f"{user}'s {group.decode()}" for (user, group), offsets in committed.groups.items() if offsets]
+            print("what was committed is left of " + ", ".join(left))
         finally:
             broker.stop()
     print(f"{count.wrong} of {count.all} wrong")

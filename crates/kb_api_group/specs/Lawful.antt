@@ -13,6 +13,7 @@ use Rattle.kb_api_group.specs.Layouts.{api_versions_request, api_version, api_ve
 use Rattle.kb_api_group.specs.Layouts.{sasl_authenticate_reply}
 use Rattle.kb_api_group.specs.Layouts.{describe_groups_request, described_member, described_group, describe_groups_reply}
 use Rattle.kb_api_group.specs.Layouts.{list_groups_request, listed_group, list_groups_reply}
+use Rattle.kb_api_group.specs.Layouts.{delete_groups_request, deleted_group, delete_groups_reply}
 
 pub request_start_lawful : IsLawful request_start
 unfolding request_start
@@ -163,6 +164,18 @@ described_group_lawful = via_lawful _ _
 pub describe_groups_reply_lawful : IsLawful describe_groups_reply
 unfolding describe_groups_reply
 describe_groups_reply_lawful = via_lawful _ _ (array_lawful _ described_group_lawful) (λ _. refl) (λ _. refl)
+
+pub delete_groups_request_lawful : IsLawful delete_groups_request
+unfolding delete_groups_request
+delete_groups_request_lawful = via_lawful _ _ (array_lawful _ string_lawful) (λ _. refl) (λ _. refl)
+
+pub deleted_group_lawful : IsLawful deleted_group
+unfolding deleted_group
+deleted_group_lawful = via_lawful _ _ (pair_lawful string_lawful int16_lawful) (λ _. refl) (λ _. refl)
+
+pub delete_groups_reply_lawful : IsLawful delete_groups_reply
+unfolding delete_groups_reply
+delete_groups_reply_lawful = via_lawful _ _ (pair_lawful int32_lawful (array_lawful _ deleted_group_lawful)) (λ _. refl) (λ _. refl)
 
 pub list_groups_request_lawful : IsLawful list_groups_request
 unfolding list_groups_request

@@ -33,6 +33,9 @@ use Rattle.kb_api_group.specs.declared.describe_groups.DescribeGroupsRequest.{De
 use Rattle.kb_api_group.specs.declared.describe_groups.DescribedMember.{DescribedMember}
 use Rattle.kb_api_group.specs.declared.describe_groups.DescribedGroup.{DescribedGroup}
 use Rattle.kb_api_group.specs.declared.describe_groups.DescribeGroupsReply.{DescribeGroupsReply}
+use Rattle.kb_api_group.specs.declared.delete_groups.DeleteGroupsRequest.{DeleteGroupsRequest}
+use Rattle.kb_api_group.specs.declared.delete_groups.DeletedGroup.{DeletedGroup}
+use Rattle.kb_api_group.specs.declared.delete_groups.DeleteGroupsReply.{DeleteGroupsReply}
 use Rattle.kb_api_group.specs.declared.list_groups.ListGroupsRequest.{ListGroupsRequest}
 use Rattle.kb_api_group.specs.declared.list_groups.ListedGroup.{ListedGroup}
 use Rattle.kb_api_group.specs.declared.list_groups.ListGroupsReply.{ListGroupsReply}
@@ -255,6 +258,21 @@ listed_group = via (λ p. record { group_id = p.0; protocol_type = p.1 }) (λ v.
 -- The reply of ListGroups.
 unfoldable pub list_groups_reply : Codec ListGroupsReply
 list_groups_reply = via (λ p. record { error_code = p.0; groups = p.1 }) (λ v. (v.error_code, v.groups)) (int16 ⊗ array listed_group)
+
+-- ---- key 42, DeleteGroups, versions 0 and 1
+
+-- A request of DeleteGroups.
+unfoldable pub delete_groups_request : Codec DeleteGroupsRequest
+delete_groups_request = via (λ p. record { group_ids = p }) (λ v. v.group_ids) (array string)
+
+-- A group, in the reply of DeleteGroups.
+unfoldable pub deleted_group : Codec DeletedGroup
+deleted_group = via (λ p. record { group_id = p.0; error_code = p.1 }) (λ v. (v.group_id, v.error_code)) (string ⊗ int16)
+
+-- The reply of DeleteGroups.
+unfoldable pub delete_groups_reply : Codec DeleteGroupsReply
+delete_groups_reply = via (λ p. record { throttle_time_ms = p.0; results = p.1 }) (λ v. (v.throttle_time_ms, v.results))
+    (int32 ⊗ array deleted_group)
 
 -- ---- key 17, SaslHandshake, version 1
 

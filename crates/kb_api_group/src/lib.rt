@@ -2,7 +2,7 @@
 //! and those of consumer groups.
 //!
 //! [`FrameFeed`] takes a stream in pieces and lends it out by frames; [`RequestHeader`] (and [`RequestStart`], enough for an
-//! ApiVersions of any version) stands at the front of each frame; each request and reply of keys 8 to 18 and 36 is a
+//! ApiVersions of any version) stands at the front of each frame; each request and reply of keys 8 to 18, 36 and 42 is a
 //! type with `read` and `write` (`kb_wire::Layout`); [`read_plain`] reads the message of SASL PLAIN. The contract in one
 //! sentence: bytes are read as what they spell and refused where they spell nothing, what is written is read again, and in
 //! whatever pieces a stream came its frames are those of its bytes joined.
@@ -11,6 +11,7 @@
 #![tactic(auto)]
 
 mod api_versions;
+mod delete_groups;
 mod describe_groups;
 mod find_coordinator;
 mod frames;
@@ -29,6 +30,7 @@ mod sasl_handshake;
 mod sync_group;
 
 pub use api_versions::{ApiVersion, ApiVersionsReply, ApiVersionsRequest};
+pub use delete_groups::{DeleteGroupsReply, DeleteGroupsRequest, DeletedGroup};
 pub use describe_groups::{
     DescribeGroupsReply, DescribeGroupsRequest, DescribedGroup, DescribedMember,
 };

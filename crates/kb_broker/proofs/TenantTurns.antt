@@ -81,7 +81,7 @@ touched-now log disk H honest node hosts us clock t n id key version body touche
 
 -- a request that touches a partition answers nobody who waited for a group
 one-alone : (node : Node) (w : World) (clock : ℕ) (gs : Groups) (n : ℕ) (key version : ℤ) (body : List ℕ) → let o = served node w clock gs n key version body in (o.touched ≡ []) ⊎ (o.groups ≡ silent gs)
-one-alone node w clock gs n key version body = by_request (λ (o : Outcome). (o.touched ≡ []) ⊎ (o.groups ≡ silent gs)) node w clock gs n key version body (record { stays = λ after reaction. inl refl; commit = λ r. inl refl; topics = inr refl })
+one-alone node w clock gs n key version body = by_request (λ (o : Outcome). (o.touched ≡ []) ⊎ (o.groups ≡ silent gs)) node w clock gs n key version body (record { stays = λ after reaction. inl refl; commit = λ r. inl refl; delete = λ r. inl refl; topics = inr refl })
 
 -- after a request that touched no partition what its groups do not answer is as little ready as before
 answered-ready : (node : Node) (k l : Kept) (clock n : ℕ) (key version : ℤ) (body : List ℕ) (m : ℕ) (w : Wait) → IsTied k.world → l.world ≡ (served node k.world clock k.groups n key version body).world

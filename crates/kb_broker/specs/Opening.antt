@@ -5,7 +5,7 @@ use Rattle.kb_wire.specs.declared.api_key.TheConstants.{FIND_COORDINATOR, JOIN_G
 use Rattle.kb_wire.specs.declared.api_key.TheConstants.{API_VERSIONS, CREATE_TOPICS, DELETE_TOPICS, DELETE_RECORDS, INIT_PRODUCER_ID}
 use Rattle.kb_wire.specs.declared.api_key.TheConstants.{SASL_AUTHENTICATE}
 use Rattle.kb_api_data.specs.declared.config_key.TheConstants.{DESCRIBE_CONFIGS}
-use Rattle.kb_api_group.specs.declared.group_key.TheConstants.{DESCRIBE_GROUPS, LIST_GROUPS}
+use Rattle.kb_api_group.specs.declared.group_key.TheConstants.{DELETE_GROUPS, DESCRIBE_GROUPS, LIST_GROUPS}
 use Rattle.kb_api_group.specs.declared.api_versions.ApiVersion.{ApiVersion}
 use Rattle.kb_isolation_spec.specs.Greeting.{Setup, User as Login}
 use Rattle.kb_isolation_spec.specs.Requests.{is_served}
@@ -64,7 +64,8 @@ stock_versions =
     between DESCRIBE_GROUPS 0 2 ∷ between LIST_GROUPS 0 2 ∷
     between SASL_HANDSHAKE 0 1 ∷ between API_VERSIONS 0 2 ∷
     between CREATE_TOPICS 0 3 ∷ between DELETE_TOPICS 0 3 ∷ between DELETE_RECORDS 0 1 ∷
-    between INIT_PRODUCER_ID 0 1 ∷ between DESCRIBE_CONFIGS 0 2 ∷ at_version SASL_AUTHENTICATE 0 ∷ []
+    between INIT_PRODUCER_ID 0 1 ∷ between DESCRIBE_CONFIGS 0 2 ∷ at_version SASL_AUTHENTICATE 0 ∷
+    between DELETE_GROUPS 0 1 ∷ []
 
 -- the versions that are listed
 abbrev pub listed : Listing → List ApiVersion

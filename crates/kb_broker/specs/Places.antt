@@ -203,11 +203,11 @@ abbrev pub IsPutOut : Head → AnyAnswer → Session → Session → Type 0
 IsPutOut head answer s r = (r.output ≡ s.output ++ spoken head answer) ⊎ (r ≡ shut_down causes.Memory s)
 
 -- The answer to a request of a tenant, which had kept k and keeps l, is the truth of its topics; and its groups are those that the request
--- makes, or those of before without the last replies, and then the connection is shut.
+-- makes, or those of before without the last replies, and then the connection is shut. Where groups are deleted some of these may be gone.
 pub record IsTrueAnswer (failed full : Type 0) (node : Node) (clock n : ℕ) (key version id : ℤ) (body : List ℕ) (k l : Kept)
     (touched : List TopicPartition) (answer : AnyAnswer) : Type 0 where
   pub truthful : IsTruthfulFor failed full node clock n key version id body k l touched answer
-  pub groups : AreGroupsAfter k.groups (served node k.world clock k.groups n key version body).groups answer l.groups
+  pub groups : AreGroupsAfter key k.groups (served node k.world clock k.groups n key version body).groups answer l.groups
 
 -- The request of a tenant, which had kept k and keeps l, was answered the truth: that was put out behind what s had, which left r.
 pub record IsToldTruth (failed full : Type 0) (node : Node) (clock n : ℕ) (key version : ℤ) (head : Head) (body : List ℕ) (k l : Kept)

@@ -35,7 +35,7 @@ use thiserror::Error;
 type Api = (i16, i16, i16, i16, i16);
 
 /// The APIs that are listed, by rising key (Kafka protocol guide, "Api Keys").
-const APIS: [Api; 21] = [
+const APIS: [Api; 22] = [
     (api_key::PRODUCE, 3, 3, 3, 6),
     (api_key::FETCH, 4, 5, 4, 9),
     (api_key::LIST_OFFSETS, 1, 1, 1, 4),
@@ -57,6 +57,7 @@ const APIS: [Api; 21] = [
     (api_key::INIT_PRODUCER_ID, 0, 0, 0, 1),
     (config_key::DESCRIBE_CONFIGS, 0, -1, 0, 2),
     (api_key::SASL_AUTHENTICATE, 0, 0, 0, 0),
+    (group_key::DELETE_GROUPS, 0, -1, 0, 1),
 ];
 
 /// Which versions a broker lists, and so which it serves.
@@ -64,9 +65,9 @@ const APIS: [Api; 21] = [
 pub enum Listing {
     /// Each API at one version, but Fetch at 4 and 5.
     Served,
-    /// The same, and what stock clients ask for beside: of each API but SaslAuthenticate more versions, and DescribeGroups, ListGroups
-    /// and DescribeConfigs. Older clients log in by SaslHandshake 0, and librdkafka looks for it in the list before it logs in by
-    /// version 1.
+    /// The same, and what stock clients ask for beside: of each API but SaslAuthenticate more versions, and DescribeGroups, ListGroups,
+    /// DeleteGroups and DescribeConfigs. Older clients log in by SaslHandshake 0, and librdkafka looks for it in the list before it
+    /// logs in by version 1.
     StockClients,
 }
 

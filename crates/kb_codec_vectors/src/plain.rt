@@ -5,11 +5,11 @@ use crate::numbers::read_fixed;
 use crate::said::Field::{Count, Letters, Number, Text};
 use crate::said::Said;
 use kb_api_group::{
-    ApiVersionsReply, ApiVersionsRequest, FindCoordinatorReply, FindCoordinatorRequest,
-    HeartbeatReply, HeartbeatRequest, JoinGroupReply, JoinGroupRequest, LeaveGroupReply,
-    LeaveGroupRequest, OffsetCommitReply, OffsetCommitRequest, OffsetFetchReply,
-    OffsetFetchRequest, SaslAuthenticateReply, SaslAuthenticateRequest, SaslHandshakeReply,
-    SaslHandshakeRequest, SyncGroupReply, SyncGroupRequest, read_plain,
+    ApiVersionsReply, ApiVersionsRequest, DeleteGroupsReply, DeleteGroupsRequest, DeletedGroup,
+    FindCoordinatorReply, FindCoordinatorRequest, HeartbeatReply, HeartbeatRequest, JoinGroupReply,
+    JoinGroupRequest, LeaveGroupReply, LeaveGroupRequest, OffsetCommitReply, OffsetCommitRequest,
+    OffsetFetchReply, OffsetFetchRequest, SaslAuthenticateReply, SaslAuthenticateRequest,
+    SaslHandshakeReply, SaslHandshakeRequest, SyncGroupReply, SyncGroupRequest, read_plain,
 };
 use std::alloc::{AllocError, Global};
 
@@ -47,6 +47,7 @@ fn read_group_request(
         "LeaveGroupRequest" => read_back::<LeaveGroupRequest>(alloc, longer, said),
         "OffsetCommitRequest" => read_back::<OffsetCommitRequest>(alloc, longer, said),
         "OffsetFetchRequest" => read_back::<OffsetFetchRequest>(alloc, longer, said),
+        "DeleteGroupsRequest" => read_back::<DeleteGroupsRequest>(alloc, longer, said),
         _ => read_group_reply(alloc, kind, longer, said),
     }
 }
@@ -65,6 +66,8 @@ fn read_group_reply(
         "LeaveGroupReply" => read_back::<LeaveGroupReply>(alloc, longer, said),
         "OffsetCommitReply" => read_back::<OffsetCommitReply>(alloc, longer, said),
         "OffsetFetchReply" => read_back::<OffsetFetchReply>(alloc, longer, said),
+        "DeleteGroupsReply" => read_back::<DeleteGroupsReply>(alloc, longer, said),
+        "DeletedGroup" => read_back::<DeletedGroup>(alloc, longer, said),
         _ => read_fixed(alloc, kind, longer, said),
     }
 }
@@ -240,5 +243,29 @@ impl Describe for OffsetFetchRequest<'_> {
 impl Describe for OffsetFetchReply<'_> {
     fn describe(&self, said: &mut Said) -> Result<(), AllocError> {
         said.fields(&[("topics", Count(self.topics.len()))])
+    }
+}
+
+impl Describe for DeleteGroupsRequest<'_> {
+    fn describe(&self, said: &mut Said) -> Result<(), AllocError> {
+        said.fields(&[("groups_names", Count(self.group_ids.len()))])
+    }
+}
+
+impl Describe for DeleteGroupsReply<'_> {
+    fn describe(&self, said: &mut Said) -> Result<(), AllocError> {
+        said.fields(&[
+            ("throttle_time_ms", Number(self.throttle_time_ms as i64)),
+            ("results", Count(self.results.len())),
+        ])
+    }
+}
+
+impl Describe for DeletedGroup<'_> {
+    fn describe(&self, said: &mut Said) -> Result<(), AllocError> {
+        said.fields(&[
+            ("group_id", Text(self.group_id.as_str())),
+            ("error_code", Number(self.error_code as i64)),
+        ])
     }
 }

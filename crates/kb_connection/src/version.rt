@@ -23,7 +23,7 @@ type Newer = (i16, i16, i16, i16, bool);
 
 /// The versions that a tenant is asked in as in another one, or where a throttle time stands in front of its answer (Kafka protocol
 /// guide, "The Messages").
-const NEWER: [Newer; 24] = [
+const NEWER: [Newer; 25] = [
     (api_key::PRODUCE, 4, 4, 3, false),
     (api_key::PRODUCE, 6, 6, 5, false),
     (api_key::FETCH, 6, 6, 5, false),
@@ -48,6 +48,7 @@ const NEWER: [Newer; 24] = [
     (api_key::DELETE_TOPICS, 2, 3, 1, false),
     (api_key::DELETE_RECORDS, 1, 1, 0, false),
     (api_key::INIT_PRODUCER_ID, 1, 1, 0, false),
+    (group_key::DELETE_GROUPS, 1, 1, 0, false),
 ];
 
 /// The version that a tenant is asked in for a version of an API: itself, unless another one has the same fields, but for a throttle

@@ -1,4 +1,5 @@
 mod Commits
+mod Deleted
 mod Joins
 mod Kept
 mod Lists

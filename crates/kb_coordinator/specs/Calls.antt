@@ -1,6 +1,6 @@
 -- What each request and moment does to the groups of a tenant, and is answered.
 use Rattle.std.specs.Prelude.{◌≡◌, ◌+◌, ◌-◌, ℕ, Bool, ◌&&◌, ◌||◌, List, [], ◌∷◌, ◌++◌, map, length, slice_set, ℤ, pos, nat_eq, nat_le, nat_lt}
-use Rattle.std.specs.Prelude.{if◌then◌else◌, is_none, Option, Some, None}
+use Rattle.std.specs.Prelude.{if◌then◌else◌, false, is_none, is_some, not, Option, Some, None}
 use Rattle.kb_groups.specs.declared.code.Code.{Code}
 use Rattle.kb_groups.specs.declared.code.Code.TheVariants as of
 use Rattle.kb_groups.specs.declared.state.State.{State}
@@ -15,6 +15,7 @@ use Rattle.kb_groups.specs.Calls as one
 use Rattle.kb_groups.specs.Bytes.{brought_bytes, group_bytes, is_past, joined_bytes, sync_within}
 use Rattle.kb_wire.specs.ErrorCode.{code_of}
 use Rattle.kb_groups.specs.Moments.{never, tick}
+use Rattle.kb_groups.specs.Members.{has_none}
 use Rattle.kb_groups.specs.Rebalance.{Step}
 use Rattle.kb_wire.specs.declared.error_code.ErrorCode.{ErrorCode}
 use Rattle.kb_wire.specs.declared.error_code.ErrorCode.TheVariants as codes
@@ -23,7 +24,7 @@ use Rattle.kb_api_group.specs.declared.sync_group.SyncGroupRequest.{SyncGroupReq
 use Rattle.kb_api_group.specs.declared.heartbeat.HeartbeatRequest.{HeartbeatRequest}
 use Rattle.kb_api_group.specs.declared.leave_group.LeaveGroupRequest.{LeaveGroupRequest}
 use Rattle.kb_coordinator.specs.declared.groups.Entry.{Entry}
-use Rattle.kb_coordinator.specs.Groups.{Groups, found, changed, earliest, kept_bytes, silent, with_new}
+use Rattle.kb_coordinator.specs.Groups.{Groups, found, changed, earliest, kept_bytes, silent, with_new, without}
 use Rattle.kb_coordinator.specs.Requests.{assigned_to, commit_of_none, error_of, join_of, named}
 
 -- What the group says, if it is there.
@@ -176,6 +177,20 @@ after_join clock connection r gs =
     if is_accepted (join_code connection r gs)
     then joined_by clock (join_of gs.members connection r) r.group_id gs (found r.group_id gs.groups)
     else silent gs
+
+-- ## DeleteGroups
+
+-- Whether a group of that id is there, with or without members.
+abbrev pub is_there : List ℕ → Groups → Bool
+is_there id gs = is_some (found id gs.groups)
+
+-- Whether it has members.
+abbrev pub has_members : List ℕ → Groups → Bool
+has_members id gs = by_group false (λ g. not (has_none g.members)) (found id gs.groups)
+
+-- Without that group.
+abbrev pub deleted : List ℕ → Groups → Groups
+deleted id gs = record gs { groups = without id gs.groups }
 
 -- ## A connection ends
 

@@ -57,6 +57,11 @@ unfoldable pub changed : List ℕ → (State → State) → List Entry → List 
 changed id f [] = []
 changed id f (e ∷ es) = if bytes_eq e.id id then record { id = e.id; group = f e.group } ∷ es else e ∷ changed id f es
 
+-- The groups without that one.
+unfoldable pub without : List ℕ → List Entry → List Entry
+without id [] = []
+without id (e ∷ es) = if bytes_eq e.id id then es else e ∷ without id es
+
 -- The place of the group of that id.
 unfoldable pub place_of : List ℕ → List Entry → Option ℕ
 place_of id [] = None

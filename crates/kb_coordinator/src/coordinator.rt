@@ -2,7 +2,7 @@
 ghost use Rattle.std.specs.Prelude.{◌≡◌, ◌≤◌, ◌<◌, ◌^◌, [], length, slice_get, Some, IfOk, OnErr, OnOk};
 ghost use Rattle.kb_coordinator.specs.Groups.{kept_bytes, limited, none, numbered_from, place_of, silent};
 ghost use Rattle.kb_coordinator.specs.Calls.{after_heartbeat, after_leave, after_may_commit, after_sync, heartbeat_code, leave_code};
-ghost use Rattle.kb_coordinator.specs.Calls.{may_commit, room, sync_answer};
+ghost use Rattle.kb_coordinator.specs.Calls.{deleted, has_members, is_there, may_commit, room, sync_answer};
 ghost use Rattle.kb_coordinator.specs.declared.groups.Entry.{Entry};
 
 use crate::convert::{assignments, commit_of_none, error_of, number_of};
@@ -161,6 +161,30 @@ impl Coordinator {
         let code = entry.group.may_commit(number, generation, clock);
         self.quiet_until = self.quiet_until.min(entry.group.quiet_until());
         error_of(code)
+    }
+
+    /// Whether the group of that id is there and has members.
+    pub fn has_members(&self, id: &str) -> bool
+        ensures { result ≡ has_members id.now self.now }
+    {
+        match self.place(id) {
+            None => false,
+            Some(place) => !self.groups[place].group.state().members.is_empty(),
+        }
+    }
+
+    /// Removes the group of that id, and answers whether it was there. It takes no memory.
+    pub fn delete(&mut self, id: &str) -> bool
+        ensures there { result ≡ is_there id.now self.old }
+        ensures deleted { self.new ≡ deleted id.now self.old }
+    {
+        let Some(place) = self.place(id) else {
+            return false;
+        };
+        let entry = self.groups.remove(place);
+        let bytes = entry.group.bytes() + entry.id.as_slice().len() as u64;
+        self.bytes -= bytes;
+        true
     }
 
     /// Kafka's LeaveGroup.

@@ -7,8 +7,8 @@ use Rattle.kb_wire.specs.declared.api_key.TheConstants.{OFFSET_COMMIT, JOIN_GROU
 use Rattle.kb_wire.specs.declared.fault.WireFault.{WireFault}
 use Rattle.kb_api_data.specs.declared.fetch.FetchRequest.{FetchRequest}
 use Rattle.kb_api_data.specs.declared.fetch_v5.FetchReplyV5.{FetchReplyV5}
-use Rattle.kb_api_group.specs.declared.group_key.TheConstants.{DESCRIBE_GROUPS, LIST_GROUPS}
-use Rattle.kb_api_group.specs.Layouts.{describe_groups_reply, describe_groups_request, list_groups_reply, list_groups_request}
+use Rattle.kb_api_group.specs.declared.group_key.TheConstants.{DELETE_GROUPS, DESCRIBE_GROUPS, LIST_GROUPS}
+use Rattle.kb_api_group.specs.Layouts.{delete_groups_request, describe_groups_reply, describe_groups_request, list_groups_reply, list_groups_request}
 use Rattle.kb_api_group.specs.Layouts.{heartbeat_request, join_group_request, leave_group_request, sync_group_request}
 use Rattle.kb_coordinator.specs.Calls.{is_accepted, join_code, sync_answer}
 use Rattle.kb_coordinator.specs.Groups.{Groups, silent}
@@ -20,7 +20,7 @@ use Rattle.kb_tenant_state.specs.declared.topic_partition.TopicPartition.{TopicP
 use Rattle.kb_tenant.specs.OffsetCommit.{asked_commit}
 use Rattle.kb_tenant.specs.CreateTopics.{checked_all, created_all, creations_in, made_of}
 use Rattle.kb_tenant.specs.DescribeConfigs.{configs_in, configs_of}
-use Rattle.kb_tenant.specs.Entries.{commit_entries, describe_groups_entries, within}
+use Rattle.kb_tenant.specs.Entries.{commit_entries, delete_groups_entries, describe_groups_entries, within}
 use Rattle.kb_tenant.specs.Fetch.{asked_code, asked_fetch, bounded, deadline_of, fetch_answer, places_of, fetched_in}
 use Rattle.kb_tenant.specs.Produce.{produced, produced_in, is_due}
 use Rattle.kb_tenant.specs.Limits.{is_past}
@@ -32,7 +32,7 @@ use Rattle.kb_tenant.specs.Serve.{stays, fetch_reaction, of_fetch, looked, looke
 use Rattle.kb_tenant.specs.declared.node.Node.{Node}
 use Rattle.kb_tenant.proofs.ByRequest.{by_request}
 use Rattle.kb_tenant_api.specs.Replies.{Plain, Rebalances, replies, short_replies}
-use Rattle.kb_tenant_api.specs.Serve.{Outcome, if_read, of_describe, of_groups, of_heartbeat, of_join, of_leave, of_list, of_offset_commit, of_sync, of_topics, sync_reaction, served}
+use Rattle.kb_tenant_api.specs.Serve.{Outcome, if_read, of_delete, of_describe, of_groups, of_heartbeat, of_join, of_leave, of_list, of_offset_commit, of_sync, of_topics, sync_reaction, served}
 use Rattle.kb_isolation_spec.specs.Tenant.{asked_in}
 
 -- 1. A request that is for no group
@@ -141,6 +141,7 @@ unfolding served
 parks node w clock gs n key version body =
     let others : Outcome = of_topics gs (tenant.plainly_served node w clock n key version body) in
     let limit : Option ℕ = node.limits.reply_bytes in
+    let deletes : Outcome = if_read w gs (within node.limits.request_entries delete_groups_entries (whole delete_groups_request body)) (of_delete w gs) in
     let lists : Outcome = if_read w gs (whole list_groups_request body) (of_list limit w gs) in
     let describes : Outcome = if_read w gs (within node.limits.request_entries describe_groups_entries (whole describe_groups_request body)) (of_describe limit w gs) in
     let syncs : Outcome = if_read w gs (whole sync_group_request body) (of_sync w clock n gs) in
@@ -148,7 +149,8 @@ parks node w clock gs n key version body =
     let beats : Outcome = if_read w gs (whole heartbeat_request body) (of_heartbeat w clock gs) in
     let joins : Outcome = if_read w gs (whole join_group_request body) (of_join w clock n gs) in
     let commits : Outcome = if_read w gs (within node.limits.request_entries commit_entries (asked_commit version body)) (of_offset_commit node.limits w clock gs) in
-    let from_list : Outcome = if int_eq key LIST_GROUPS then lists else others in
+    let from_delete : Outcome = if int_eq key DELETE_GROUPS then deletes else others in
+    let from_list : Outcome = if int_eq key LIST_GROUPS then lists else from_delete in
     let from_describe : Outcome = if int_eq key DESCRIBE_GROUPS then describes else from_list in
     let from_sync : Outcome = if int_eq key SYNC_GROUP then syncs else from_describe in
     let from_leave : Outcome = if int_eq key LEAVE_GROUP then leaves else from_sync in
@@ -160,5 +162,6 @@ parks node w clock gs n key version body =
     (either version body clock (int_eq key LEAVE_GROUP) leaves from_sync (read-parks version body clock w gs (whole leave_group_request body) (of_leave w clock gs) (λ r deadline limit places e. absurd (cc)))
     (either version body clock (int_eq key SYNC_GROUP) syncs from_describe (read-parks version body clock w gs (whole sync_group_request body) (of_sync w clock n gs) (λ r. sync-parks version body clock w (of_sync w clock n gs r).groups (sync_answer clock n r gs)))
     (either version body clock (int_eq key DESCRIBE_GROUPS) describes from_list (read-parks version body clock w gs (within node.limits.request_entries describe_groups_entries (whole describe_groups_request body)) (of_describe limit w gs) (λ r. tool-parks version body clock w (silent gs) limit (describe_groups_reply.written (descriptions gs r))))
-    (either version body clock (int_eq key LIST_GROUPS) lists others (read-parks version body clock w gs (whole list_groups_request body) (of_list limit w gs) (λ r. tool-parks version body clock w (silent gs) limit (list_groups_reply.written (group_list gs))))
-    (topics-parks node w clock gs n key version body)))))))
+    (either version body clock (int_eq key LIST_GROUPS) lists from_delete (read-parks version body clock w gs (whole list_groups_request body) (of_list limit w gs) (λ r. tool-parks version body clock w (silent gs) limit (list_groups_reply.written (group_list gs))))
+    (either version body clock (int_eq key DELETE_GROUPS) deletes others (read-parks version body clock w gs (within node.limits.request_entries delete_groups_entries (whole delete_groups_request body)) (of_delete w gs) (λ r deadline limit places e. absurd (cc)))
+    (topics-parks node w clock gs n key version body))))))))

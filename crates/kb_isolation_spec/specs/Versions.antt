@@ -9,7 +9,7 @@ use Rattle.std.specs.Ordering.{int_eq}
 use Rattle.kb_wire.specs.declared.api_key.TheConstants.{PRODUCE, FETCH, LIST_OFFSETS, OFFSET_COMMIT, OFFSET_FETCH, FIND_COORDINATOR}
 use Rattle.kb_wire.specs.declared.api_key.TheConstants.{METADATA, JOIN_GROUP, HEARTBEAT, LEAVE_GROUP, SYNC_GROUP}
 use Rattle.kb_wire.specs.declared.api_key.TheConstants.{CREATE_TOPICS, DELETE_TOPICS, DELETE_RECORDS, INIT_PRODUCER_ID}
-use Rattle.kb_api_group.specs.declared.group_key.TheConstants.{DESCRIBE_GROUPS, LIST_GROUPS}
+use Rattle.kb_api_group.specs.declared.group_key.TheConstants.{DELETE_GROUPS, DESCRIBE_GROUPS, LIST_GROUPS}
 use Rattle.kb_api_group.specs.declared.header.RequestStart.{RequestStart}
 use Rattle.kb_isolation_spec.specs.declared.base.Base.{Base}
 use Rattle.kb_isolation_spec.specs.declared.head.Head.{Head}
@@ -45,7 +45,7 @@ newer_versions =
     throttled_as HEARTBEAT 1 2 0 ∷ throttled_as LEAVE_GROUP 1 2 0 ∷ throttled_as SYNC_GROUP 1 2 0 ∷
     throttled_as DESCRIBE_GROUPS 1 2 0 ∷ throttled_as LIST_GROUPS 1 2 0 ∷
     throttled_as CREATE_TOPICS 2 3 1 ∷ same_as DELETE_TOPICS 2 3 1 ∷ same_as DELETE_RECORDS 1 1 0 ∷
-    same_as INIT_PRODUCER_ID 1 1 0 ∷ []
+    same_as INIT_PRODUCER_ID 1 1 0 ∷ same_as DELETE_GROUPS 1 1 0 ∷ []
 
 -- whether a version of an API is one of those
 abbrev pub is_among : ℤ → ℤ → Newer → Bool

@@ -130,7 +130,7 @@ module _ (files : Files) (owners : Owners) (k : Known) (logs : Logs) (o : IsOpen
         let one : had.0 ≡ l = same_Some had.0 l (sym had.1 ∙ has) in
         inr (record {
           part = was;
-          later = later_itself was;
+          later = later_itself (goes_itself k).commands was;
           at = here;
           log = l;
           has = has;
@@ -142,7 +142,7 @@ module _ (files : Files) (owners : Owners) (k : Known) (logs : Logs) (o : IsOpen
     abbrev catalog : GoesOnTo k n
     catalog = goes_then k m n p.catalog q.catalog
 
-    abbrev has_then : (i j : ℕ) (was : PartitionState) (l : LogState) → partition_at k (pos i) (pos j) ≡ Some was → log_at i j logs ≡ Some l → (h : HasLog m logs_then i j was l) → HasLog n logs_now i j h.part h.log → HasLog n logs_now i j was l
+    abbrev has_then : (i j : ℕ) (was : PartitionState) (l : LogState) → partition_at k (pos i) (pos j) ≡ Some was → log_at i j logs ≡ Some l → (h : HasLog p.catalog.commands m logs_then i j was l) → HasLog q.catalog.commands n logs_now i j h.part h.log → HasLog catalog.commands n logs_now i j was l
     has_then i j was l at has h g =
         let had = o.has.each i j was at in
         let one : had.0 ≡ l = same_Some had.0 l (sym had.1 ∙ has) in
@@ -152,7 +152,8 @@ module _ (files : Files) (owners : Owners) (k : Known) (logs : Logs) (o : IsOpen
         subst (λ (x : LogState). starting s x.batches ≡ [] → (x.batches ≡ [] → ⊥) → x.end ≤ s) one (log_below files (owners.partition i j) (natural was.start) had.0.start had.0.end had.0.batches had.2 s from) in
         record {
           part = g.part;
-          later = later_then was h.part g.part h.later g.later;
+          later = later_then p.catalog.commands q.catalog.commands catalog.commands (commands_first k m n p.catalog q.catalog)
+              (commands_second k m n p.catalog q.catalog) was h.part g.part h.later g.later;
           at = g.at;
           log = g.log;
           has = g.has;
@@ -164,12 +165,12 @@ module _ (files : Files) (owners : Owners) (k : Known) (logs : Logs) (o : IsOpen
       catalog = catalog;
       partitions = λ i j t was l at part has. ⊎_elim
           (λ (deleted : Contains p.catalog.commands (Delete t.name)). inl (commands_first k m n p.catalog q.catalog (Delete t.name) deleted))
-          (λ (s : StaysAt i t m). ⊎_elim
+          (λ (s : StaysAt p.catalog.commands i t m). ⊎_elim
           (λ (deleted : Contains p.catalog.commands (Delete t.name)). inl (commands_first k m n p.catalog q.catalog (Delete t.name) deleted))
-          (λ (h : HasLog m logs_then i j was l). ⊎_elim
+          (λ (h : HasLog p.catalog.commands m logs_then i j was l). ⊎_elim
           (λ (deleted : Contains q.catalog.commands (Delete s.topic.name)).
           inl (commands_second k m n p.catalog q.catalog (Delete t.name) (subst (λ (x : List ℕ). Contains q.catalog.commands (Delete x)) s.still.name deleted)))
-          (λ (g : HasLog n logs_now i j h.part h.log). inr (has_then i j was l (part_is k i j t was at part) has h g))
+          (λ (g : HasLog q.catalog.commands n logs_now i j h.part h.log). inr (has_then i j was l (part_is k i j t was at part) has h g))
           (q.partitions i j s.topic h.part h.log s.at (sym (ap (option_and_then (λ (x : TopicState). slice_get x.partitions j)) s.at) ∙ h.at) h.has))
           (p.partitions i j t was l at part has))
           (p.catalog.topics i t at);

@@ -5,7 +5,7 @@ use Rattle.std.specs.List.{Contains}
 use Rattle.std.specs.declared.cmp.Ordering.{Ordering}
 use Rattle.std.specs.declared.cmp.Ordering.TheVariants.{Less, Equal, Greater}
 use Rattle.std.specs.Cmp.Lexicographic.{slice_cmp}
-use Rattle.std.specs.Map.{lookup}
+use Rattle.std.specs.Map.{lookup, remove_entry}
 use Rattle.std.specs.BTreeMap.{is_at, insert_entry}
 use Rattle.std.specs.Option.{option_and_then, option_map}
 use Rattle.std.specs.Ordering.{int_eq, match_ordering, nat_cmp}
@@ -17,11 +17,15 @@ use Rattle.std.proofs.lemmas.Option.{none-some, same_Some}
 use Rattle.kb_batch.specs.Batch.{natural}
 use Rattle.kb_topics.specs.declared.command.CommitOffset.{CommitOffset}
 use Rattle.kb_topics.specs.declared.command.Command.{Command}
-use Rattle.kb_topics.specs.declared.command.Command.TheVariants.{Create, Delete, Issue, Commit, Start, Snapshot, Topic}
-use Rattle.kb_topics.specs.Known.{Known, CommittedOffset, PartitionState, TopicState, topic_at, named, partition_at, with_topic, without_topic, with_id, with_part, with_partition, with_commit, with_start, put_topic, new_topic, config_in, offset_in, may_create, is_left, step}
+use Rattle.kb_topics.specs.declared.command.Command.TheVariants.{Create, Delete, Issue, Commit, Start, Snapshot, Topic, DeleteGroup}
+use Rattle.kb_topics.specs.Known.{Known, CommittedOffset, PartitionState, TopicState, topic_at, named, partition_at, with_topic, without_topic, with_id, with_part, with_partition, with_commit, with_start, put_topic, new_topic, config_in, offset_in, may_create, is_left, step, committed_at, has_committed, without_commit, without_commits, without_group}
 use Rattle.kb_topics.specs.MetaLog.{Says, SayEach, IsFoldOf}
 use Rattle.kb_topics.specs.Reading.{Reading, in_use, read_all, read_step, starting_at}
 use Rattle.kb_topics.specs.WellFormed.{IsWellFormed, AreTopics}
+use Rattle.std.proofs.lemmas.Map.Text.{is_eq-slice_cmp}
+use Rattle.std.proofs.lemmas.Slice.Eq.{bytes_eq-Decides}
+use Rattle.std.specs.Prelude.{map}
+use Rattle.kb_topics.proofs.Groups.{at_less, less}
 use Rattle.kb_topics.proofs.Links.{named_found, same_number}
 use Rattle.kb_topics.proofs.WellFormed.{read_well_formed, fold_well_formed}
 use Rattle.kb_tenant_state.proofs.StillKept.{other_removed, inserted_other}
@@ -62,55 +66,103 @@ still_some {K} {X} test cmp (e ∷ es) k v some = by (cmp k e.0) (test e.0) refl
     by Greater true is was more = subst (λ c. IsSome (cond c (Some e.1) (lookup test (insert_entry cmp es k v)))) (sym is) refl
     by Greater false is was more = subst (λ c. IsSome (cond c (Some e.1) (lookup test (insert_entry cmp es k v)))) (sym is) (more was)
 
-pub later_itself : (p : PartitionState) → IsLaterPartition p p
-later_itself p = record { start = int_same p.start; commits = λ group some. some }
+-- an entry that is found is found still where one is taken out, unless it is that one
+found_or_gone : {X : Type 0} (group other : List ℕ) (es : List (List ℕ × X)) → IsSome (lookup (is_at (slice_cmp nat_cmp other)) es)
+    → (group ≡ other) ⊎ IsSome (lookup (is_at (slice_cmp nat_cmp other)) (remove_entry (is_at (slice_cmp nat_cmp group)) es))
+found_or_gone {X} group other [] some = absurd (false≢true some)
+found_or_gone {X} group other (e ∷ es) some = by (is_at (slice_cmp nat_cmp group) e.0) refl (is_at (slice_cmp nat_cmp other) e.0) refl some (found_or_gone group other es)
+  where
+    same : (x : List ℕ) → is_at (slice_cmp nat_cmp x) e.0 ≡ true → x ≡ e.0
+    same x is = (bytes_eq-Decides x e.0).0 (sym (is_eq-slice_cmp x e.0) ∙ is)
 
-pub later_then : (p q r : PartitionState) → IsLaterPartition p q → IsLaterPartition q r → IsLaterPartition p r
-later_then p q r a b = record { start = int_then p.start q.start r.start a.start b.start; commits = λ group some. b.commits group (a.commits group some) }
+    look : List (List ℕ × X) → Option X
+    look xs = lookup (is_at (slice_cmp nat_cmp other)) xs
 
-later_commit : (p : PartitionState) (group : List ℕ) (c : CommittedOffset) → IsLaterPartition p (with_commit p group c)
-later_commit p group c = record { start = int_same p.start; commits = λ other some. still_some (is_at (slice_cmp nat_cmp other)) (slice_cmp nat_cmp) p.commits group c some }
+    rest : List (List ℕ × X)
+    rest = remove_entry (is_at (slice_cmp nat_cmp group)) es
 
-later_start : (p : PartitionState) (offset : ℤ) → p.start ≤ℤ offset → IsLaterPartition p (with_start p offset)
-later_start p offset l = record { start = l; commits = λ group some. some }
+    by : (a : Bool) → is_at (slice_cmp nat_cmp group) e.0 ≡ a → (b : Bool) → is_at (slice_cmp nat_cmp other) e.0 ≡ b → IsSome (cond b (Some e.1) (look es)) → (IsSome (look es) → (group ≡ other) ⊎ IsSome (look rest))
+        → (group ≡ other) ⊎ IsSome (look (cond {A = List (List ℕ × X)} a es (e ∷ rest)))
+    by true is true at some more = inl (same group is ∙ sym (same other at))
+    by true is false at some more = inr some
+    by false is true at some more = inr (subst (λ c. IsSome (cond c (Some e.1) (look rest))) (sym at) refl)
+    by false is false at some more = ⊎_elim inl (λ still. inr (subst (λ c. IsSome (cond c (Some e.1) (look rest))) (sym at) still)) (more some)
 
-all_itself : (ps : List PartitionState) → AreLaterPartitions ps ps
-all_itself [] = tt
-all_itself (p ∷ ps) = (later_itself p, all_itself ps)
+pub later_itself : (cs : List Command) (p : PartitionState) → IsLaterPartition cs p p
+later_itself cs p = record { start = int_same p.start; commits = λ group some. inr some }
 
-all_then : (ps qs rs : List PartitionState) → AreLaterPartitions ps qs → AreLaterPartitions qs rs → AreLaterPartitions ps rs
-all_then [] [] [] a b = tt
-all_then [] [] (r ∷ rs) a b = absurd b
-all_then [] (q ∷ qs) rs a b = absurd a
-all_then (p ∷ ps) [] rs a b = absurd a
-all_then (p ∷ ps) (q ∷ qs) [] a b = absurd b
-all_then (p ∷ ps) (q ∷ qs) (r ∷ rs) a b = (later_then p q r a.0 b.0, all_then ps qs rs a.1 b.1)
+-- all of some commands are among others
+abbrev pub AreAmong : List Command → List Command → Type 0
+AreAmong cs es = (c : Command) → Contains cs c → Contains es c
 
-all_set : (ps : List PartitionState) (n : ℕ) (p q : PartitionState) → slice_get ps n ≡ Some p → IsLaterPartition p q → AreLaterPartitions ps (slice_set ps n q)
-all_set [] n p q at l = absurd cc
-all_set (x ∷ ps) zero p q at l = let same : x ≡ p = cc in (subst (λ (y : PartitionState). IsLaterPartition y q) (sym same) l, all_itself ps)
-all_set (x ∷ ps) (suc n) p q at l = (later_itself x, all_set ps n p q at l)
+module _ (cs ds es : List Command) (one : AreAmong cs es) (two : AreAmong ds es) where
+  pub later_then : (p q r : PartitionState) → IsLaterPartition cs p q → IsLaterPartition ds q r → IsLaterPartition es p r
+  later_then p q r a b = record {
+    start = int_then p.start q.start r.start a.start b.start;
+    commits = λ group some. ⊎_elim
+        (λ gone. inl (one (DeleteGroup group) gone))
+        (λ still. ⊎_elim (λ gone. inl (two (DeleteGroup group) gone)) (λ found. inr found) (b.commits group still))
+        (a.commits group some);
+  }
 
-pub all_get : (ps qs : List PartitionState) (n : ℕ) (p : PartitionState) → AreLaterPartitions ps qs → slice_get ps n ≡ Some p → (q : PartitionState) × (slice_get qs n ≡ Some q) × IsLaterPartition p q
-all_get [] qs n p a at = absurd cc
-all_get (x ∷ ps) [] n p a at = absurd a
-all_get (x ∷ ps) (q ∷ qs) zero p a at = let same : x ≡ p = cc in (q, refl, subst (λ (y : PartitionState). IsLaterPartition y q) same a.0)
-all_get (x ∷ ps) (q ∷ qs) (suc n) p a at = all_get ps qs n p a.1 at
+  all_then : (ps qs rs : List PartitionState) → AreLaterPartitions cs ps qs → AreLaterPartitions ds qs rs → AreLaterPartitions es ps rs
+  all_then [] [] [] a b = tt
+  all_then [] [] (r ∷ rs) a b = absurd b
+  all_then [] (q ∷ qs) rs a b = absurd a
+  all_then (p ∷ ps) [] rs a b = absurd a
+  all_then (p ∷ ps) (q ∷ qs) [] a b = absurd b
+  all_then (p ∷ ps) (q ∷ qs) (r ∷ rs) a b = (later_then p q r a.0 b.0, all_then ps qs rs a.1 b.1)
+
+later_commit : (cs : List Command) (p : PartitionState) (group : List ℕ) (c : CommittedOffset) → IsLaterPartition cs p (with_commit p group c)
+later_commit cs p group c = record { start = int_same p.start; commits = λ other some. inr (still_some (is_at (slice_cmp nat_cmp other)) (slice_cmp nat_cmp) p.commits group c some) }
+
+later_start : (cs : List Command) (p : PartitionState) (offset : ℤ) → p.start ≤ℤ offset → IsLaterPartition cs p (with_start p offset)
+later_start cs p offset l = record { start = l; commits = λ group some. inr some }
+
+-- what a command that deletes a group leaves
+later_without : (cs : List Command) (group : List ℕ) (p : PartitionState) → Contains cs (DeleteGroup group) → IsLaterPartition cs p (without_commit group p)
+later_without cs group p there = record {
+  start = int_same p.start;
+  commits = λ other some. ⊎_elim (λ same. inl (subst (λ x. Contains cs (DeleteGroup x)) same there)) (λ still. inr still) (found_or_gone group other p.commits some);
+}
+
+all_without : (cs : List Command) (group : List ℕ) (ps : List PartitionState) → Contains cs (DeleteGroup group) → AreLaterPartitions cs ps (map (without_commit group) ps)
+all_without cs group [] there = tt
+all_without cs group (p ∷ ps) there = (later_without cs group p there, all_without cs group ps there)
+
+all_itself : (cs : List Command) (ps : List PartitionState) → AreLaterPartitions cs ps ps
+all_itself cs [] = tt
+all_itself cs (p ∷ ps) = (later_itself cs p, all_itself cs ps)
+
+all_set : (cs : List Command) (ps : List PartitionState) (n : ℕ) (p q : PartitionState) → slice_get ps n ≡ Some p → IsLaterPartition cs p q → AreLaterPartitions cs ps (slice_set ps n q)
+all_set cs [] n p q at l = absurd cc
+all_set cs (x ∷ ps) zero p q at l = let same : x ≡ p = cc in (subst (λ (y : PartitionState). IsLaterPartition cs y q) (sym same) l, all_itself cs ps)
+all_set cs (x ∷ ps) (suc n) p q at l = (later_itself cs x, all_set cs ps n p q at l)
+
+pub all_get : (cs : List Command) (ps qs : List PartitionState) (n : ℕ) (p : PartitionState) → AreLaterPartitions cs ps qs → slice_get ps n ≡ Some p → (q : PartitionState) × (slice_get qs n ≡ Some q) × IsLaterPartition cs p q
+all_get cs [] qs n p a at = absurd cc
+all_get cs (x ∷ ps) [] n p a at = absurd a
+all_get cs (x ∷ ps) (q ∷ qs) zero p a at = let same : x ≡ p = cc in (q, refl, subst (λ (y : PartitionState). IsLaterPartition cs y q) same a.0)
+all_get cs (x ∷ ps) (q ∷ qs) (suc n) p a at = all_get cs ps qs n p a.1 at
 
 -- ---- topics
 
-still_itself : (t : TopicState) → IsStillThere t t
-still_itself t = record { name = refl; config = refl; partitions = all_itself t.partitions }
+still_itself : (cs : List Command) (t : TopicState) → IsStillThere cs t t
+still_itself cs t = record { name = refl; config = refl; partitions = all_itself cs t.partitions }
 
-still_then : (t u v : TopicState) → IsStillThere t u → IsStillThere u v → IsStillThere t v
-still_then t u v a b = record { name = b.name ∙ a.name; config = b.config ∙ a.config; partitions = all_then t.partitions u.partitions v.partitions a.partitions b.partitions }
+still_then : (cs ds es : List Command) → AreAmong cs es → AreAmong ds es → (t u v : TopicState) → IsStillThere cs t u → IsStillThere ds u v → IsStillThere es t v
+still_then cs ds es one two t u v a b = record {
+  name = b.name ∙ a.name;
+  config = b.config ∙ a.config;
+  partitions = all_then cs ds es one two t.partitions u.partitions v.partitions a.partitions b.partitions;
+}
 
 -- one command keeps a topic, or deletes it
 abbrev Keeps : ℕ → TopicState → Command → Known → Type 0
-Keeps i t c new = (c ≡ Delete t.name) ⊎ StaysAt i t new
+Keeps i t c new = (c ≡ Delete t.name) ⊎ StaysAt (c ∷ []) i t new
 
-stays_same : (i : ℕ) (t : TopicState) (new : Known) → topic_at i new.topics ≡ Some t → StaysAt i t new
-stays_same i t new at = record { topic = t; at = at; still = still_itself t }
+stays_same : (cs : List Command) (i : ℕ) (t : TopicState) (new : Known) → topic_at i new.topics ≡ Some t → StaysAt cs i t new
+stays_same cs i t new at = record { topic = t; at = at; still = still_itself cs t }
 
 below_creates : (n : ℕ) (ts : List (ℕ × TopicState)) (i : ℕ) (t : TopicState) → AreTopics n ts → topic_at i ts ≡ Some t → i < n
 below_creates n [] i t all at = absurd cc
@@ -121,23 +173,23 @@ below_creates n (e ∷ ts) i t all at = by (is_at (nat_cmp i) e.0) refl at (λ r
     by false is at more = more at
 
 -- a partition that starts no earlier is put in the place of one
-put_keeps : (i j p : ℕ) (part new : PartitionState) (k : Known) (t u : TopicState) → topic_at j k.topics ≡ Some u → slice_get u.partitions p ≡ Some part → IsLaterPartition part new → topic_at i k.topics ≡ Some t
-    → StaysAt i t (record k { topics = put_topic j p new k.topics (topic_at j k.topics) })
-put_keeps i j p part new k t u there at l has =
+put_keeps : (cs : List Command) (i j p : ℕ) (part new : PartitionState) (k : Known) (t u : TopicState) → topic_at j k.topics ≡ Some u → slice_get u.partitions p ≡ Some part → IsLaterPartition cs part new → topic_at i k.topics ≡ Some t
+    → StaysAt cs i t (record k { topics = put_topic j p new k.topics (topic_at j k.topics) })
+put_keeps cs i j p part new k t u there at l has =
     let put : put_topic j p new k.topics (topic_at j k.topics) ≡ put_topic j p new k.topics (Some u) = ap (put_topic j p new k.topics) there in
     let found = ap (topic_at i) put ∙ found_put k.topics j i u (with_part p new u) there in
     by (is_at (nat_cmp j) i) refl found
   where
-    by : (b : Bool) → is_at (nat_cmp j) i ≡ b → topic_at i (put_topic j p new k.topics (topic_at j k.topics)) ≡ cond b (Some (with_part p new u)) (topic_at i k.topics) → StaysAt i t (record k { topics = put_topic j p new k.topics (topic_at j k.topics) })
+    by : (b : Bool) → is_at (nat_cmp j) i ≡ b → topic_at i (put_topic j p new k.topics (topic_at j k.topics)) ≡ cond b (Some (with_part p new u)) (topic_at i k.topics) → StaysAt cs i t (record k { topics = put_topic j p new k.topics (topic_at j k.topics) })
     by true is found =
         let same = same_number j i is in
         let one : u ≡ t = same_Some u t (sym there ∙ ap (λ n. topic_at n k.topics) same ∙ has) in
         record {
           topic = with_part p new u;
           at = found;
-          still = subst (λ (x : TopicState). IsStillThere x (with_part p new u)) one (record { name = refl; config = refl; partitions = all_set u.partitions p part new at l });
+          still = subst (λ (x : TopicState). IsStillThere cs x (with_part p new u)) one (record { name = refl; config = refl; partitions = all_set cs u.partitions p part new at l });
         }
-    by false is found = record { topic = t; at = found ∙ has; still = still_itself t }
+    by false is found = record { topic = t; at = found ∙ has; still = still_itself cs t }
 
 found_topic : (k : Known) (i p : ℤ) (part : PartitionState) → partition_at k i p ≡ Some part → (u : TopicState) × (topic_at (natural i) k.topics ≡ Some u) × (slice_get u.partitions (natural p) ≡ Some part)
 found_topic k (pos i) (pos p) part at = by (topic_at i k.topics) refl at
@@ -149,31 +201,31 @@ found_topic k (pos i) (negsuc p) part at = absurd (none-some part at)
 found_topic k (negsuc i) p part at = absurd (none-some part at)
 
 module _ (i : ℕ) (t : TopicState) (k : Known) (has : topic_at i k.topics ≡ Some t) where
-  keeps_by : (j p : ℤ) (new : PartitionState → PartitionState) (n : Known) (o : Option PartitionState) → partition_at k j p ≡ o → ((part : PartitionState) → IsLaterPartition part (new part)) → option_map (λ part. with_partition k j p (new part)) o ≡ Some n → StaysAt i t n
-  keeps_by j p new n None is l e = absurd (none-some n e)
-  keeps_by j p new n (Some part) is l e =
+  keeps_by : (cs : List Command) → (j p : ℤ) (new : PartitionState → PartitionState) (n : Known) (o : Option PartitionState) → partition_at k j p ≡ o → ((part : PartitionState) → IsLaterPartition cs part (new part)) → option_map (λ part. with_partition k j p (new part)) o ≡ Some n → StaysAt cs i t n
+  keeps_by cs j p new n None is l e = absurd (none-some n e)
+  keeps_by cs j p new n (Some part) is l e =
       let f = found_topic k j p part is in
-      subst (StaysAt i t) (same_Some (with_partition k j p (new part)) n e) (put_keeps i (natural j) (natural p) part (new part) k t f.0 f.1 f.2 (l part) has)
+      subst (StaysAt cs i t) (same_Some (with_partition k j p (new part)) n e) (put_keeps cs i (natural j) (natural p) part (new part) k t f.0 f.1 f.2 (l part) has)
 
-  starts_by : (j p offset : ℤ) (n : Known) (o : Option PartitionState) → partition_at k j p ≡ o → option_and_then (λ (part : PartitionState). cond (int_le part.start offset) (Some (with_partition k j p (with_start part offset))) None) o ≡ Some n → StaysAt i t n
-  starts_by j p offset n None is e = absurd (none-some n e)
-  starts_by j p offset n (Some part) is e = by (int_le part.start offset) refl e
+  starts_by : (cs : List Command) → (j p offset : ℤ) (n : Known) (o : Option PartitionState) → partition_at k j p ≡ o → option_and_then (λ (part : PartitionState). cond (int_le part.start offset) (Some (with_partition k j p (with_start part offset))) None) o ≡ Some n → StaysAt cs i t n
+  starts_by cs j p offset n None is e = absurd (none-some n e)
+  starts_by cs j p offset n (Some part) is e = by (int_le part.start offset) refl e
     where
-      by : (b : Bool) → int_le part.start offset ≡ b → cond b (Some (with_partition k j p (with_start part offset))) None ≡ Some n → StaysAt i t n
+      by : (b : Bool) → int_le part.start offset ≡ b → cond b (Some (with_partition k j p (with_start part offset))) None ≡ Some n → StaysAt cs i t n
       by true l e =
           let f = found_topic k j p part is in
-          subst (StaysAt i t) (same_Some (with_partition k j p (with_start part offset)) n e) (put_keeps i (natural j) (natural p) part (with_start part offset) k t f.0 f.1 f.2 (later_start part offset (int_is part.start offset l)) has)
+          subst (StaysAt cs i t) (same_Some (with_partition k j p (with_start part offset)) n e) (put_keeps cs i (natural j) (natural p) part (with_start part offset) k t f.0 f.1 f.2 (later_start cs part offset (int_is part.start offset l)) has)
       by false l e = absurd (none-some n e)
 
-  commits_by : (c : CommitOffset) (n : Known) (b : Bool) → cond b (option_map (λ part. with_partition k c.instance c.partition (with_commit part c.group (offset_in c))) (partition_at k c.instance c.partition)) None ≡ Some n → StaysAt i t n
-  commits_by c n true e = keeps_by c.instance c.partition (λ part. with_commit part c.group (offset_in c)) n (partition_at k c.instance c.partition) refl (λ part. later_commit part c.group (offset_in c)) e
-  commits_by c n false e = absurd (none-some n e)
+  commits_by : (cs : List Command) → (c : CommitOffset) (n : Known) (b : Bool) → cond b (option_map (λ part. with_partition k c.instance c.partition (with_commit part c.group (offset_in c))) (partition_at k c.instance c.partition)) None ≡ Some n → StaysAt cs i t n
+  commits_by cs c n true e = keeps_by cs c.instance c.partition (λ part. with_commit part c.group (offset_in c)) n (partition_at k c.instance c.partition) refl (λ part. later_commit cs part c.group (offset_in c)) e
+  commits_by cs c n false e = absurd (none-some n e)
 
-  creates_by : (n : Known) (new : TopicState) (b : Bool) → IsWellFormed k → cond b (Some (with_topic k new)) None ≡ Some n → StaysAt i t n
-  creates_by n new true wf e =
+  creates_by : (cs : List Command) → (n : Known) (new : TopicState) (b : Bool) → IsWellFormed k → cond b (Some (with_topic k new)) None ≡ Some n → StaysAt cs i t n
+  creates_by cs n new true wf e =
       let low = below_creates k.creates k.topics i t wf.topics has in
-      subst (StaysAt i t) (same_Some (with_topic k new) n e) (stays_same i t (with_topic k new) (inserted_other k.creates i new k.topics (λ same. omega (arith, same, low)) ∙ has))
-  creates_by n new false wf e = absurd (none-some n e)
+      subst (StaysAt cs i t) (same_Some (with_topic k new) n e) (stays_same cs i t (with_topic k new) (inserted_other k.creates i new k.topics (λ same. omega (arith, same, low)) ∙ has))
+  creates_by cs n new false wf e = absurd (none-some n e)
 
   deletes_by : (name : List ℕ) (n : Known) (o : Option ℕ) → IsWellFormed k → named name k.topics ≡ o → option_map (without_topic k) o ≡ Some n → Keeps i t (Delete name) n
   deletes_by name n None wf is e = absurd (none-some n e)
@@ -182,19 +234,30 @@ module _ (i : ℕ) (t : TopicState) (k : Known) (has : topic_at i k.topics ≡ S
       let f = named_found name k.topics j is wf.ordered in
       let one : f.0 ≡ t = same_Some f.0 t (sym f.1 ∙ ap (λ m. topic_at m k.topics) (sym same) ∙ has) in
       inl (ap Delete (sym f.2 ∙ ap (λ (x : TopicState). x.name) one)))
-      (λ (ne : i ≡ j → ⊥). inr (subst (StaysAt i t) (same_Some (without_topic k j) n e) (stays_same i t (without_topic k j) (other_removed j i k.topics ne ∙ has))))
+      (λ (ne : i ≡ j → ⊥). inr (subst (StaysAt (Delete name ∷ []) i t) (same_Some (without_topic k j) n e) (stays_same (Delete name ∷ []) i t (without_topic k j) (other_removed j i k.topics ne ∙ has))))
       (cases_eq i j)
 
-  issues_by : (n : Known) (b : Bool) → cond b (Some (with_id k)) None ≡ Some n → StaysAt i t n
-  issues_by n true e = subst (StaysAt i t) (same_Some (with_id k) n e) (stays_same i t (with_id k) has)
-  issues_by n false e = absurd (none-some n e)
+  groups_by : (group : List ℕ) (n : Known) (b : Bool) → cond b (Some (without_group k group)) None ≡ Some n → StaysAt (DeleteGroup group ∷ []) i t n
+  groups_by group n true e =
+      subst (StaysAt (DeleteGroup group ∷ []) i t) (same_Some (without_group k group) n e)
+      (record {
+        topic = without_commits group t;
+        at = at_less group i k.topics ∙ ap (option_map (without_commits group)) has;
+        still = record { name = refl; config = refl; partitions = all_without (DeleteGroup group ∷ []) group t.partitions (0, omega arith, refl) };
+      })
+  groups_by group n false e = absurd (none-some n e)
+
+  issues_by : (cs : List Command) → (n : Known) (b : Bool) → cond b (Some (with_id k)) None ≡ Some n → StaysAt cs i t n
+  issues_by cs n true e = subst (StaysAt cs i t) (same_Some (with_id k) n e) (stays_same cs i t (with_id k) has)
+  issues_by cs n false e = absurd (none-some n e)
 
   step_keeps : (c : Command) (n : Known) → IsWellFormed k → step k c ≡ Some n → Keeps i t c n
-  step_keeps (Create c) n wf e = inr (creates_by n (new_topic c.name (natural c.partitions) (config_in c)) (may_create k c) wf e)
+  step_keeps (Create c) n wf e = inr (creates_by (Create c ∷ []) n (new_topic c.name (natural c.partitions) (config_in c)) (may_create k c) wf e)
   step_keeps (Delete name) n wf e = deletes_by name n (named name k.topics) wf refl e
-  step_keeps (Issue id) n wf e = inr (issues_by n (int_eq id (pos k.issues) && is_left k.issues) e)
-  step_keeps (Commit c) n wf e = inr (commits_by c n (nat_le (length c.metadata) 4096) e)
-  step_keeps (Start s) n wf e = inr (starts_by s.instance s.partition s.offset n (partition_at k s.instance s.partition) refl e)
+  step_keeps (Issue id) n wf e = inr (issues_by (Issue id ∷ []) n (int_eq id (pos k.issues) && is_left k.issues) e)
+  step_keeps (Commit c) n wf e = inr (commits_by (Commit c ∷ []) c n (nat_le (length c.metadata) 4096) e)
+  step_keeps (Start s) n wf e = inr (starts_by (Start s ∷ []) s.instance s.partition s.offset n (partition_at k s.instance s.partition) refl e)
+  step_keeps (DeleteGroup group) n wf e = inr (groups_by group n (has_committed group k.topics) e)
   step_keeps (Snapshot s) n wf e = absurd (none-some n e)
   step_keeps (Topic c) n wf e = absurd (none-some n e)
 
@@ -244,12 +307,17 @@ module _ (i : ℕ) (k : Known) (low : i < k.creates) (none : topic_at i k.topics
   gone_issued n true e = subst IsGone (same_Some (with_id k) n e) none
   gone_issued n false e = absurd (none-some n e)
 
+  gone_group : (group : List ℕ) (n : Known) (b : Bool) → cond b (Some (without_group k group)) None ≡ Some n → IsGone n
+  gone_group group n true e = subst IsGone (same_Some (without_group k group) n e) (at_less group i k.topics ∙ ap (option_map (without_commits group)) none)
+  gone_group group n false e = absurd (none-some n e)
+
   step_gone : (c : Command) (n : Known) → IsWellFormed k → step k c ≡ Some n → IsGone n
   step_gone (Create c) n wf e = gone_created n (new_topic c.name (natural c.partitions) (config_in c)) (may_create k c) e
   step_gone (Delete name) n wf e = gone_deleted name n (named name k.topics) wf refl e
   step_gone (Issue id) n wf e = gone_issued n (int_eq id (pos k.issues) && is_left k.issues) e
   step_gone (Commit c) n wf e = gone_committed c n (nat_le (length c.metadata) 4096) e
   step_gone (Start s) n wf e = gone_started s.instance s.partition s.offset n (partition_at k s.instance s.partition) refl e
+  step_gone (DeleteGroup group) n wf e = gone_group group n (has_committed group k.topics) e
   step_gone (Snapshot s) n wf e = absurd (none-some n e)
   step_gone (Topic c) n wf e = absurd (none-some n e)
 
@@ -291,6 +359,7 @@ module _ (k : Known) where
   step_counts (Start s) n e =
       counts_then (λ (part : PartitionState). cond (int_le part.start s.offset) (Some (with_partition k s.instance s.partition (with_start part s.offset))) None) n (partition_at k s.instance s.partition)
       (λ part f. counts_cond (with_partition k s.instance s.partition (with_start part s.offset)) n (int_le part.start s.offset) same_counts f) e
+  step_counts (DeleteGroup group) n e = counts_cond (without_group k group) n (has_committed group k.topics) same_counts e
   step_counts (Snapshot s) n e = absurd (none-some n e)
   step_counts (Topic c) n e = absurd (none-some n e)
 
@@ -302,10 +371,14 @@ contains_first c d cs e = (0, omega arith, e)
 contains_later : (c d : Command) (cs : List Command) → Contains cs c → Contains (d ∷ cs) c
 contains_later c d cs (k, l, e) = (suc k, omega (arith, l), e)
 
+among_first : (c : Command) (cs : List Command) → AreAmong (c ∷ []) (c ∷ cs)
+among_first c cs d (zero, l, e) = (0, omega arith, e)
+among_first c cs d (suc i, l, e) = absurd (omega (arith, l))
+
 goes_nowhere : (k n : Known) → Some (in_use k) ≡ Some (in_use n) → GoesOnTo k n
 goes_nowhere k n e =
     let same : k ≡ n = ap (λ (r : Reading). r.known) (same_Some (in_use k) (in_use n) e) in
-    subst (GoesOnTo k) same (record { commands = []; read = refl; topics = λ i t at. inr (stays_same i t k at); deleted = λ i low none. none; creates = omega arith; issues = omega arith })
+    subst (GoesOnTo k) same (record { commands = []; read = refl; topics = λ i t at. inr (stays_same [] i t k at); deleted = λ i low none. none; creates = omega arith; issues = omega arith })
 
 goes_once : (k m n : Known) (c : Command) → IsWellFormed k → step k c ≡ Some m → GoesOnTo m n → GoesOnTo k n
 goes_once k m n c wf e on = record {
@@ -313,10 +386,14 @@ goes_once k m n c wf e on = record {
   read = ap (λ o. option_and_then (λ (r : Reading). read_all r on.commands) (option_map in_use o)) e ∙ on.read;
   topics = λ i t at. ⊎_elim
       (λ (deleted : c ≡ Delete t.name). inl (contains_first (Delete t.name) c on.commands deleted))
-      (λ (s : StaysAt i t m). ⊎_elim
+      (λ (s : StaysAt (c ∷ []) i t m). ⊎_elim
       (λ (later : Contains on.commands (Delete s.topic.name)).
       inl (contains_later (Delete t.name) c on.commands (subst (λ (x : List ℕ). Contains on.commands (Delete x)) s.still.name later)))
-      (λ (u : StaysAt i s.topic n). inr (record { topic = u.topic; at = u.at; still = still_then t s.topic u.topic s.still u.still }))
+      (λ (u : StaysAt on.commands i s.topic n). inr (record {
+        topic = u.topic;
+        at = u.at;
+        still = still_then (c ∷ []) on.commands (c ∷ on.commands) (among_first c on.commands) (λ d. contains_later d c on.commands) t s.topic u.topic s.still u.still;
+      }))
       (on.topics i s.topic s.at))
       (step_keeps i t k at c m wf e);
   deleted = λ i low none. let one = step_counts k c m e in on.deleted i (omega (arith, low, one.0)) (step_gone i k low none c m wf e);
@@ -343,10 +420,15 @@ goes_then k m n a b = record {
   read = read_both (in_use k) (in_use m) (in_use n) a.commands b.commands a.read b.read;
   topics = λ i t at. ⊎_elim
       (λ (deleted : Contains a.commands (Delete t.name)). inl (Contains-append_left a.commands b.commands (Delete t.name) deleted))
-      (λ (s : StaysAt i t m). ⊎_elim
+      (λ (s : StaysAt a.commands i t m). ⊎_elim
       (λ (later : Contains b.commands (Delete s.topic.name)).
       inl (Contains-append_right a.commands b.commands (Delete t.name) (subst (λ (x : List ℕ). Contains b.commands (Delete x)) s.still.name later)))
-      (λ (u : StaysAt i s.topic n). inr (record { topic = u.topic; at = u.at; still = still_then t s.topic u.topic s.still u.still }))
+      (λ (u : StaysAt b.commands i s.topic n). inr (record {
+        topic = u.topic;
+        at = u.at;
+        still = still_then a.commands b.commands (a.commands ++ b.commands) (λ c. Contains-append_left a.commands b.commands c)
+            (λ c. Contains-append_right a.commands b.commands c) t s.topic u.topic s.still u.still;
+      }))
       (b.topics i s.topic s.at))
       (a.topics i t at);
   deleted = λ i low none. b.deleted i (let one = a.creates in omega (arith, low, one)) (a.deleted i low none);

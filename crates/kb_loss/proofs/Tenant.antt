@@ -48,7 +48,7 @@ module _ (files : Files) (owners : Owners) (k : Known) (logs : Logs) (o : IsOpen
       (cases_lt g q.generation))
       (cases_lt q.generation g)
 
-  partition : (i p : ℕ) (was is : PartitionState) (l : LogState) → partition_at k (pos i) (pos p) ≡ Some was → partition_at now (pos i) (pos p) ≡ Some is → IsLaterPartition was is → log_at i p logs ≡ Some l → HasLog now logs_now i p was l
+  partition : (i p : ℕ) (was is : PartitionState) (l : LogState) → partition_at k (pos i) (pos p) ≡ Some was → partition_at now (pos i) (pos p) ≡ Some is → IsLaterPartition catalog.commands was is → log_at i p logs ≡ Some l → HasLog catalog.commands now logs_now i p was l
   partition i p was is l at here later has =
       let had = o.has.each i p was at in
       let has_now = q.has.each i p is here in
@@ -70,8 +70,8 @@ module _ (files : Files) (owners : Owners) (k : Known) (logs : Logs) (o : IsOpen
     catalog = catalog;
     partitions = λ i p topic was l at part has. ⊎_elim
         (λ (deleted : Contains catalog.commands (Delete topic.name)). inl deleted)
-        (λ (s : StaysAt i topic now).
-        let still = all_get topic.partitions s.topic.partitions p was s.still.partitions part in
+        (λ (s : StaysAt catalog.commands i topic now).
+        let still = all_get catalog.commands topic.partitions s.topic.partitions p was s.still.partitions part in
         inr (partition i p was still.0 l
         (ap (option_and_then (λ (x : TopicState). slice_get x.partitions p)) at ∙ part)
         (ap (option_and_then (λ (x : TopicState). slice_get x.partitions p)) s.at ∙ still.1)

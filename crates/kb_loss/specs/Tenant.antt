@@ -4,6 +4,7 @@ use Rattle.std.specs.List.{Contains, IsDistinct}
 use Rattle.kb_store.specs.Disk.{Files}
 use Rattle.kb_batch.specs.Batch.{natural}
 use Rattle.kb_segment_log.specs.Chain.{numbers_in}
+use Rattle.kb_topics.specs.declared.command.Command.{Command}
 use Rattle.kb_topics.specs.declared.command.Command.TheVariants.{Delete}
 use Rattle.kb_topics.specs.Known.{Known, PartitionState, TopicState, topic_at, partition_at}
 use Rattle.kb_topics.specs.MetaLog.{IsFoldOf}
@@ -69,10 +70,10 @@ pub record GoesThroughAll {files : Files} {owners : Owners} {k : Known} {logs : 
 
 -- ---- what the tenant has
 
--- A partition is there, later than it was, and from its start on its log has all that it had.
-pub record HasLog (known : Known) (logs : Logs) (i p : ℕ) (was : PartitionState) (l : LogState) : Type 0 where
+-- After some commands a partition is there, later than it was, and from its start on its log has all that it had.
+pub record HasLog (commands : List Command) (known : Known) (logs : Logs) (i p : ℕ) (was : PartitionState) (l : LogState) : Type 0 where
   pub part : PartitionState
-  pub later : IsLaterPartition was part
+  pub later : IsLaterPartition commands was part
   pub at : partition_at known (pos i) (pos p) ≡ Some part
   pub log : LogState
   pub has : log_at i p logs ≡ Some log
@@ -84,4 +85,4 @@ pub record HasWhatWas (known : Known) (logs : Logs) (now : Known) (logs_now : Lo
   pub catalog : GoesOnTo known now
   pub partitions : (i p : ℕ) (t : TopicState) (was : PartitionState) (l : LogState) → topic_at i known.topics ≡ Some t
       → slice_get t.partitions p ≡ Some was → log_at i p logs ≡ Some l
-      → Contains catalog.commands (Delete t.name) ⊎ HasLog now logs_now i p was l
+      → Contains catalog.commands (Delete t.name) ⊎ HasLog catalog.commands now logs_now i p was l

@@ -42,7 +42,8 @@ api_name key =
     else if key == 17 then Some (codes "SaslHandshake") else if key == 18 then Some (codes "ApiVersions")
     else if key == 19 then Some (codes "CreateTopics") else if key == 20 then Some (codes "DeleteTopics")
     else if key == 21 then Some (codes "DeleteRecords") else if key == 22 then Some (codes "InitProducerId")
-    else if key == 32 then Some (codes "DescribeConfigs") else if key == 36 then Some (codes "SaslAuthenticate") else None
+    else if key == 32 then Some (codes "DescribeConfigs") else if key == 36 then Some (codes "SaslAuthenticate")
+    else if key == 42 then Some (codes "DeleteGroups") else None
 
 -- 2. Labels
 

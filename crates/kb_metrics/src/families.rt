@@ -136,6 +136,7 @@ fn api_name(key: usize) -> Option<&'static str>
         22 => Some("InitProducerId"),
         32 => Some("DescribeConfigs"),
         36 => Some("SaslAuthenticate"),
+        42 => Some("DeleteGroups"),
         _ => None,
     }
 }

@@ -19,14 +19,14 @@ use Rattle.kb_tenant.proofs.Moves.{Moves}
 use Rattle.kb_tenant.proofs.RetainMoves.{IsAlike, alike_same, put_alike}
 
 -- The logs stay, and what is known is as before but for what groups committed.
-record Commits (w v : World) : Type 0 where
+pub record Commits (w v : World) : Type 0 where
   pub logs : v.logs ≡ w.logs
   pub alike : IsAlike w.known v.known
 
-commits_none : (w : World) → Commits w w
+pub commits_none : (w : World) → Commits w w
 commits_none w = record { logs = refl; alike = alike_same w.known }
 
-commits_then : (w v u : World) → Commits w v → Commits v u → Commits w u
+pub commits_then : (w v u : World) → Commits w v → Commits v u → Commits w u
 commits_then w v u p q = record {
   logs = q.logs ∙ p.logs;
   alike = record {
@@ -79,7 +79,7 @@ all_commits limits w refusal r = turns_commit (committed_topic limits refusal r.
 
 -- ---- the laws
 
-moves_by : (w v : World) → Commits w v → Moves [] [] w v
+pub moves_by : (w v : World) → Commits w v → Moves [] [] w v
 moves_by w v c = record {
   tied = λ t. record {
     next = λ i le. c.alike.none i (t.next i (subst (λ n. n ≤ i) c.alike.creates le));

@@ -133,11 +133,11 @@ creation_code a b step honest agree catalog.Memory want = inr refl
 fault_wants : (Want : CatalogFault → Type 0) (failed : Type 0) (code : ℤ) → ((f : CatalogFault) → Want f → IsWantCode failed (fault_code f)) → IsFaultOf Want code → IsWantCode failed code
 fault_wants Want failed code each is = subst (IsWantCode failed) (sym is.told) (each is.fault is.want)
 
-catalog_wants : (a b : Scene Seen) (code : ℤ) → IsStep a b → b.disk.honest → a.agrees → IsFaultOf (IsCatalogWant a b) code → IsWantCode (CatalogFailed a b) code
+pub catalog_wants : (a b : Scene Seen) (code : ℤ) → IsStep a b → b.disk.honest → a.agrees → IsFaultOf (IsCatalogWant a b) code → IsWantCode (CatalogFailed a b) code
 catalog_wants a b code step honest agree is = fault_wants (IsCatalogWant a b) (CatalogFailed a b) code (catalog_code a b step honest agree) is
 
 -- where the store failed in a while it failed in a longer one, and the entry is told so
-code_so : (P Q : Type 0) → (P → Q) → (code : ℤ) → IsWantCode P code → IsWantCode Q code
+pub code_so : (P Q : Type 0) → (P → Q) → (code : ℤ) → IsWantCode P code → IsWantCode Q code
 code_so P Q f code = ⊎_elim (λ store. inl (store.0, f store.1)) (λ memory. inr memory)
 
 creation_so : (P Q : Type 0) → (P → Q) → (limits : DataLimits) (ts : List CreateTopic) (w : World) (t : CreateTopic) (v : World) (x : CreateTopicReply) → IsCreationTold P limits ts w t v x → IsCreationTold Q limits ts w t v x

@@ -1,5 +1,5 @@
 -- How many entries a request names.
-use Rattle.std.specs.Prelude.{ℕ, ◌+◌, List, length, Option, Some, None, Result, Ok, Err, if◌then◌else◌}
+use Rattle.std.specs.Prelude.{ℕ, ◌+◌, ◌*◌, List, length, Option, Some, None, Result, Ok, Err, if◌then◌else◌}
 use Rattle.std.specs.List.{sum_by}
 use Rattle.kb_wire.specs.declared.fault.WireFault.{WireFault}
 use Rattle.kb_wire.specs.declared.fault.WireFault.TheVariants as faults
@@ -16,6 +16,7 @@ use Rattle.kb_api_data.specs.declared.list_offsets.ListOffsetsTopic.{ListOffsets
 use Rattle.kb_api_data.specs.declared.metadata.MetadataRequest.{MetadataRequest}
 use Rattle.kb_api_data.specs.declared.produce.ProduceRequest.{ProduceRequest}
 use Rattle.kb_api_data.specs.declared.produce.ProduceTopic.{ProduceTopic}
+use Rattle.kb_api_group.specs.declared.delete_groups.DeleteGroupsRequest.{DeleteGroupsRequest}
 use Rattle.kb_api_group.specs.declared.describe_groups.DescribeGroupsRequest.{DescribeGroupsRequest}
 use Rattle.kb_api_group.specs.declared.offset_commit.CommitTopic.{CommitTopic}
 use Rattle.kb_api_group.specs.declared.offset_commit.OffsetCommitRequest.{OffsetCommitRequest}
@@ -73,6 +74,10 @@ delete_topics_entries r = length r.names
 -- groups
 abbrev pub describe_groups_entries : DescribeGroupsRequest → ℕ
 describe_groups_entries r = length r.group_ids
+
+-- groups that are deleted; each counts as much as 64 others, since all partitions of the tenant are looked at for it
+abbrev pub delete_groups_entries : DeleteGroupsRequest → ℕ
+delete_groups_entries r = length r.group_ids * 64
 
 -- ---- the limit
 

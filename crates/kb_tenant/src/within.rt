@@ -10,7 +10,8 @@ use kb_api_data::{
     ListOffsetsTopic, MetadataRequest, ProduceRequest, ProduceTopic,
 };
 use kb_api_group::{
-    CommitTopic, DescribeGroupsRequest, OffsetCommitRequest, OffsetFetchRequestV2, OffsetFetchTopic,
+    CommitTopic, DeleteGroupsRequest, DescribeGroupsRequest, OffsetCommitRequest,
+    OffsetFetchRequestV2, OffsetFetchTopic,
 };
 use kb_wire::{Layout, ReadFault, WireFault};
 use std::alloc::Global;
@@ -265,5 +266,15 @@ impl Named for DescribeGroupsRequest<'_> {
 
     fn is_past(&self, limit: u64) -> bool {
         limit < self.group_ids.len() as u64
+    }
+}
+
+impl Named for DeleteGroupsRequest<'_> {
+    ghost use Rattle.kb_tenant.specs.Entries.{delete_groups_entries};
+
+    ghost entries = { delete_groups_entries };
+
+    fn is_past(&self, limit: u64) -> bool {
+        limit / 64 < self.group_ids.len() as u64
     }
 }

@@ -3,7 +3,7 @@ use Rattle.std.proofs.Common.{◌≡◌, ◌⊎◌, ℕ, ℤ, List, true, false,
 use Rattle.std.specs.Ordering.{int_eq}
 use Rattle.kb_wire.specs.declared.api_key.TheConstants.{OFFSET_COMMIT, JOIN_GROUP, HEARTBEAT, LEAVE_GROUP, SYNC_GROUP}
 use Rattle.kb_wire.specs.declared.fault.ReadFault.{ReadFault}
-use Rattle.kb_api_group.specs.declared.group_key.TheConstants.{DESCRIBE_GROUPS, LIST_GROUPS}
+use Rattle.kb_api_group.specs.declared.group_key.TheConstants.{DELETE_GROUPS, DESCRIBE_GROUPS, LIST_GROUPS}
 use Rattle.kb_coordinator.specs.Groups.{Groups}
 use Rattle.kb_tenant_state.specs.World.{World}
 use Rattle.kb_tenant_state.specs.declared.topic_partition.TopicPartition.{TopicPartition}
@@ -11,7 +11,7 @@ use Rattle.kb_tenant.specs.Answered as tenant
 use Rattle.kb_tenant.specs.Told.{IsReplied}
 use Rattle.kb_tenant.specs.declared.answer.Answer.TheVariants as plain
 use Rattle.kb_tenant.specs.declared.node.Node.{Node}
-use Rattle.kb_tenant_api.specs.Acknowledged.{AcknowledgesCommits, IsOfMembers, IsPlainly, IsTruthful, TellsCommits}
+use Rattle.kb_tenant_api.specs.Acknowledged.{AcknowledgesCommits, AcknowledgesGroupDeletions, IsOfCommits, IsOfMembers, IsPlainly, IsTruthful, TellsCommits, TellsGroupDeletions}
 use Rattle.kb_tenant_api.specs.Replies.{IsAnswer}
 use Rattle.kb_tenant_api.specs.Serve.{Outcome, served, IsServed}
 use Rattle.kb_tenant_api.specs.declared.answer.Answer.{Answer}
@@ -34,56 +34,86 @@ pub commits_for_no_member : (key : ℤ) → key ≡ OFFSET_COMMIT → IsOfMember
 commits_for_no_member key is =
     is_of_none key (ap (λ k. int_eq k JOIN_GROUP) is) (ap (λ k. int_eq k HEARTBEAT) is) (ap (λ k. int_eq k LEAVE_GROUP) is) (ap (λ k. int_eq k SYNC_GROUP) is) (ap (λ k. int_eq k DESCRIBE_GROUPS) is) (ap (λ k. int_eq k LIST_GROUPS) is)
 
+-- Nor is a deletion of groups.
+pub deletes_for_no_member : (key : ℤ) → key ≡ DELETE_GROUPS → IsOfMembers key → ⊥
+deletes_for_no_member key is =
+    is_of_none key (ap (λ k. int_eq k JOIN_GROUP) is) (ap (λ k. int_eq k HEARTBEAT) is) (ap (λ k. int_eq k LEAVE_GROUP) is) (ap (λ k. int_eq k SYNC_GROUP) is) (ap (λ k. int_eq k DESCRIBE_GROUPS) is) (ap (λ k. int_eq k LIST_GROUPS) is)
+
+-- A commit deletes no groups.
+pub commits_delete_none : (key : ℤ) → key ≡ OFFSET_COMMIT → key ≡ DELETE_GROUPS → ⊥
+commits_delete_none key is = differs key DELETE_GROUPS (ap (λ k. int_eq k DELETE_GROUPS) is) refl
+
+pub is_no_commit : (key : ℤ) → int_eq key OFFSET_COMMIT ≡ false → int_eq key DELETE_GROUPS ≡ false → IsOfCommits key → ⊥
+is_no_commit key a b (inl commit) = differs key OFFSET_COMMIT a refl commit
+is_no_commit key a b (inr delete) = differs key DELETE_GROUPS b refl delete
+
 -- a request of a member that is answered what is defined
 pub member_told : (failed full honest agree : Type 0) (node : Node) (clock n : ℕ) (key version id : ℤ) (body : List ℕ) (w : World) (gs new : Groups) (some touched : List TopicPartition) (o : Outcome) (result : Result Answer ReadFault) → IsOfMembers key
     → served node w clock gs n key version body ≡ o → IsServed id o w new some result
-    → IfOk result (λ answer. honest → agree → IsTruthful failed full node clock n key version id body w gs w touched answer)
+    → IfOk result (λ answer. honest → agree → IsTruthful failed full node clock n key version id body w gs w new touched answer)
 member_told failed full honest agree node clock n key version id body w gs new some touched o (Ok answer) member is met = λ h a. record {
   plain = λ none other. absurd (none member);
   committed = λ commit. absurd (commits_for_no_member key commit member);
+  deleted = λ delete. absurd (deletes_for_no_member key delete member);
   members = λ m. inl (subst (λ x. IsAnswer id x.reaction answer) (sym is) met.3);
   stays = λ m. refl;
 }
 member_told failed full honest agree node clock n key version id body w gs new some touched o (Err fault) member is met = tt
 
 -- a commit that is told
-pub commit_told : (failed full honest agree : Type 0) (node : Node) (clock n : ℕ) (key version id : ℤ) (body : List ℕ) (w v : World) (gs : Groups) (touched : List TopicPartition) (result : Result Answer ReadFault) → key ≡ OFFSET_COMMIT
+pub commit_told : (failed full honest agree : Type 0) (node : Node) (clock n : ℕ) (key version id : ℤ) (body : List ℕ) (w v : World) (gs new : Groups) (touched : List TopicPartition) (result : Result Answer ReadFault) → key ≡ OFFSET_COMMIT
     → IfOk result (λ answer. honest → agree → AcknowledgesCommits (failed ⊎ full) node.limits id version gs w body v answer)
-    → IfOk result (λ answer. honest → agree → IsTruthful failed full node clock n key version id body w gs v touched answer)
-commit_told failed full honest agree node clock n key version id body w v gs touched (Ok answer) is told = λ h a. record {
-  plain = λ none other. absurd (other is);
+    → IfOk result (λ answer. honest → agree → IsTruthful failed full node clock n key version id body w gs v new touched answer)
+commit_told failed full honest agree node clock n key version id body w v gs new touched (Ok answer) is told = λ h a. record {
+  plain = λ none other. absurd (other (inl is));
   committed = λ same. told h a;
+  deleted = λ delete. absurd (commits_delete_none key is delete);
   members = λ member. absurd (commits_for_no_member key is member);
   stays = λ member. absurd (commits_for_no_member key is member);
 }
-commit_told failed full honest agree node clock n key version id body w v gs touched (Err fault) is told = tt
+commit_told failed full honest agree node clock n key version id body w v gs new touched (Err fault) is told = tt
+
+-- a deletion of groups that is told
+pub delete_told : (failed full honest agree : Type 0) (node : Node) (clock n : ℕ) (key version id : ℤ) (body : List ℕ) (w v : World) (gs new : Groups) (touched : List TopicPartition) (result : Result Answer ReadFault) → key ≡ DELETE_GROUPS
+    → IfOk result (λ answer. honest → agree → AcknowledgesGroupDeletions (failed ⊎ full) id gs w body v new answer)
+    → IfOk result (λ answer. honest → agree → IsTruthful failed full node clock n key version id body w gs v new touched answer)
+delete_told failed full honest agree node clock n key version id body w v gs new touched (Ok answer) is told = λ h a. record {
+  plain = λ none other. absurd (other (inr is));
+  committed = λ commit. absurd (commits_delete_none key commit is);
+  deleted = λ same. told h a;
+  members = λ member. absurd (deletes_for_no_member key is member);
+  stays = λ member. absurd (deletes_for_no_member key is member);
+}
+delete_told failed full honest agree node clock n key version id body w v gs new touched (Err fault) is told = tt
 
 -- any other request, which is answered as if there were no groups
-pub plainly_told : (failed full : Type 0) (node : Node) (clock n : ℕ) (key version id : ℤ) (body : List ℕ) (w v : World) (gs : Groups) (touched : List TopicPartition) (answer : Answer) → (IsOfMembers key → ⊥) → (key ≡ OFFSET_COMMIT → ⊥)
+pub plainly_told : (failed full : Type 0) (node : Node) (clock n : ℕ) (key version id : ℤ) (body : List ℕ) (w v : World) (gs new : Groups) (touched : List TopicPartition) (answer : Answer) → (IsOfMembers key → ⊥) → (IsOfCommits key → ⊥)
     → IsPlainly (tenant.IsTruthful failed full node clock n key version id body w v touched) answer
-    → IsTruthful failed full node clock n key version id body w gs v touched answer
-plainly_told failed full node clock n key version id body w v gs touched answer none other told = record {
+    → IsTruthful failed full node clock n key version id body w gs v new touched answer
+plainly_told failed full node clock n key version id body w v gs new touched answer none other told = record {
   plain = λ no_member no_commit. told;
-  committed = λ is. absurd (other is);
+  committed = λ is. absurd (other (inl is));
+  deleted = λ is. absurd (other (inr is));
   members = λ member. absurd (none member);
   stays = λ member. absurd (none member);
 }
 
--- a request of a member or a commit after which the connection is shut
-pub shut_told : (failed full : Type 0) (node : Node) (clock n : ℕ) (key version id : ℤ) (body : List ℕ) (w v : World) (gs : Groups) (touched : List TopicPartition) (answer : Answer) → ((IsOfMembers key → ⊥) → (key ≡ OFFSET_COMMIT → ⊥) → false ≡ true)
+-- a request of a member, a commit or a deletion of groups after which the connection is shut
+pub shut_told : (failed full : Type 0) (node : Node) (clock n : ℕ) (key version id : ℤ) (body : List ℕ) (w v : World) (gs new : Groups) (touched : List TopicPartition) (answer : Answer) → ((IsOfMembers key → ⊥) → (IsOfCommits key → ⊥) → false ≡ true)
     → (IsOfMembers key → v ≡ w) → answer ≡ answers.Plain plain.Shut
-    → IsTruthful failed full node clock n key version id body w gs v touched answer
-shut_told failed full node clock n key version id body w v gs touched answer either same shut = record {
+    → IsTruthful failed full node clock n key version id body w gs v new touched answer
+shut_told failed full node clock n key version id body w v gs new touched answer either same shut = record {
   plain = λ none other. let no_answer : false ≡ true = either none other in absurd cc;
   committed = λ is q read. subst (IsPlainly (IsReplied id (TellsCommits (failed ⊎ full) node.limits gs w q v))) (sym shut) tt;
+  deleted = λ is q read. subst (IsPlainly (IsReplied id (TellsGroupDeletions (failed ⊎ full) gs w q v new))) (sym shut) tt;
   members = λ member. inr shut;
   stays = same;
 }
 
 -- That is told of what is passed on.
-pub told_on : (failed full : Type 0) (node : Node) (clock n : ℕ) (key version id : ℤ) (body : List ℕ) (w v : World) (gs : Groups) (some touched : List TopicPartition) (same answer : Answer) → touched ≡ some → answer ≡ same
-    → IsTruthful failed full node clock n key version id body w gs v some same
-    → IsTruthful failed full node clock n key version id body w gs v touched answer
-told_on failed full node clock n key version id body w v gs some touched same answer of_some is told =
-    subst (λ x. IsTruthful failed full node clock n key version id body w gs v x answer) (sym of_some)
-    (subst (IsTruthful failed full node clock n key version id body w gs v some) (sym is) told)
+pub told_on : (failed full : Type 0) (node : Node) (clock n : ℕ) (key version id : ℤ) (body : List ℕ) (w v : World) (gs new : Groups) (some touched : List TopicPartition) (same answer : Answer) → touched ≡ some → answer ≡ same
+    → IsTruthful failed full node clock n key version id body w gs v new some same
+    → IsTruthful failed full node clock n key version id body w gs v new touched answer
+told_on failed full node clock n key version id body w v gs new some touched same answer of_some is told =
+    subst (λ x. IsTruthful failed full node clock n key version id body w gs v new x answer) (sym of_some)
+    (subst (IsTruthful failed full node clock n key version id body w gs v new some) (sym is) told)

@@ -20,11 +20,13 @@ use Rattle.kb_tenant.proofs.Small.{committed_small, served_small as topics_small
 use Rattle.kb_tenant_api.specs.Replies.{Plain, replies, told_to}
 use Rattle.kb_tenant_api.specs.Serve.{Outcome, commit_refusal, served}
 use Rattle.kb_tenant_api.proofs.ByRequest.{by_request}
+use Rattle.kb_tenant_api.proofs.GroupMoves.{deleted_names, deleted_small, deleted_tied, deleted_waits}
 
 pub served_tied : (node : Node) (w : World) (clock : ℕ) (gs : Groups) (n : ℕ) (key version : ℤ) (body : List ℕ) → IsTied w → IsTied (served node w clock gs n key version body).world
 served_tied node w clock gs n key version body tied = by_request (λ (o : Outcome). IsTied o.world) node w clock gs n key version body (record {
   stays = λ after reaction. tied;
   commit = λ r. commit_tied node.limits w (commit_refusal gs r) r tied;
+  delete = λ r. deleted_tied w gs r tied;
   topics = topics_tied node w clock n key version body tied;
 })
 
@@ -32,6 +34,7 @@ pub served_names : (node : Node) (w : World) (clock : ℕ) (gs : Groups) (n : �
 served_names node w clock gs n key version body own = by_request (λ (o : Outcome). HasOwnNames o.world) node w clock gs n key version body (record {
   stays = λ after reaction. own;
   commit = λ r. commit_names node.limits w (commit_refusal gs r) r own;
+  delete = λ r. deleted_names w gs r own;
   topics = topics_names node w clock n key version body own;
 })
 
@@ -39,6 +42,7 @@ pub served_small : (node : Node) (w : World) (clock : ℕ) (gs : Groups) (n : �
 served_small node w clock gs n key version body small = by_request (λ (o : Outcome). HasSmallLogs o.world) node w clock gs n key version body (record {
   stays = λ after reaction. small;
   commit = λ r. committed_small node.limits w (commit_refusal gs r) r small;
+  delete = λ r. deleted_small w gs r small;
   topics = topics_small node w clock n key version body small;
 })
 
@@ -53,6 +57,7 @@ pub served_waits : (node : Node) (w : World) (clock : ℕ) (gs : Groups) (n : �
 served_waits node w clock gs n key version body r deadline tied waits = by_request (λ (o : Outcome). AreApart (places_of w r) o.touched → StillWaits w o.world clock r deadline) node w clock gs n key version body (record {
   stays = λ after reaction apart. waits_here w clock r deadline waits;
   commit = λ q apart. committed_waits node.limits w clock (commit_refusal gs q) q r deadline tied waits;
+  delete = λ q apart. deleted_waits w gs q clock r deadline tied waits;
   topics = topics_waits node w clock n key version body r deadline tied waits;
 })
 
@@ -61,6 +66,7 @@ pub served_again : (node : Node) (w : World) (clock : ℕ) (gs : Groups) (n : �
 served_again node w clock gs n key version body r deadline tied own waits = by_request (λ (o : Outcome). fetch_answer o.world clock r deadline ≡ None → places_of o.world r ≡ places_of w r) node w clock gs n key version body (record {
   stays = λ after reaction none. refl;
   commit = λ q. committed_again node.limits w clock (commit_refusal gs q) q r deadline tied own waits;
+  delete = λ q none. (deleted_waits w gs q clock r deadline tied waits).1;
   topics = topics_again node w clock n key version body r deadline tied own waits;
 })
 

@@ -1,6 +1,8 @@
 pub mod Answered
 pub mod ByRequest
 pub mod Committing
+pub mod GroupMoves
+pub mod Deleting
 pub mod Joining
 pub mod Keys
 pub mod Laws

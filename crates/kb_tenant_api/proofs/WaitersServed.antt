@@ -7,9 +7,10 @@ use Rattle.kb_wire.specs.Codec.{whole}
 use Rattle.kb_wire.specs.declared.fault.WireFault.{WireFault}
 use Rattle.kb_wire.specs.ErrorCode.{code_of}
 use Rattle.kb_wire.specs.declared.api_key.TheConstants.{OFFSET_COMMIT, JOIN_GROUP, HEARTBEAT, LEAVE_GROUP, SYNC_GROUP}
-use Rattle.kb_api_group.specs.declared.group_key.TheConstants.{DESCRIBE_GROUPS, LIST_GROUPS}
-use Rattle.kb_api_group.specs.Layouts.{describe_groups_request, list_groups_request}
+use Rattle.kb_api_group.specs.declared.group_key.TheConstants.{DELETE_GROUPS, DESCRIBE_GROUPS, LIST_GROUPS}
+use Rattle.kb_api_group.specs.Layouts.{delete_groups_request, describe_groups_request, list_groups_request}
 use Rattle.kb_api_group.specs.Layouts.{heartbeat_request, join_group_request, leave_group_request, sync_group_request}
+use Rattle.kb_api_group.specs.declared.delete_groups.DeleteGroupsRequest.{DeleteGroupsRequest}
 use Rattle.kb_api_group.specs.declared.heartbeat.HeartbeatRequest.{HeartbeatRequest}
 use Rattle.kb_api_group.specs.declared.join_group.JoinGroupRequest.{JoinGroupRequest}
 use Rattle.kb_api_group.specs.declared.leave_group.LeaveGroupRequest.{LeaveGroupRequest}
@@ -27,22 +28,26 @@ use Rattle.kb_groups.specs.Calls as one
 use Rattle.kb_groups.specs.Moments.{tick}
 use Rattle.kb_groups.specs.Rebalance.{Step}
 use Rattle.kb_coordinator.specs.declared.groups.Entry.{Entry}
-use Rattle.kb_coordinator.specs.Calls.{after_heartbeat, after_join, after_may_commit, after_sync, by_group, hung_up, is_accepted, join_code, joined_by, left, room, some_released, some_ticked, sync_answer, sync_in, ticked, Ticks}
+use Rattle.kb_coordinator.specs.Calls.{after_heartbeat, after_join, after_may_commit, after_sync, by_group, deleted, has_members, hung_up, is_accepted, is_there, join_code, joined_by, left, room, some_released, some_ticked, sync_answer, sync_in, ticked, Ticks}
 use Rattle.kb_coordinator.specs.Groups as co
 use Rattle.kb_coordinator.specs.Groups.{Groups, first_above, found, silent}
 use Rattle.kb_coordinator.specs.Replies.{join_refusal}
 use Rattle.kb_coordinator.specs.Requests.{assigned_to, join_of, named}
+use Rattle.kb_wire.specs.declared.error_code.ErrorCode.TheVariants as codes
+use Rattle.kb_topics.specs.Known.{has_committed}
 use Rattle.kb_tenant_state.specs.World.{World, new_world}
 use Rattle.kb_tenant.specs.OffsetCommit.{asked_commit}
 use Rattle.kb_tenant.specs.Replies.{Shuts}
-use Rattle.kb_tenant.specs.Entries.{commit_entries, describe_groups_entries, within}
+use Rattle.kb_tenant.specs.Entries.{commit_entries, delete_groups_entries, describe_groups_entries, within}
 use Rattle.kb_tenant.specs.Serve as tenant
+use Rattle.kb_tenant.specs.Turns.{in_turn}
 use Rattle.kb_tenant.specs.declared.limits.DataLimits.{DataLimits}
 use Rattle.kb_tenant.specs.declared.node.Node.{Node}
+use Rattle.kb_tenant_api.specs.Deletions.{all_deleted, deleted_entry, without_each, without_empty, AreFewer}
 use Rattle.kb_tenant_api.specs.Replies.{Reaction, Plain, Rebalances, replies}
 use Rattle.kb_tenant_api.specs.declared.answer.Answer.{Answer}
 use Rattle.kb_tenant_api.specs.declared.answer.Answer.TheVariants as answers
-use Rattle.kb_tenant_api.specs.Serve.{AreGroupsAfter, AreGroupsBy, Outcome, if_read, of_describe, of_groups, of_heartbeat, of_join, of_leave, of_list, of_offset_commit, of_sync, of_topics, served, sync_reaction}
+use Rattle.kb_tenant_api.specs.Serve.{AreGroupsAfter, AreGroupsBy, Outcome, if_read, of_delete, of_describe, of_groups, of_heartbeat, of_join, of_leave, of_list, of_offset_commit, of_sync, of_topics, served, sync_reaction}
 use Rattle.kb_tenant_api.specs.Waiters.{AreServed, AreTicked, IsWaitTold, IsWaitToldBy, given, members_on, once, rebalances, replies_on, waiting, waiting_in}
 use Rattle.kb_tenant_api.proofs.Waiters.{all, dropped_none, dropped_waits, join_waits, leave_waits, tick_waits, touched_waits, within_waits}
 
@@ -134,6 +139,65 @@ commit_told limits w clock n gs r = by (one.is_empty r.group_id)
     by true = silent_served n false gs
     by false = λ k. omega (arith, same_in k r.group_id f (λ g. touched_waits k (one.is_fine (one.may_commit (named r.member_id) r.generation_id g)) clock (named r.member_id) g) gs.groups)
 
+-- a group that is gone
+without_in : (k : ℕ) (id : List ℕ) (es : List Entry) → waiting_in k (co.without id es) ≤ waiting_in k es
+unfolding co.without
+without_in k id [] = omega arith
+without_in k id (e ∷ es) = by (bytes_eq e.id id) (without_in k id es)
+  where
+    by : (b : Bool) → waiting_in k (co.without id es) ≤ waiting_in k es → waiting_in k (if b then es else e ∷ co.without id es) ≤ waiting k e.group.members + waiting_in k es
+    by true h = omega arith
+    by false h = omega (arith, h)
+
+-- no member more waits, and nobody more has a reply
+abbrev IsLess : Groups → Groups → Type 0
+IsLess old new = (k : ℕ) → (members_on k new ≤ members_on k old) × (replies_on k new ≤ replies_on k old)
+
+deleted_less : (id : List ℕ) (gs : Groups) → IsLess gs (deleted id gs)
+deleted_less id gs k = (without_in k id gs.groups, omega arith)
+
+empty_less : (id : List ℕ) (gs : Groups) → IsLess gs (without_empty id gs)
+empty_less id gs = by (has_members id gs)
+  where
+    by : (b : Bool) → IsLess gs (if b then gs else deleted id gs)
+    by true = λ k. (omega arith, omega arith)
+    by false = deleted_less id gs
+
+less_then : (a b c : Groups) → IsLess a b → IsLess b c → IsLess a c
+less_then a b c p q k = (omega (arith, (p k).0, (q k).0), omega (arith, (p k).1, (q k).1))
+
+each_less : (ids : List (List ℕ)) (gs : Groups) → IsLess gs (without_each ids gs)
+each_less [] gs = λ k. (omega arith, omega arith)
+each_less (id ∷ ids) gs = less_then gs (without_empty id gs) (without_each ids (without_empty id gs)) (empty_less id gs) (each_less ids (without_empty id gs))
+
+entry_less : (id : List ℕ) (w : World) (gs : Groups) → IsLess gs (deleted_entry (w, gs) id).0.1
+entry_less id w gs = by (one.is_empty id) (has_members id gs) (has_committed id w.known.topics) (is_there id gs)
+  where
+    same : IsLess gs gs
+    same k = (omega arith, omega arith)
+
+    by : (a b c d : Bool) → IsLess gs (if a then (let r : (World × Groups) × ℤ = ((w, gs), code_of codes.InvalidGroupId) in r) else (if b then ((w, gs), code_of codes.NonEmptyGroup) else (if c then (all_deleted (w, gs) id, code_of codes.None) else (if d then ((w, deleted id gs), code_of codes.None) else ((w, gs), code_of codes.GroupIdNotFound))))).0.1
+    by true b c d = same
+    by false true c d = same
+    by false false true d = deleted_less id gs
+    by false false false true = deleted_less id gs
+    by false false false false = same
+
+turns_less : (ids : List (List ℕ)) (w : World) (gs : Groups) → IsLess gs (in_turn deleted_entry (w, gs) ids).0.1
+turns_less [] w gs k = (omega arith, omega arith)
+turns_less (id ∷ ids) w gs =
+    let s = (deleted_entry (w, gs) id).0 in
+    less_then gs s.1 (in_turn deleted_entry s ids).0.1 (entry_less id w gs) (turns_less ids s.0 s.1)
+
+less_served : (n : ℕ) (more : Bool) (gs new : Groups) → IsLess (silent gs) new → AreServed n more gs new
+less_served n more gs new less k = omega (arith, (less k).0, (less k).1)
+
+delete_told : (w : World) (n : ℕ) (gs : Groups) (r : DeleteGroupsRequest) → IsTold n gs (of_delete w gs r)
+delete_told w n gs r = less_served n false gs (of_delete w gs r).groups (turns_less r.group_ids w (silent gs))
+
+pub fewer_served : (n : ℕ) (more : Bool) (gs new : Groups) → AreFewer gs new → AreServed n more gs new
+fewer_served n more gs new fewer = less_served n more gs new (subst (λ (x : Groups). IsLess (silent gs) x) (sym fewer.1) (each_less fewer.0 (silent gs)))
+
 read_told : {A : Type 0} (w : World) (n : ℕ) (gs : Groups) (r : Result A WireFault) (f : A → Outcome) → ((a : A) → IsTold n gs (f a)) → IsTold n gs (if_read w gs r f)
 read_told w n gs (Ok a) f each = each a
 read_told w n gs (Err fault) f each = silent_served n false gs
@@ -146,6 +210,7 @@ pub served_told : (node : Node) (w : World) (clock : ℕ) (gs : Groups) (n : ℕ
 unfolding served
 served_told node w clock gs n key version body =
     let others : Outcome = of_topics gs (tenant.plainly_served node w clock n key version body) in
+    let deletes : Outcome = if_read w gs (within node.limits.request_entries delete_groups_entries (whole delete_groups_request body)) (of_delete w gs) in
     let lists : Outcome = if_read w gs (whole list_groups_request body) (of_list node.limits.reply_bytes w gs) in
     let describes : Outcome = if_read w gs (within node.limits.request_entries describe_groups_entries (whole describe_groups_request body)) (of_describe node.limits.reply_bytes w gs) in
     let syncs : Outcome = if_read w gs (whole sync_group_request body) (of_sync w clock n gs) in
@@ -153,7 +218,8 @@ served_told node w clock gs n key version body =
     let beats : Outcome = if_read w gs (whole heartbeat_request body) (of_heartbeat w clock gs) in
     let joins : Outcome = if_read w gs (whole join_group_request body) (of_join w clock n gs) in
     let commits : Outcome = if_read w gs (within node.limits.request_entries commit_entries (asked_commit version body)) (of_offset_commit node.limits w clock gs) in
-    let from_list : Outcome = if int_eq key LIST_GROUPS then lists else others in
+    let from_delete : Outcome = if int_eq key DELETE_GROUPS then deletes else others in
+    let from_list : Outcome = if int_eq key LIST_GROUPS then lists else from_delete in
     let from_describe : Outcome = if int_eq key DESCRIBE_GROUPS then describes else from_list in
     let from_sync : Outcome = if int_eq key SYNC_GROUP then syncs else from_describe in
     let from_leave : Outcome = if int_eq key LEAVE_GROUP then leaves else from_sync in
@@ -165,7 +231,8 @@ served_told node w clock gs n key version body =
     (either n gs (int_eq key LEAVE_GROUP) leaves from_sync (read_told w n gs (whole leave_group_request body) (of_leave w clock gs) (leave_told w clock n gs))
     (either n gs (int_eq key SYNC_GROUP) syncs from_describe (read_told w n gs (whole sync_group_request body) (of_sync w clock n gs) (sync_told w clock n gs))
     (either n gs (int_eq key DESCRIBE_GROUPS) describes from_list (read_told w n gs (within node.limits.request_entries describe_groups_entries (whole describe_groups_request body)) (of_describe node.limits.reply_bytes w gs) (λ r. silent_served n false gs))
-    (either n gs (int_eq key LIST_GROUPS) lists others (read_told w n gs (whole list_groups_request body) (of_list node.limits.reply_bytes w gs) (λ r. silent_served n false gs)) (silent_served n false gs)))))))
+    (either n gs (int_eq key LIST_GROUPS) lists from_delete (read_told w n gs (whole list_groups_request body) (of_list node.limits.reply_bytes w gs) (λ r. silent_served n false gs))
+    (either n gs (int_eq key DELETE_GROUPS) deletes others (read_told w n gs (within node.limits.request_entries delete_groups_entries (whole delete_groups_request body)) (of_delete w gs) (delete_told w n gs)) (silent_served n false gs))))))))
 
 -- 3. A moment, and a connection that is gone
 
@@ -199,7 +266,7 @@ left_none clock n [] = refl
 left_none clock n (e ∷ es) = omega (arith, left_none clock n es, dropped_none clock n e.group.members)
 
 -- whatever was refused to a request
-pub after_told : (node : Node) (w : World) (clock : ℕ) (gs : Groups) (n : ℕ) (key version : ℤ) (body : List ℕ) (answer : Answer) (new : Groups) → AreGroupsAfter gs (served node w clock gs n key version body).groups answer new → AreServed n true gs new
+pub after_told : (node : Node) (w : World) (clock : ℕ) (gs : Groups) (n : ℕ) (key version : ℤ) (body : List ℕ) (answer : Answer) (new : Groups) → AreGroupsAfter key gs (served node w clock gs n key version body).groups answer new → AreServed n true gs new
 after_told node w clock gs n key version body answer new (inl made) = λ k. subst (λ (x : Groups). members_on k x + replies_on k x ≤ members_on k gs + once (nat_eq n k && true)) (sym made)
     (by k (nat_eq n k) (rebalances (served node w clock gs n key version body).reaction) (served_told node w clock gs n key version body k))
   where
@@ -211,7 +278,8 @@ after_told node w clock gs n key version body answer new (inl made) = λ k. subs
         none : (a : Bool) → once (a && false) ≡ 0
         none true = refl
         none false = refl
-after_told node w clock gs n key version body answer new (inr stays) = subst (AreServed n true gs) (sym stays.0) (silent_served n true gs)
+after_told node w clock gs n key version body answer new (inr (inl stays)) = subst (AreServed n true gs) (sym stays.0) (silent_served n true gs)
+after_told node w clock gs n key version body answer new (inr (inr gone)) = fewer_served n true gs new gone.1
 
 -- a moment of the groups
 pub passed_told : (clock : ℕ) (old new : Groups) (refused : ℕ) → Ticks clock old.groups new.groups new.released refused → AreTicked old new
@@ -274,6 +342,10 @@ sync_waits_told n clock gs quiet new r answer is after says never =
     by true (Got bytes) h = refl
     by true Waits h = absurd (h refl)
     by false a h = refl
+
+-- groups that are deleted, whatever was refused
+pub fewer_waits : (n : ℕ) (gs new : Groups) → AreFewer gs new → members_on n new ≤ members_on n gs
+fewer_waits n gs new fewer = fewer_on n gs new (fewer_served n false gs new fewer)
 
 -- no group takes part
 pub quiet_waits : (n : ℕ) (gs new : Groups) → new ≡ silent gs → members_on n new ≤ members_on n gs

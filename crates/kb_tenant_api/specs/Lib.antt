@@ -1,4 +1,5 @@
 pub mod Acknowledged
+pub mod Deletions
 pub mod Hosted
 pub mod Replies
 pub mod Serve

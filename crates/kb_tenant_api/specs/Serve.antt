@@ -7,11 +7,12 @@ use Rattle.kb_wire.specs.declared.fault.ReadFault.{ReadFault}
 use Rattle.kb_wire.specs.declared.fault.ReadFault.TheVariants as faults
 use Rattle.kb_wire.specs.ErrorCode.{code_of}
 use Rattle.kb_wire.specs.declared.api_key.TheConstants.{OFFSET_COMMIT, JOIN_GROUP, HEARTBEAT, LEAVE_GROUP, SYNC_GROUP}
-use Rattle.kb_api_group.specs.declared.group_key.TheConstants.{DESCRIBE_GROUPS, LIST_GROUPS}
+use Rattle.kb_api_group.specs.declared.group_key.TheConstants.{DELETE_GROUPS, DESCRIBE_GROUPS, LIST_GROUPS}
 use Rattle.kb_api_group.specs.Layouts.{describe_groups_reply, describe_groups_request, list_groups_reply, list_groups_request}
 use Rattle.kb_api_group.specs.Layouts.{heartbeat_reply, heartbeat_request, join_group_request, leave_group_reply, leave_group_request}
-use Rattle.kb_api_group.specs.Layouts.{offset_commit_reply, sync_group_request}
+use Rattle.kb_api_group.specs.Layouts.{delete_groups_reply, delete_groups_request, offset_commit_reply, sync_group_request}
 use Rattle.kb_wire.specs.declared.error_code.ErrorCode.{ErrorCode}
+use Rattle.kb_api_group.specs.declared.delete_groups.DeleteGroupsRequest.{DeleteGroupsRequest}
 use Rattle.kb_api_group.specs.declared.describe_groups.DescribeGroupsRequest.{DescribeGroupsRequest}
 use Rattle.kb_api_group.specs.declared.heartbeat.HeartbeatRequest.{HeartbeatRequest}
 use Rattle.kb_api_group.specs.declared.join_group.JoinGroupRequest.{JoinGroupRequest}
@@ -29,12 +30,14 @@ use Rattle.kb_groups.specs.declared.reply.SyncAnswer.{SyncAnswer}
 use Rattle.kb_groups.specs.declared.reply.SyncAnswer.TheVariants as sync
 use Rattle.kb_tenant_state.specs.World.{World}
 use Rattle.kb_tenant_state.specs.declared.topic_partition.TopicPartition.{TopicPartition}
-use Rattle.kb_tenant.specs.Entries.{commit_entries, describe_groups_entries, within}
+use Rattle.kb_tenant.specs.Entries.{commit_entries, delete_groups_entries, describe_groups_entries, within}
 use Rattle.kb_tenant.specs.OffsetCommit.{asked_commit, committed_all}
 use Rattle.kb_tenant.specs.Replies.{Shuts}
 use Rattle.kb_tenant.specs.Serve as tenant
 use Rattle.kb_tenant.specs.declared.limits.DataLimits.{DataLimits}
 use Rattle.kb_tenant.specs.declared.node.Node.{Node}
+use Rattle.kb_tenant.specs.Turns.{in_turn}
+use Rattle.kb_tenant_api.specs.Deletions.{deleted_entry, deletions, AreFewer}
 use Rattle.kb_tenant_api.specs.Replies.{Reaction, Plain, Rebalances, IsAnswer, replies, short_replies}
 use Rattle.kb_tenant_api.specs.declared.answer.Answer.{Answer}
 use Rattle.kb_tenant_api.specs.declared.answer.Answer.TheVariants as answers
@@ -102,6 +105,14 @@ of_offset_commit limits w clock gs r =
       reaction = replies (offset_commit_reply.written c.1);
     }
 
+-- ---- DeleteGroups
+
+-- The groups are deleted in order.
+abbrev pub of_delete : World → Groups → DeleteGroupsRequest → Outcome
+of_delete w gs r =
+    let d = in_turn deleted_entry (w, silent gs) r.group_ids in
+    record { world = d.0.0; groups = d.0.1; touched = []; reaction = replies (delete_groups_reply.written (deletions d.1)) }
+
 -- ---- all
 
 -- a request that is for no group
@@ -127,6 +138,7 @@ served node w clock gs n key version body =
     else if int_eq key DESCRIBE_GROUPS then if_read w gs (within limit describe_groups_entries (whole describe_groups_request body))
     (of_describe node.limits.reply_bytes w gs)
     else if int_eq key LIST_GROUPS then if_read w gs (whole list_groups_request body) (of_list node.limits.reply_bytes w gs)
+    else if int_eq key DELETE_GROUPS then if_read w gs (within limit delete_groups_entries (whole delete_groups_request body)) (of_delete w gs)
     else of_topics gs (tenant.plainly_served node w clock n key version body)
 
 -- whether the last request or moment answered requests that waited
@@ -147,12 +159,18 @@ IsServed id o w gs touched (Err faults.Memory) = Unit {0}
 
 -- ---- where memory was refused
 
--- The groups are those that the request makes, or those of before without the last replies; and then the connection is shut.
-abbrev pub AreGroupsAfter : (old made : Groups) → Answer → Groups → Type 0
-AreGroupsAfter old made answer new = (new ≡ made) ⊎ ((new ≡ silent old) × (answer ≡ answers.Plain plain.Shut))
+-- The groups are those that the request makes, or those of before without the last replies; and then the connection is shut. Where groups
+-- are deleted some of these may be gone.
+abbrev pub AreGroupsAfter : (key : ℤ) → (old made : Groups) → Answer → Groups → Type 0
+AreGroupsAfter key old made answer new =
+    (new ≡ made) ⊎ (((new ≡ silent old) × (answer ≡ answers.Plain plain.Shut)) ⊎ ((key ≡ DELETE_GROUPS) × AreFewer old new))
 
 -- the same, where want of memory is a fault
 abbrev pub AreGroupsBy : (old made : Groups) → Result Answer ReadFault → Groups → Type 0
 AreGroupsBy old made (Ok answer) new = new ≡ made
 AreGroupsBy old made (Err (faults.Wire fault)) new = new ≡ made
 AreGroupsBy old made (Err faults.Memory) new = (new ≡ made) ⊎ (new ≡ silent old)
+
+-- the same of any request by its key
+abbrev pub AreGroupsOf : (key : ℤ) → (old made : Groups) → Result Answer ReadFault → Groups → Type 0
+AreGroupsOf key old made result new = AreGroupsBy old made result new ⊎ ((key ≡ DELETE_GROUPS) × AreFewer old new)

@@ -1,18 +1,19 @@
 //! A request of a tenant, by its key.
 ghost use Rattle.std.specs.Prelude.{◌≡◌, ◌≤◌, ◌^◌, [], IfOk, IsOk};
 ghost use Rattle.kb_wire.specs.Codec.{string};
-ghost use Rattle.kb_wire.specs.declared.api_key.TheConstants.{PRODUCE, OFFSET_COMMIT};
+ghost use Rattle.kb_wire.specs.declared.api_key.TheConstants.{PRODUCE};
 ghost use Rattle.kb_tenant_state.specs.Scene.{WhereHonest};
 ghost use Rattle.kb_tenant_state.specs.Parts.{scene};
 ghost use Rattle.kb_tenant_state.specs.Steps.{IsStep, Meets};
 ghost use Rattle.kb_tenant_state.specs.Told.{IsLogFull};
 ghost use Rattle.kb_tenant.specs.Told.{HasFailed, IsSpared};
-ghost use Rattle.kb_tenant_api.specs.Acknowledged.{IsOfMembers, IsPlainly, IsTruthful};
+ghost use Rattle.kb_tenant_api.specs.Acknowledged.{IsOfCommits, IsOfMembers, IsPlainly, IsTruthful};
 ghost use Rattle.kb_tenant_api.specs.Waiters.{IsWaitTold, IsWaitToldBy};
-ghost use Rattle.kb_tenant_api.specs.Serve.{has_released, served, AreGroupsAfter, AreGroupsBy, IsOutcome, IsServed};
+ghost use Rattle.kb_tenant_api.specs.Serve.{has_released, served, AreGroupsAfter, AreGroupsOf, IsOutcome, IsServed};
 
 use crate::answer::{Answer, Served};
 use crate::commits::commit_offsets;
+use crate::deletions::delete_groups;
 use crate::members::{heartbeat, join_group, leave_group, sync_group};
 use crate::replies::is_anyone_released;
 use crate::tools::{describe_groups, list_groups};
@@ -48,16 +49,16 @@ fn serve_by_key<L: PartitionLog + Drop, S: Store>(
     ensures told { let a = scene L.log S.disk parts.old shelf.old in let b = scene L.log S.disk parts.new shelf.new in
         IfOk result (λ answer. WhereHonest a b (IsTruthful (HasFailed a b) (IsLogFull b) node.now clock request.now.connection
         request.now.api_key request.now.api_version request.now.correlation_id request.now.body.now a.state.world groups.old b.state.world
-        touched.new.items answer)) }
+        groups.new touched.new.items answer)) }
     ensures spared { let a = scene L.log S.disk parts.old shelf.old in let b = scene L.log S.disk parts.new shelf.new in
         request.now.api_key ≡ PRODUCE
         → IfOk result (λ answer. IsPlainly (IsSpared request.now.api_version a.state.world request.now.body.now b.state.world) answer) }
-    ensures answered { (IsOfMembers request.now.api_key → ⊥) → (request.now.api_key ≡ OFFSET_COMMIT → ⊥) → IsOk result }
+    ensures answered { (IsOfMembers request.now.api_key → ⊥) → (IsOfCommits request.now.api_key → ⊥) → IsOk result }
     ensures stays { let a = scene L.log S.disk parts.old shelf.old in let b = scene L.log S.disk parts.new shelf.new in
         IsOfMembers request.now.api_key → b.state.world ≡ a.state.world }
     ensures groups { let a = scene L.log S.disk parts.old shelf.old in
-        AreGroupsBy groups.old (served node.now a.state.world clock groups.old request.now.connection request.now.api_key
-        request.now.api_version request.now.body.now).groups result groups.new }
+        AreGroupsOf request.now.api_key groups.old (served node.now a.state.world clock groups.old request.now.connection
+        request.now.api_key request.now.api_version request.now.body.now).groups result groups.new }
     ensures waits { IsWaitToldBy request.now.connection groups.old result groups.new }
 {
     let limits = node.limits;
@@ -71,6 +72,9 @@ fn serve_by_key<L: PartitionLog + Drop, S: Store>(
         api_key::SYNC_GROUP => sync_group(alloc, groups, clock, request),
         group_key::DESCRIBE_GROUPS => describe_groups(alloc, groups, limits, request),
         group_key::LIST_GROUPS => list_groups(alloc, groups, limits.reply_bytes, request),
+        group_key::DELETE_GROUPS => {
+            delete_groups(alloc, parts, groups, shelf, limits.request_entries, request)
+        }
         _ => {
             groups.silence();
             let served = kb_tenant::serve(alloc, parts, shelf, node, clock, request);
@@ -99,7 +103,7 @@ fn served_with(answer: Answer, touched: Vec<TopicPartition>, groups: &Coordinato
 /// A body that is not the API's, one that names more entries than the tenant's limit allows, a key that is not a tenant's and a reply
 /// that is too long shut the connection. So does want of memory for the read request, the reply or a wait, which is
 /// counted. Whatever was refused, and on any store, the groups are then those that the request makes, or those of before without the
-/// last replies. The host is to fit a STRING.
+/// last replies. Of those that are to be deleted some may be gone. The host is to fit a STRING.
 pub fn serve<L: PartitionLog + Drop, S: Store>(
     alloc: Global,
     parts: &mut Parts<L>,
@@ -122,14 +126,14 @@ pub fn serve<L: PartitionLog + Drop, S: Store>(
     ensures told { let a = scene L.log S.disk parts.old shelf.old in let b = scene L.log S.disk parts.new shelf.new in
         WhereHonest a b (IsTruthful (HasFailed a b) (IsLogFull b) node.now clock request.now.connection request.now.api_key
         request.now.api_version request.now.correlation_id request.now.body.now a.state.world groups.old b.state.world
-        result.touched.items result.answer) }
+        groups.new result.touched.items result.answer) }
     // A Produce whose connection is shut for want of memory has appended nothing, on any store.
     ensures spared { let a = scene L.log S.disk parts.old shelf.old in let b = scene L.log S.disk parts.new shelf.new in
         request.now.api_key ≡ PRODUCE
         → IsPlainly (IsSpared request.now.api_version a.state.world request.now.body.now b.state.world) result.answer }
     ensures groups { let a = scene L.log S.disk parts.old shelf.old in
-        AreGroupsAfter groups.old (served node.now a.state.world clock groups.old request.now.connection request.now.api_key
-        request.now.api_version request.now.body.now).groups result.answer groups.new }
+        AreGroupsAfter request.now.api_key groups.old (served node.now a.state.world clock groups.old request.now.connection
+        request.now.api_key request.now.api_version request.now.body.now).groups result.answer groups.new }
     ensures waits { IsWaitTold request.now.connection groups.old result.answer groups.new }
     ensures released { result.released ≡ has_released groups.new }
 {

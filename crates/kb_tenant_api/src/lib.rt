@@ -7,6 +7,7 @@
 
 mod answer;
 mod commits;
+mod deletions;
 mod dispatch;
 mod members;
 mod promises;

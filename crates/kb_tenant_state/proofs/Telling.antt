@@ -85,6 +85,13 @@ commit_own metadata (Some p) f is = by (nat_lt 4096 (length metadata)) is
     by true e = is_first IsOwn catalog.Metadata f tt e
     by false e = absurd cc
 
+pub group_own : (k : Known) (group : List ℕ) (f : CatalogFault) → delete_group_refusal k group ≡ Some f → IsOwn f
+group_own k group f is = by (has_committed group k.topics) is
+  where
+    by : (t : Bool) → (if t then None else Some catalog.Unknown) ≡ Some f → IsOwn f
+    by true e = absurd cc
+    by false e = is_first IsOwn catalog.Unknown f tt e
+
 -- ---- a refused call
 
 module _ {L T : Type 0} (log : L → Log) (old mid : Parts L) (later : Log) (d d' : Disk) (next next' : ℕ) (unless : Option CatalogFault → World × Result T CatalogFault) where

@@ -13,8 +13,8 @@ use Rattle.kb_log.specs.declared.time.OffsetAndTimestamp.{OffsetAndTimestamp}
 use Rattle.kb_topics.specs.ByName.{by_name}
 use Rattle.kb_topics.specs.Commands.{start_command}
 use Rattle.kb_topics.specs.Known.{Known, CommittedOffset, PartitionState, TopicState, new_topic, with_topic, without_topic, with_id}
-use Rattle.kb_topics.specs.Known.{with_commit, with_partition, named, topic_at, partition_at, committed_at, step}
-use Rattle.kb_topics.specs.Refusals.{commit_refusal, create_refusal, issue_refusal}
+use Rattle.kb_topics.specs.Known.{with_commit, with_partition, without_group, named, topic_at, partition_at, committed_at, step}
+use Rattle.kb_topics.specs.Refusals.{commit_refusal, create_refusal, delete_group_refusal, issue_refusal}
 use Rattle.kb_topics.specs.declared.config.TopicConfig.{TopicConfig}
 use Rattle.kb_topics.specs.declared.fault.CatalogFault.{CatalogFault}
 use Rattle.kb_topics.specs.declared.fault.CatalogFault.TheVariants as catalog
@@ -144,6 +144,14 @@ commit w place group offset metadata =
 -- what a group committed to a partition, if it did
 abbrev pub committed : World → TopicPartition → List ℕ → Option CommittedOffset
 committed w place group = option_and_then (committed_at group) (known_at w.known place)
+
+abbrev pub group_deleted_unless : World → List ℕ → Option CatalogFault → World × Result (Unit {0}) CatalogFault
+group_deleted_unless w group (Some f) = (w, Err f)
+group_deleted_unless w group None = (record w { known = without_group w.known group }, Ok tt)
+
+-- All that a group committed goes, to whatever partition.
+abbrev pub delete_group : World → List ℕ → World × Result (Unit {0}) CatalogFault
+delete_group w group = group_deleted_unless w group (delete_group_refusal w.known group)
 
 -- ---- deletion of records
 

@@ -74,7 +74,7 @@ IsCatalogFull log ts t = 2 ^ 63 ≤ commands_of log ts t + 1
 -- The answer to a request for a tenant, which came to what it kept and left what it keeps, is the truth, whatever was refused.
 abbrev pub IsTruthfulFor : Type 0 → Type 0 → Node → ℕ → ℕ → ℤ → ℤ → ℤ → List ℕ → Kept → Kept → List TopicPartition → AnyAnswer → Type 0
 IsTruthfulFor failed full node clock n key version id body k l touched answer =
-    IsTruthful failed full node clock n key version id body k.world k.groups l.world touched answer
+    IsTruthful failed full node clock n key version id body k.world k.groups l.world l.groups touched answer
 
 -- none of those tenants has a file of these parts
 abbrev pub IsApart : {L : Type 0} → (L → Log) → List (Parts L) → Parts L → Type 0

@@ -6,7 +6,7 @@ use Rattle.kb_topics.specs.declared.command.CreateTopic.{CreateTopic}
 use Rattle.kb_topics.specs.declared.command.CommitOffset.{CommitOffset}
 use Rattle.kb_topics.specs.declared.command.MoveStart.{MoveStart}
 use Rattle.kb_topics.specs.declared.command.BeginSnapshot.{BeginSnapshot}
-use Rattle.kb_topics.specs.declared.command.Command.TheVariants.{Create, Delete, Issue, Commit, Start, Snapshot, Topic}
+use Rattle.kb_topics.specs.declared.command.Command.TheVariants.{Create, Delete, Issue, Commit, Start, Snapshot, Topic, DeleteGroup}
 use Rattle.kb_topics.specs.Layouts.{command_codec, create_topic, commit_offset, move_start, begin_snapshot}
 
 pub create_fits : (c : CreateTopic) → length c.name < 2 ^ 15 → command_codec.Fits (Create c)
@@ -16,6 +16,10 @@ create_fits c lt = (tt, (string_fits c.name lt, (tt, (tt, (tt, tt)))))
 pub delete_fits : (name : List ℕ) → length name < 2 ^ 15 → command_codec.Fits (Delete name)
 unfolding command_codec int
 delete_fits name lt = (tt, string_fits name lt)
+
+pub delete_group_fits : (group : List ℕ) → length group < 2 ^ 15 → command_codec.Fits (DeleteGroup group)
+unfolding command_codec int
+delete_group_fits group lt = (tt, string_fits group lt)
 
 pub issue_fits : (id : ℤ) → command_codec.Fits (Issue id)
 unfolding command_codec int

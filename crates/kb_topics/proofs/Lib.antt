@@ -1,6 +1,7 @@
 pub mod Appending
 pub mod CommandFits
 pub mod Commits
+pub mod Groups
 pub mod InOrder
 pub mod Committing
 pub mod KindWritten

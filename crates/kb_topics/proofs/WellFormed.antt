@@ -16,16 +16,17 @@ use Rattle.kb_topics.specs.declared.command.CreateTopic.{CreateTopic}
 use Rattle.kb_topics.specs.declared.command.CommitOffset.{CommitOffset}
 use Rattle.kb_topics.specs.declared.command.BeginSnapshot.{BeginSnapshot}
 use Rattle.kb_topics.specs.declared.command.Command.{Command}
-use Rattle.kb_topics.specs.declared.command.Command.TheVariants.{Create, Delete, Issue, Commit, Start, Snapshot, Topic}
+use Rattle.kb_topics.specs.declared.command.Command.TheVariants.{Create, Delete, Issue, Commit, Start, Snapshot, Topic, DeleteGroup}
 use Rattle.kb_topics.specs.declared.stage.Stage.{Stage}
 use Rattle.kb_topics.specs.declared.stage.Stage.TheVariants.{Fresh, Left}
 use Rattle.kb_topics.specs.Layouts.{command_codec, begin_snapshot, commit_offset}
 use Rattle.kb_topics.specs.Lawful.{command_lawful}
 use Rattle.kb_topics.specs.Name.{is_legal}
-use Rattle.kb_topics.specs.Known.{Known, CommittedOffset, PartitionState, TopicState, topic_at, named, partition_at, new_partition, new_topic, with_topic, without_topic, with_id, with_part, put_topic, with_partition, with_start, with_commit, is_left, is_limit, is_partition_count, may_create, config_in, offset_in, step}
+use Rattle.kb_topics.specs.Known.{Known, CommittedOffset, PartitionState, TopicState, topic_at, named, partition_at, new_partition, new_topic, with_topic, without_topic, with_id, with_part, put_topic, has_committed, with_partition, with_start, with_commit, is_left, is_limit, is_partition_count, may_create, config_in, offset_in, step, without_group}
 use Rattle.kb_topics.specs.Reading.{Reading, begun, first_step, in_use, is_free, is_snapshot, load, loading, may_hold, read_all, read_step, starting_at, step_in, with_topic_at}
 use Rattle.kb_topics.specs.MetaLog.{Says, SayEach, IsFoldOf}
 use Rattle.kb_topics.specs.WellFormed.{AreTopics, IsPartition, IsTopic, IsWellFormed}
+use Rattle.kb_topics.proofs.Groups.{well_formed_less}
 use Rattle.kb_topics.proofs.OwnNames.{apart_inserted, apart_put, apart_removed}
 use Rattle.kb_topics.proofs.Replaying.{held_free}
 use Rattle.kb_topics.proofs.Sorted.{sorted_put, sorted_left, keys_set, both_put, both_left, both_set, both_found, put_long, left_long, set_long, all_replicate, all_set, all_get}
@@ -220,6 +221,10 @@ issued k true true left is = record {
   issues = below_end k.issues left;
 }
 
+group_deleted : (k : Known) (group : List ℕ) (b : Bool) → IsWellFormed k → WellBy (cond b (Some (without_group k group)) None)
+group_deleted k group true is = well_formed_less k group is
+group_deleted k group false is = tt
+
 commit_is : (p : PartitionState) (group : List ℕ) (c : CommittedOffset) → IsPartition p → length group < 2 ^ 15 → length c.metadata ≤ 4096 → IsPartition (with_commit p group c)
 commit_is p group c is short few = record {
   start = is.start;
@@ -278,6 +283,7 @@ stepped k (Delete name) fits is = deleted k (named name k.topics) is
 stepped k (Issue id) fits is = issued k (int_eq id (pos k.issues)) (is_left k.issues) refl is
 stepped k (Commit c) fits is = committed k c (nat_le (length c.metadata) 4096) refl is (group_fits c fits)
 stepped k (Start s) fits is = moved k s.instance s.partition s.offset (partition_at k s.instance s.partition) refl is
+stepped k (DeleteGroup group) fits is = group_deleted k group (has_committed group k.topics) is
 stepped k (Snapshot s) fits is = tt
 stepped k (Topic c) fits is = tt
 
@@ -289,6 +295,7 @@ loaded k (Create c) fits is = tt
 loaded k (Delete name) fits is = tt
 loaded k (Issue id) fits is = tt
 loaded k (Snapshot s) fits is = tt
+loaded k (DeleteGroup group) fits is = tt
 
 abbrev ReadBy : Option Reading → Type 0
 ReadBy None = Unit {0}
@@ -314,6 +321,7 @@ first (Issue id) range = tt
 first (Commit c) range = tt
 first (Start s) range = tt
 first (Topic c) range = tt
+first (DeleteGroup group) range = tt
 
 read_by : (k : Known) (stage : Stage) (c : Command) → command_codec.Fits c → command_codec.InRange c → IsWellFormed k → ReadBy (step_in k stage c)
 read_by k Fresh c fits range is = first c range

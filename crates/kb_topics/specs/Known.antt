@@ -1,6 +1,7 @@
 -- What the commands of a meta log come to, one after another.
 use Rattle.std.specs.Prelude.{ℕ, ◌+◌, ◌-◌, ◌^◌, ℤ, pos, negsuc, Bool, List, [], ◌∷◌, length, replicate, Option, Some, None, is_none, nat_le, nat_lt}
-use Rattle.std.specs.Prelude.{int_le, ◌&&◌, if◌then◌else◌, slice_get, slice_set}
+use Rattle.std.specs.Prelude.{int_le, ◌&&◌, if◌then◌else◌, slice_get, slice_set, map, is_some}
+use Rattle.std.specs.List.{list_any}
 use Rattle.std.specs.Option.{option_map, option_and_then}
 use Rattle.std.specs.Ordering.{nat_cmp, int_eq}
 use Rattle.std.specs.Cmp.Lexicographic.{slice_cmp}
@@ -13,7 +14,7 @@ use Rattle.kb_topics.specs.declared.config.TopicConfig.{TopicConfig}
 use Rattle.kb_topics.specs.declared.command.CreateTopic.{CreateTopic}
 use Rattle.kb_topics.specs.declared.command.CommitOffset.{CommitOffset}
 use Rattle.kb_topics.specs.declared.command.Command.{Command}
-use Rattle.kb_topics.specs.declared.command.Command.TheVariants.{Create, Delete, Issue, Commit, Start, Snapshot, Topic}
+use Rattle.kb_topics.specs.declared.command.Command.TheVariants.{Create, Delete, Issue, Commit, Start, Snapshot, Topic, DeleteGroup}
 
 -- how far a group has processed a partition
 pub record CommittedOffset : Type 0 where
@@ -60,6 +61,14 @@ partition_at k (negsuc i) p = None
 abbrev pub committed_at : List ℕ → PartitionState → Option CommittedOffset
 committed_at group p = lookup (is_at (slice_cmp nat_cmp group)) p.commits
 
+-- whether a group committed an offset to one of these partitions
+abbrev pub has_committed_to : List ℕ → List PartitionState → Bool
+has_committed_to group ps = list_any (λ p. is_some (committed_at group p)) ps
+
+-- whether a group committed an offset to a partition of one of these topics
+abbrev pub has_committed : List ℕ → List (ℕ × TopicState) → Bool
+has_committed group ts = list_any (λ e. has_committed_to group e.1.partitions) ts
+
 -- ---- what changes
 
 -- a partition when its topic is made
@@ -104,6 +113,17 @@ abbrev pub with_former : PartitionState → List ℕ → Option CommittedOffset 
 with_former p group None = record p { commits = remove_entry (is_at (slice_cmp nat_cmp group)) p.commits }
 with_former p group (Some c) = record p { commits = set_value (is_at (slice_cmp nat_cmp group)) p.commits c }
 
+-- without what a group committed
+abbrev pub without_commit : List ℕ → PartitionState → PartitionState
+without_commit group p = record p { commits = remove_entry (is_at (slice_cmp nat_cmp group)) p.commits }
+
+abbrev pub without_commits : List ℕ → TopicState → TopicState
+without_commits group t = record t { partitions = map (without_commit group) t.partitions }
+
+-- without all that a group committed, to whatever partition
+abbrev pub without_group : Known → List ℕ → Known
+without_group k group = record k { topics = map (λ e. (e.0, without_commits group e.1)) k.topics }
+
 -- ---- commands
 
 -- at least -1
@@ -142,5 +162,6 @@ step k (Commit c) =
 step k (Start s) =
     option_and_then (λ p. if int_le p.start s.offset then Some (with_partition k s.instance s.partition (with_start p s.offset))
     else None) (partition_at k s.instance s.partition)
+step k (DeleteGroup group) = if has_committed group k.topics then Some (without_group k group) else None
 step k (Snapshot s) = None
 step k (Topic c) = None

@@ -6,9 +6,9 @@ use Rattle.kb_wire.specs.Codec.{Codec, int8}
 use Rattle.kb_wire.specs.Laws.{IsLawful, int8_lawful, int32_lawful, int64_lawful, string_lawful, pair_lawful, via_lawful, bind_ok, map_err}
 use Rattle.kb_wire.specs.Laws.{ok_is, bad_then, ends_then}
 use Rattle.kb_topics.specs.declared.command.Command.{Command}
-use Rattle.kb_topics.specs.declared.command.Command.TheVariants.{Create, Delete, Issue, Commit, Start, Snapshot, Topic}
+use Rattle.kb_topics.specs.declared.command.Command.TheVariants.{Create, Delete, Issue, Commit, Start, Snapshot, Topic, DeleteGroup}
 use Rattle.kb_topics.specs.Layouts.{create_topic, commit_offset, move_start, begin_snapshot, within, nowhere, kinded, created, deleted}
-use Rattle.kb_topics.specs.Layouts.{issued, committed, started, snapshotted, held, kind_of, of_kind, command_codec, written_back, FitsBack, InRangeBack}
+use Rattle.kb_topics.specs.Layouts.{issued, committed, started, snapshotted, held, group_deleted, kind_of, of_kind, command_codec, written_back, FitsBack, InRangeBack}
 
 pub create_topic_lawful : IsLawful create_topic
 unfolding create_topic
@@ -95,6 +95,7 @@ created_only (Commit commit) a e = absurd cc
 created_only (Start start) a e = absurd cc
 created_only (Snapshot snapshot) a e = absurd cc
 created_only (Topic topic) a e = absurd cc
+created_only (DeleteGroup group) a e = absurd cc
 
 deleted_only : (v : Command) (a : _) → deleted v ≡ Some a → Delete a ≡ v
 deleted_only (Create topic) a e = absurd cc
@@ -104,6 +105,7 @@ deleted_only (Commit commit) a e = absurd cc
 deleted_only (Start start) a e = absurd cc
 deleted_only (Snapshot snapshot) a e = absurd cc
 deleted_only (Topic topic) a e = absurd cc
+deleted_only (DeleteGroup group) a e = absurd cc
 
 issued_only : (v : Command) (a : _) → issued v ≡ Some a → Issue a ≡ v
 issued_only (Create topic) a e = absurd cc
@@ -113,6 +115,7 @@ issued_only (Commit commit) a e = absurd cc
 issued_only (Start start) a e = absurd cc
 issued_only (Snapshot snapshot) a e = absurd cc
 issued_only (Topic topic) a e = absurd cc
+issued_only (DeleteGroup group) a e = absurd cc
 
 committed_only : (v : Command) (a : _) → committed v ≡ Some a → Commit a ≡ v
 committed_only (Create topic) a e = absurd cc
@@ -122,6 +125,7 @@ committed_only (Commit commit) a e = cc
 committed_only (Start start) a e = absurd cc
 committed_only (Snapshot snapshot) a e = absurd cc
 committed_only (Topic topic) a e = absurd cc
+committed_only (DeleteGroup group) a e = absurd cc
 
 started_only : (v : Command) (a : _) → started v ≡ Some a → Start a ≡ v
 started_only (Create topic) a e = absurd cc
@@ -131,6 +135,7 @@ started_only (Commit commit) a e = absurd cc
 started_only (Start start) a e = cc
 started_only (Snapshot snapshot) a e = absurd cc
 started_only (Topic topic) a e = absurd cc
+started_only (DeleteGroup group) a e = absurd cc
 
 snapshotted_only : (v : Command) (a : _) → snapshotted v ≡ Some a → Snapshot a ≡ v
 snapshotted_only (Create topic) a e = absurd cc
@@ -140,6 +145,7 @@ snapshotted_only (Commit commit) a e = absurd cc
 snapshotted_only (Start start) a e = absurd cc
 snapshotted_only (Snapshot snapshot) a e = cc
 snapshotted_only (Topic topic) a e = absurd cc
+snapshotted_only (DeleteGroup group) a e = absurd cc
 
 held_only : (v : Command) (a : _) → held v ≡ Some a → Topic a ≡ v
 held_only (Create topic) a e = absurd cc
@@ -149,6 +155,17 @@ held_only (Commit commit) a e = absurd cc
 held_only (Start start) a e = absurd cc
 held_only (Snapshot snapshot) a e = absurd cc
 held_only (Topic topic) a e = cc
+held_only (DeleteGroup group) a e = absurd cc
+
+group_deleted_only : (v : Command) (a : _) → group_deleted v ≡ Some a → DeleteGroup a ≡ v
+group_deleted_only (Create topic) a e = absurd cc
+group_deleted_only (Delete name) a e = absurd cc
+group_deleted_only (Issue id) a e = absurd cc
+group_deleted_only (Commit commit) a e = absurd cc
+group_deleted_only (Start start) a e = absurd cc
+group_deleted_only (Snapshot snapshot) a e = absurd cc
+group_deleted_only (Topic topic) a e = absurd cc
+group_deleted_only (DeleteGroup group) a e = cc
 
 of_kind_lawful : (k : ℤ) → IsLawful (of_kind k)
 of_kind_lawful (pos zero) = nowhere_lawful
@@ -160,7 +177,9 @@ of_kind_lawful (pos (suc (suc (suc (suc (suc zero)))))) = within_lawful Start st
 of_kind_lawful (pos (suc (suc (suc (suc (suc (suc zero))))))) =
     within_lawful Snapshot snapshotted begin_snapshot_lawful (λ _. refl) snapshotted_only
 of_kind_lawful (pos (suc (suc (suc (suc (suc (suc (suc zero)))))))) = within_lawful Topic held create_topic_lawful (λ _. refl) held_only
-of_kind_lawful (pos (suc (suc (suc (suc (suc (suc (suc (suc n))))))))) = nowhere_lawful
+of_kind_lawful (pos (suc (suc (suc (suc (suc (suc (suc (suc zero))))))))) =
+    within_lawful DeleteGroup group_deleted string_lawful (λ _. refl) group_deleted_only
+of_kind_lawful (pos (suc (suc (suc (suc (suc (suc (suc (suc (suc n)))))))))) = nowhere_lawful
 of_kind_lawful (negsuc n) = nowhere_lawful
 
 own_kind : (k : ℤ) (x : List ℕ) (v : Command) → (of_kind k).Spells x v → kind_of v ≡ k
@@ -172,7 +191,8 @@ own_kind (pos (suc (suc (suc (suc zero))))) x v h = ap kind_of (sym (committed_o
 own_kind (pos (suc (suc (suc (suc (suc zero)))))) x v h = ap kind_of (sym (started_only v h.0 h.1))
 own_kind (pos (suc (suc (suc (suc (suc (suc zero))))))) x v h = ap kind_of (sym (snapshotted_only v h.0 h.1))
 own_kind (pos (suc (suc (suc (suc (suc (suc (suc zero)))))))) x v h = ap kind_of (sym (held_only v h.0 h.1))
-own_kind (pos (suc (suc (suc (suc (suc (suc (suc (suc n))))))))) x v h = absurd h
+own_kind (pos (suc (suc (suc (suc (suc (suc (suc (suc zero))))))))) x v h = ap kind_of (sym (group_deleted_only v h.0 h.1))
+own_kind (pos (suc (suc (suc (suc (suc (suc (suc (suc (suc n)))))))))) x v h = absurd h
 own_kind (negsuc n) x v h = absurd h
 
 pub command_lawful : IsLawful command_codec

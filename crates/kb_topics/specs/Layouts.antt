@@ -7,7 +7,7 @@ use Rattle.kb_topics.specs.declared.command.CommitOffset.{CommitOffset}
 use Rattle.kb_topics.specs.declared.command.MoveStart.{MoveStart}
 use Rattle.kb_topics.specs.declared.command.BeginSnapshot.{BeginSnapshot}
 use Rattle.kb_topics.specs.declared.command.Command.{Command}
-use Rattle.kb_topics.specs.declared.command.Command.TheVariants.{Create, Delete, Issue, Commit, Start, Snapshot, Topic}
+use Rattle.kb_topics.specs.declared.command.Command.TheVariants.{Create, Delete, Issue, Commit, Start, Snapshot, Topic, DeleteGroup}
 
 unfoldable pub create_topic : Codec CreateTopic
 create_topic = via (λ p. record {
@@ -105,6 +105,10 @@ abbrev pub held : Command → Option CreateTopic
 held (Topic topic) = Some topic
 held _ = None
 
+abbrev pub group_deleted : Command → Option (List ℕ)
+group_deleted (DeleteGroup group) = Some group
+group_deleted _ = None
+
 abbrev pub kind_of : Command → ℤ
 kind_of (Create topic) = pos 1
 kind_of (Delete name) = pos 2
@@ -113,6 +117,7 @@ kind_of (Commit commit) = pos 4
 kind_of (Start start) = pos 5
 kind_of (Snapshot snapshot) = pos 6
 kind_of (Topic topic) = pos 7
+kind_of (DeleteGroup group) = pos 8
 
 -- the fields of each kind
 abbrev pub of_kind : ℤ → Codec Command
@@ -123,6 +128,7 @@ of_kind (pos (suc (suc (suc (suc zero))))) = within Commit committed commit_offs
 of_kind (pos (suc (suc (suc (suc (suc zero)))))) = within Start started move_start
 of_kind (pos (suc (suc (suc (suc (suc (suc zero))))))) = within Snapshot snapshotted begin_snapshot
 of_kind (pos (suc (suc (suc (suc (suc (suc (suc zero)))))))) = within Topic held create_topic
+of_kind (pos (suc (suc (suc (suc (suc (suc (suc (suc zero))))))))) = within DeleteGroup group_deleted string
 of_kind _ = nowhere
 
 unfoldable pub command_codec : Codec Command

@@ -4,7 +4,7 @@ use Rattle.kb_topics.specs.declared.config.TopicConfig.{TopicConfig}
 use Rattle.kb_topics.specs.declared.fault.CatalogFault.{CatalogFault}
 use Rattle.kb_topics.specs.declared.fault.CatalogFault.TheVariants as faults
 use Rattle.kb_topics.specs.Name.{is_legal}
-use Rattle.kb_topics.specs.Known.{Known, PartitionState, named, is_limit, is_partition_count}
+use Rattle.kb_topics.specs.Known.{Known, PartitionState, has_committed, named, is_limit, is_partition_count}
 
 -- a legal and new name, 1 to 64 partitions, limits from -1 on, fewer than 1,000 topics, and an instance that is left
 abbrev pub create_refusal : Known → List ℕ → ℤ → TopicConfig → Option CatalogFault
@@ -20,6 +20,10 @@ create_refusal k name partitions config =
 abbrev pub delete_refusal : Option ℕ → Option CatalogFault
 delete_refusal None = Some faults.Unknown
 delete_refusal (Some i) = None
+
+-- the group committed something
+abbrev pub delete_group_refusal : Known → List ℕ → Option CatalogFault
+delete_group_refusal k group = if has_committed group k.topics then None else Some faults.Unknown
 
 -- fewer than 2^63 - 1 ids were given out
 abbrev pub issue_refusal : Known → Option CatalogFault

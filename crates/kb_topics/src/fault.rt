@@ -24,8 +24,8 @@ pub enum CatalogFault {
     /// 1,000 topics are there.
     #[error("there are too many topics")]
     TooMany,
-    /// No topic of that name or instance is there, or it has no such partition.
-    #[error("the topic or partition is unknown")]
+    /// No topic of that name or instance is there, or it has no such partition; or the group committed nothing.
+    #[error("the topic, partition or group is unknown")]
     Unknown,
     /// The metadata has more than 4,096 bytes.
     #[error("the metadata is too large")]

@@ -1,10 +1,10 @@
 //! A topic of the catalog, its partitions, and what groups committed to them.
-ghost use Rattle.std.specs.Prelude.{◌≡◌, ◌<◌, pos, length, slice_index_or, replicate, OnOk, OnErr, IfOk};
+ghost use Rattle.std.specs.Prelude.{◌≡◌, ◌<◌, pos, length, map, slice_index_or, replicate, OnOk, OnErr, IfOk};
 ghost use Rattle.std.specs.Option.{option_copied};
 ghost use Rattle.std.specs.String.{string_bytes};
 ghost use Rattle.std.proofs.lemmas.Map.Lookups.{map_keys};
 ghost use Rattle.kb_topics.specs.Known.{CommittedOffset, PartitionState, TopicState, new_partition, new_topic, committed_at, with_part};
-ghost use Rattle.kb_topics.specs.Known.{with_start, with_commit, with_former};
+ghost use Rattle.kb_topics.specs.Known.{has_committed_to, with_start, with_commit, with_former, without_commit, without_commits};
 
 use crate::config::TopicConfig;
 use std::alloc::{AllocError, Global};
@@ -130,6 +130,13 @@ impl Partition {
         *committed = former;
     }
 
+    /// Takes out what a group committed. It takes no memory.
+    fn delete_group(&mut self, group: &str)
+        ensures { self.new ≡ without_commit group.now self.old }
+    {
+        self.commits.remove(group);
+    }
+
     fn set_start(&mut self, offset: i64)
         ensures { self.new ≡ with_start self.old offset }
     {
@@ -218,11 +225,39 @@ impl Topic {
         self.partitions[place].take_commit_back(group, former);
     }
 
+    /// Whether a group committed an offset to one of its partitions.
+    pub(crate) fn has_committed(&self, group: &str) -> bool
+        ensures { result ≡ has_committed_to group.now self.now.partitions }
+    {
+        for partition in self.partitions() {
+            if partition.committed(group).is_some() {
+                return true;
+            }
+        }
+        false
+    }
+
+    /// Takes out what a group committed to its partitions. It takes no memory.
+    pub(crate) fn delete_group(&mut self, group: &str)
+        ensures { self.new ≡ without_commits group.now self.old }
+    {
+        delete_group_from(&mut self.partitions, group);
+    }
+
     pub(crate) fn set_start(&mut self, place: usize, offset: i64)
         requires { place < length self.old.partitions }
         ensures { self.new ≡ with_part place (with_start (slice_index_or self.old.partitions place new_partition) offset) self.old }
     {
         self.partitions[place].set_start(offset);
+    }
+}
+
+/// Takes out what a group committed to these partitions.
+fn delete_group_from(partitions: &mut Vec<Partition>, group: &str)
+    ensures { partitions.new.items ≡ map (without_commit group.now) partitions.old.items }
+{
+    for i in 0..partitions.len() {
+        partitions[i].delete_group(group);
     }
 }
 

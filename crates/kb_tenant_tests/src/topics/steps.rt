@@ -23,6 +23,8 @@ pub(super) enum Step<'a> {
     Start(i64, i32, i64),
     /// A group commits an offset in a partition, with metadata.
     Commit(&'a str, i64, i32, i64, &'a str),
+    /// All that a group committed is deleted, and none is left to delete.
+    DeleteGroup(&'a str),
 }
 
 fn empty_catalog(alloc: Global) -> Catalog<ListLog>
@@ -90,6 +92,9 @@ impl Kept {
             ) == Ok(()),
             Step::Commit(group, instance, number, offset, metadata) => group.len() < 300
                 && catalog.commit(shelf, group, *instance, *number, *offset, metadata) == Ok(()),
+            Step::DeleteGroup(group) => group.len() < 300
+                && catalog.delete_group(shelf, group) == Ok(())
+                && catalog.delete_group(shelf, group).is_err(),
         }
     }
 

@@ -3,19 +3,20 @@ use Rattle.kb_tenant_state.specs.Parts.{scene, world_of}
 use Rattle.kb_tenant_state.specs.Steps.{IsStep}
 use Rattle.kb_tenant_state.proofs.Lifted.{refused_step}
 use Rattle.kb_tenant_api.proofs.Answered.{shut_told, told_on}
+use Rattle.kb_tenant_api.proofs.Deleting.{answered_groups, fault_groups, refused_groups}
 use Rattle.kb_tenant_api.proofs.dispatch.serve.Goals as goal
 
 pub returns-in-Ok-clause-told : goal.returns-in-Ok-clause-told
 returns-in-Ok-clause-told g c = λ honest agree.
-    told_on _ _ _ _ _ _ _ _ _ _ _ _ _ _ _ _ (ap (λ x. x.items) c.served_with.ensures.touched) c.served_with.ensures.answer (c.in-Ok.ensures.told honest agree)
+    told_on _ _ _ _ _ _ _ _ _ _ _ _ _ _ _ _ _ (ap (λ x. x.items) c.served_with.ensures.touched) c.served_with.ensures.answer (c.in-Ok.ensures.told honest agree)
 
 pub returns-in-Err-Wire-clause-told : goal.returns-in-Err-Wire-clause-told
 returns-in-Err-Wire-clause-told g c = λ honest agree.
-    shut_told _ _ _ _ _ _ _ _ _ _ _ _ _ _ c.in-Err-Wire.ensures.answered c.in-Err-Wire.ensures.stays c.served_with-in-Err-Wire.ensures.answer
+    shut_told _ _ _ _ _ _ _ _ _ _ _ _ _ _ _ c.in-Err-Wire.ensures.answered c.in-Err-Wire.ensures.stays c.served_with-in-Err-Wire.ensures.answer
 
 pub returns-in-Err-Memory-clause-told : goal.returns-in-Err-Memory-clause-told
 returns-in-Err-Memory-clause-told g c = λ honest agree.
-    shut_told _ _ _ _ _ _ _ _ _ _ _ _ _ _ c.in-Err-Memory.ensures.answered
+    shut_told _ _ _ _ _ _ _ _ _ _ _ _ _ _ _ c.in-Err-Memory.ensures.answered
     (λ member. ap (λ p. world_of g.L.PartitionLog.log p (g.S.Store.disk c.serve_by_key.new.shelf.store).files) c.refuse.ensures ∙ c.in-Err-Memory.ensures.stays member)
     c.served_with-in-Err-Memory.ensures.answer
 
@@ -27,3 +28,12 @@ returns-in-Err-Memory-clause-step g c =
     let after = c.serve_by_key.new.shelf in
     subst (λ p. IsStep a (scene log disk p after)) (sym c.refuse.ensures)
     (refused_step log a c.serve_by_key.new.parts (disk after.store) after.next c.in-Err-Memory.ensures.step)
+
+pub returns-in-Ok-clause-groups : goal.returns-in-Ok-clause-groups
+returns-in-Ok-clause-groups g c = answered_groups _ _ _ _ _ _ c.served_with.ensures.answer c.in-Ok.ensures.groups
+
+pub returns-in-Err-Wire-clause-groups : goal.returns-in-Err-Wire-clause-groups
+returns-in-Err-Wire-clause-groups g c = fault_groups _ _ _ _ _ _ c.in-Err-Wire.ensures.groups
+
+pub returns-in-Err-Memory-clause-groups : goal.returns-in-Err-Memory-clause-groups
+returns-in-Err-Memory-clause-groups g c = refused_groups _ _ _ _ _ c.served_with-in-Err-Memory.ensures.answer c.in-Err-Memory.ensures.groups

@@ -91,7 +91,7 @@ returns-clause-groups g c =
     c.requires.tenant c.index_mut-one.ensures.value c.requires.invariant c.serve-served.new.parts c.count.new.parts
     (min (c.refusals-before.result + (c.failures.result - c.failures-failures.result)) END) c.serve-served.new.groups
     c.add_store.new.self c.serve-served.new.shelf c.count.ensures (called c.serve-served.ensures.step)
-    (λ n k l. AreGroupsAfter k.groups (served c.args.node.now k.world c.args.clock k.groups r.connection r.api_key r.api_version
+    (λ n k l. AreGroupsAfter r.api_key k.groups (served c.args.node.now k.world c.args.clock k.groups r.connection r.api_key r.api_version
     r.body.now).groups c.serve-served.result.answer l.groups)
     (λ honest agree. c.serve-served.ensures.groups)
 

@@ -165,6 +165,7 @@ impl Coordinator {
         ensures all { result ≡ 0 → self.new ≡ at_moment clock self.old }
         ensures groups { Ticks clock self.old.groups self.new.groups self.new.released result }
         ensures members { self.new.members ≡ self.old.members }
+        ensures limits { self.new.limits ≡ self.old.limits }
     {
         self.released.clear();
         if clock < self.quiet_until {
@@ -193,6 +194,7 @@ impl Coordinator {
         ensures all { IfSome result (λ refused. refused ≡ 0 → self.new ≡ passed clock self.old) }
         ensures groups { IfSome result (λ refused. Ticks clock self.old.groups self.new.groups self.new.released refused) }
         ensures members { self.new.members ≡ self.old.members }
+        ensures limits { self.new.limits ≡ self.old.limits }
     {
         if clock < self.quiet_until {
             return None;

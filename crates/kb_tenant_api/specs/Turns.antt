@@ -2,7 +2,12 @@
 use Rattle.std.specs.Prelude.{◌≡◌, ◌≤◌, ◌+◌, ◌⊎◌, ◌==◌, ◌&&◌, ℕ, zero, suc, List, [], ◌∷◌, Bool, true, if◌then◌else◌}
 use Rattle.std.specs.List.{sum_by}
 use Rattle.std.specs.Str.{bytes_eq}
+use Rattle.kb_coordinator.specs.Calls as groups
+use Rattle.kb_coordinator.specs.Groups.{Groups}
+use Rattle.kb_tenant_state.specs.Calls.{all_places}
 use Rattle.kb_tenant_state.specs.Counts.{END, IsCalm}
+use Rattle.kb_tenant_state.specs.Retained.{some_retained}
+use Rattle.kb_tenant_state.specs.World.{World}
 use Rattle.kb_tenant_api.specs.Waiters.{AreTicked}
 use Rattle.kb_tenant_api.specs.Hosted.{TenantState, passed, refusals_of, Kept, kept_of, names_of}
 
@@ -27,12 +32,30 @@ IsMet t honest old new P = honest → IsCalm (refusals_of old t) (refusals_of ne
 
 -- ---- a moment of all of them
 
--- Names stay, and counts only rise; and on an honest store each to which nothing was refused keeps what a moment leaves at that time, and
--- of each, whatever was refused, no member more waits on any connection, nor one who was answered.
+-- Some groups after a moment, whatever memory was refused: all had it, if anything was due. Or each had it, and those who waited are told
+-- what these give; or it is as it was.
+abbrev pub PassGroups : ℕ → Groups → Groups → Type 0
+PassGroups clock old new = (new ≡ groups.passed clock old)
+    ⊎ ((refused : ℕ) × groups.Ticks clock old.groups new.groups new.released refused
+    × (new.members ≡ old.members) × (new.limits ≡ old.limits))
+
+-- Some topics after it: the partitions in turn, by topic name and number, had their part of retention, or are as they were.
+abbrev pub PassTopics : ℕ → World → World → Type 0
+PassTopics clock old new = (marks : List Bool) × (new ≡ (some_retained clock marks (all_places old) old).0)
+
+-- What a tenant keeps after a moment, whatever was refused: each of its groups and of its partitions had its part of it, or is as it was.
+pub record PassesPartly (clock : ℕ) (old new : Kept) : Type 0 where
+  pub topics : PassTopics clock old.world new.world
+  pub groups : PassGroups clock old.groups new.groups
+
+-- Names stay, and counts only rise; and on an honest store each to which nothing was refused keeps what a moment leaves at that time. Of
+-- each, whatever was refused, each group and each partition had its part of the moment or is as it was; and no member more waits on any
+-- connection, nor one who was answered.
 pub record HavePassed (clock : ℕ) (honest : Type 0) (old new : List TenantState) : Type 0 where
   pub names : names_of new ≡ names_of old
   pub grows : (u : ℕ) → refusals_of old u ≤ refusals_of new u
   pub kept : honest → (u : ℕ) → IsCalm (refusals_of old u) (refusals_of new u) → kept_of new u ≡ passed clock (kept_of old u)
+  pub partly : honest → (u : ℕ) → PassesPartly clock (kept_of old u) (kept_of new u)
   pub waits : honest → (u : ℕ) → AreTicked (kept_of old u).groups (kept_of new u).groups
 
 -- ---- counts

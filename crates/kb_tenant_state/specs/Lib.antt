@@ -10,6 +10,7 @@ pub mod PartitionCalls
 pub mod Partitions
 pub mod Parts
 pub mod Restored
+pub mod Retained
 pub mod RetentionTime
 pub mod Scene
 pub mod Steps

@@ -63,3 +63,10 @@ pub record IsRenewedIfDue {L S : Type 0} (log : L → Log) (disk : S → Disk) (
   pub unlooked : (IsLookedAt log old t → ⊥) → renew_at_of new t ≡ renew_at_of old t
   pub looked : IsLookedAt log old t
       → renew_at_of new t ≡ next_look (commands_of log new t) (snapshot_of (kept_of (hosted log disk old) t))
+
+-- What a start makes of the meta log of the tenant at a place: where nothing was refused it has at most as many commands as the snapshot,
+-- and one that had no more stays.
+pub record IsShortened {L S : Type 0} (log : L → Log) (disk : S → Disk) (t : ℕ) (old new : Tenants L S) : Type 0 where
+  pub shorter : IsCalm (refusals_of (hosted log disk old) t) (refusals_of (hosted log disk new) t)
+      → commands_of log new t ≤ snapshot_of (kept_of (hosted log disk old) t)
+  pub stays : commands_of log old t ≤ snapshot_of (kept_of (hosted log disk old) t) → new ≡ old

@@ -1,4 +1,5 @@
 pub mod Causes
+pub mod Ids
 pub mod Observed
 pub mod Pages
 pub mod Refusals

@@ -4,6 +4,7 @@ ghost use Rattle.std.specs.Prelude.{◌≡◌, ◌≢◌, ◌<◌, ℕ, [], leng
 ghost use Rattle.kb_broker.specs.Hosts.{is_honest};
 ghost use Rattle.kb_isolation_spec.specs.Broker.{kept_of};
 ghost use Rattle.kb_tenant_state.specs.Ids.{GivesFresh};
+ghost use Rattle.kbroker.specs.Ids.{AllGiveFresh};
 
 use crate::Fault;
 use kb_broker::{Broker, TenantView};
@@ -38,8 +39,7 @@ pub fn skip_ids<S: Store, L: PartitionLog + Drop>(
     requires { broker.old.state.lines ≡ [] }
     ensures alone { broker.new.state.lines ≡ [] }
     // None that is given out from then on is that of a batch.
-    ensures fresh { OnOk result (is_honest S.disk broker.new → (t : ℕ) → t < length broker.new.state.tenants
-        → GivesFresh (kept_of broker.new.state t).world) }
+    ensures fresh { OnOk result (is_honest S.disk broker.new → AllGiveFresh broker.new.state) }
 {
     look_at_ids(rt.alloc(), broker, folder)?;
     for place in 0..broker.tenants_len() {

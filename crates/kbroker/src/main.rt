@@ -8,6 +8,7 @@
 //! or away. Status 0 is done, 1 a fault with one line on standard error, 2 a fault of the command line with its usage.
 #![tactic(auto)]
 
+mod catalogs;
 mod causes;
 mod check;
 mod dump;

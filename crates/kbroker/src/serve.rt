@@ -5,8 +5,11 @@ ghost use Rattle.kb_server_log.specs.Guard.{clock_after};
 ghost use Rattle.kb_server_log.specs.declared.guard.Reading.{Reading};
 ghost use Rattle.kb_node.specs.Cores.{seen};
 ghost use Rattle.kb_node.specs.Moves.{IsTurn};
+ghost use Rattle.kb_broker.specs.Hosts.{is_honest};
+ghost use Rattle.kbroker.specs.Ids.{AllGiveFresh};
 ghost use Rattle.kbroker.specs.Turned.{AreTurned, IsServed};
 
+use crate::catalogs::shorten_catalogs;
 use crate::ids::skip_ids;
 use crate::listening::{listen, tell_listening};
 use crate::monitoring::Monitoring;
@@ -164,8 +167,8 @@ fn serve_broker<S: Store + Drop, L: PartitionLog + Drop>(
     Ok((edge, served))
 }
 
-/// Opens the broker that is served, to which nobody is connected. Members of a broker before are none of this one, and no producer id of a
-/// batch is given out again.
+/// Opens the broker that is served, to which nobody is connected. Members of a broker before are none of this one, no producer id of a
+/// batch is given out again, and no catalog has more commands than its snapshot.
 fn open<S: PutsOff + Drop>(
     rt: &HostRuntime,
     start: Start<'_>,
@@ -174,11 +177,13 @@ fn open<S: PutsOff + Drop>(
     journal: &mut Journal,
 ) -> Result<(Restarted<S>, Held), Fault>
     ensures alone { IfOk result (λ both. both.0.broker.state.lines ≡ []) }
+    ensures fresh { IfOk result (λ both. is_honest S.disk both.0.broker → AllGiveFresh both.0.broker.state) }
 {
     let (mut opened, held) = open_on(rt, start, store, folder, journal)?;
     let limits = group_limits(rt.alloc(), start.settings)?;
     opened.broker.limit_groups(&limits);
     opened.broker.number_members_from(first_member(now(rt)));
+    shorten_catalogs(rt.alloc(), &mut opened.broker);
     skip_ids(rt, &mut opened.broker, folder, journal)?;
     if start.settings.sync != Sync::Never
         && let Err(fault) = settle(&mut opened.broker)
@@ -191,7 +196,8 @@ fn open<S: PutsOff + Drop>(
 /// Makes what a start left last before anybody is served: else what is acknowledged next would stand behind what was dropped.
 fn settle<S: Store, L: PartitionLog + Drop>(broker: &mut Broker<S, L>) -> Result<(), StoreFault>
     requires { broker.old.state.lines ≡ [] }
-    ensures { broker.new.state.lines ≡ [] }
+    ensures alone { broker.new.state.lines ≡ [] }
+    ensures stays { is_honest S.disk broker.new → is_honest S.disk broker.old × (broker.new.state ≡ broker.old.state) }
 {
     for _ in 0..TURNS {
         if broker.is_synced() {

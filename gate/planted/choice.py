@@ -13,7 +13,9 @@ from planted.prover import LIB
 TRIED = "gate/tried"
 HEAD = "# Written by gate/wrong_bodies --record, oldest first: edit, sum of what it is judged by and of itself, seconds, by: clause\n"
 # What the chosen edits may take, in processor seconds.
-ROOM = 8 * 60
+ROOM = 10 * 60
+# The folders of a crate's edits: those that each run of the gate tries, and all others.
+EACH_RUN, FURTHER = "each-run", "further-edits"
 # What the first check of a crate takes over built libraries, what a line of a library that is not built takes to prove, and what an
 # edit takes that was not tried yet, in processor seconds.
 A_START, A_LINE, AN_EDIT = 10.0, 0.06, 20.0
@@ -30,15 +32,18 @@ class Tried(NamedTuple):
         return self.by is None or bool(self.by)
 
 
-def edits_of(folder: str, parts: List[str]) -> List[str]:
-    """The crate's edits in these folders; of must-fail those that change code, or the definitions of a crate that has nothing else."""
-    found, tried = [], ("src/", "specs/") if source.is_of_laws(folder) else ("src/",)
-    for part in parts:
+def edits_of(folder: str) -> List[str]:
+    """The crate's edits, first those that each run tries."""
+    found = []
+    for part in (EACH_RUN, FURTHER):
         at = f"{folder}/{part}"
         if os.path.isdir(at):
-            edits = [f"{at}/{name}" for name in sorted(os.listdir(at)) if name.endswith(".edit")]
-            found += [it for it in edits if part != "must-fail" or all(file.startswith(tried) for file in files_in(it))]
+            found += [f"{at}/{name}" for name in sorted(os.listdir(at)) if name.endswith(".edit")]
     return found
+
+
+def is_of_each_run(edit: str) -> bool:
+    return os.path.basename(os.path.dirname(edit)) == EACH_RUN
 
 
 def files_in(edit: str) -> List[str]:
@@ -89,25 +94,26 @@ def is_current(crate, edit: str, was: Dict[str, Tried]) -> bool:
 
 
 def chosen(crates, edits, below: Libraries) -> Dict[str, List[str]]:
-    """What the gate tries, as far as there is room; says which. First the edits whose texts changed since they were refused, then those
-    tried longest ago, and last those that were never refused, which wait for a person's trial."""
+    """What the gate tries; says which. It takes the edits of each run, and of the others as many as there is room for: first those whose
+    texts changed since they were refused, then those tried longest ago, and last those that were never refused, which wait for a person's
+    trial."""
     was = known()
     age = {name: number for number, name in enumerate(was)}
     rows = []
     for crate in crates.values():
         for edit in edits[crate.name]:
             name = name_of(crate, edit)
-            kind = 2 if name not in was or not was[name].holds else 1 if is_current(crate, edit, was) else 0
-            rows.append((kind, age.get(name, 0), crate.name, edit))
+            kind = 3 if name not in was or not was[name].holds else 2 if is_current(crate, edit, was) else 1
+            rows.append((0 if is_of_each_run(edit) else kind, age.get(name, 0), crate.name, edit))
     rows.sort(key=lambda it: it[:2])
     taken: Dict[str, List[str]] = {}
-    spent, kinds, left = 0.0, [0, 0, 0], [0, 0, 0]
+    spent, kinds, left = 0.0, [0, 0, 0, 0], [0, 0, 0, 0]
     for kind, _, name, edit in rows:
         line = was.get(name_of(crates[name], edit))
         costs = line.seconds if line else AN_EDIT
         if name not in taken:
             costs += A_START + A_LINE * sum(map(lines_of, below.sources(crates[name])))
-        if spent + costs > ROOM:
+        if kind and spent + costs > ROOM:
             left[kind] += 1
             continue
         taken.setdefault(name, []).append(edit)
@@ -115,8 +121,8 @@ def chosen(crates, edits, below: Libraries) -> Dict[str, List[str]]:
         spent += costs
     for name, picked in taken.items():
         print(f"wrong bodies: of {name} {len(picked)} of its {len(edits[name])} edits")
-    print("wrong bodies: chosen: {} changed since they were refused, {} refused longest ago, {} not refused yet".format(*kinds))
-    print("wrong bodies: left out: {} changed, {} others, {} not refused yet; gate/wrong_bodies --all --record tries them".format(*left))
+    print("wrong bodies: {} of each run; chosen: {} changed since they were refused, {} refused longest ago, {} not refused yet".format(*kinds))
+    print("wrong bodies: left out: {} changed, {} others, {} not refused yet; gate/wrong_bodies --all --record tries them".format(*left[1:]))
     return taken
 
 
@@ -131,7 +137,7 @@ def record(crate, plans):
             # (a person may have named the clause meanwhile)
             by = plan.by or (old.by if old and is_same_edit(old.sum, plan.sum) else "") or ""
             was[name] = Tried(plan.sum, round(plan.seconds, 1), None if plan.status == "refused" else by)
-    edits = {name_of(crate, it) for it in edits_of(crate.folder, ["must-fail", "further-edits"])}
+    edits = {name_of(crate, it) for it in edits_of(crate.folder)}
     with open(TRIED, "w", encoding="utf-8") as out:
         out.write(HEAD)
         for name, it in was.items():

@@ -4,6 +4,7 @@ import re
 from typing import Dict, List
 
 from planted import source
+from planted.choice import is_of_each_run
 from planted.prover import LIB, NOT_LOOKED_AT, Report, Room
 
 REFUSED = "refused"
@@ -28,6 +29,7 @@ class Plan:
 
     def __init__(self, edit: str, texts: Dict[str, str], before: Dict[str, str]):
         self.edit, self.name = edit, os.path.basename(edit)[: -len(".edit")]
+        self.is_owed = is_of_each_run(edit)
         self.files = set(texts)
         code = {file: text for file, text in texts.items() if file.startswith("src/")}
         self.change = source.change(before, code)
@@ -92,14 +94,15 @@ class Crate:
         return plan
 
     def run(self, has_time=lambda: True, told=lambda: None):
-        """Tries all edits, as long as there is time, and says after each round that it is told."""
+        """Tries all edits, as long as there is time, and those of each run whatever time there is. Says after each round that it is told."""
         while True:
             waiting = [it for it in self.plans if not it.status]
-            if not waiting:
-                break
             if not has_time():
                 for it in waiting:
-                    it.judge(LEFT, "for want of time")
+                    if not it.is_owed:
+                        it.judge(LEFT, "for want of time")
+                waiting = [it for it in waiting if it.is_owed]
+            if not waiting:
                 break
             self.round(self.chosen(waiting))
             told()

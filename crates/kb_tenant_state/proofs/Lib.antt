@@ -21,6 +21,7 @@ pub mod Removed
 pub mod Restored
 pub mod Retained
 pub mod RetainedAll
+pub mod Retaining
 pub mod Sized
 pub mod SkippedIds
 pub mod Spared

@@ -24,6 +24,7 @@ pub mod RetainedAll
 pub mod Retaining
 pub mod Sized
 pub mod SkippedIds
+pub mod SomeRetained
 pub mod Spared
 pub mod Starts
 pub mod StillKept

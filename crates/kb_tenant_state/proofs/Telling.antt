@@ -9,7 +9,7 @@ use Rattle.kb_topics.specs.Calls.{IsCause, IsLogCause}
 use Rattle.kb_topics.specs.Catalog.{known}
 use Rattle.kb_topics.specs.Known.{Known, PartitionState, is_limit, is_partition_count, named}
 use Rattle.kb_topics.specs.Name.{is_legal}
-use Rattle.kb_topics.specs.Refusals.{commit_refusal, create_refusal, issue_refusal}
+use Rattle.kb_topics.specs.Refusals.{commit_refusal, create_refusal, delete_group_refusal, issue_refusal}
 use Rattle.kb_topics.specs.declared.config.TopicConfig.{TopicConfig}
 use Rattle.kb_topics.specs.declared.fault.CatalogFault.{CatalogFault}
 use Rattle.kb_topics.specs.declared.fault.CatalogFault.TheVariants as catalog

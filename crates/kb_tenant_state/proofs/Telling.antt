@@ -7,7 +7,7 @@ use Rattle.kb_log.specs.OnShelf.{Log}
 use Rattle.kb_tenant_state.specs.Scene.{Scene}
 use Rattle.kb_topics.specs.Calls.{IsCause, IsLogCause}
 use Rattle.kb_topics.specs.Catalog.{known}
-use Rattle.kb_topics.specs.Known.{Known, PartitionState, is_limit, is_partition_count, named}
+use Rattle.kb_topics.specs.Known.{has_committed, Known, PartitionState, is_limit, is_partition_count, named}
 use Rattle.kb_topics.specs.Name.{is_legal}
 use Rattle.kb_topics.specs.Refusals.{commit_refusal, create_refusal, delete_group_refusal, issue_refusal}
 use Rattle.kb_topics.specs.declared.config.TopicConfig.{TopicConfig}

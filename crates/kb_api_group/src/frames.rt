@@ -1,6 +1,6 @@
 //! A stream that comes in pieces, given out by frames.
 
-ghost use Rattle.std.specs.Prelude.{◌≡◌, ◌++◌, List, ℕ, [], length, drop, vec_len, OnOk, OnErr, ◌≤◌, ◌+◌};
+ghost use Rattle.std.specs.Prelude.{◌≡◌, ◌++◌, List, ℕ, [], length, drop, min, vec_len, vec_capacity, OnOk, OnErr, ◌≤◌, ◌<◌, ◌+◌};
 ghost use Rattle.kb_api_group.specs.Frames.{Front, Whole, front};
 ghost use Rattle.kb_api_group.specs.FrameStream.{answer, behind, with_more, Fronts, IsSize, IsStuck, Splits, Event, Run, joined, taken};
 
@@ -13,6 +13,9 @@ const LEAST_SIZE: i32 = 8;
 
 /// The greatest size of a reply that the clients here read.
 pub const REPLY_LIMIT: u32 = 2_097_152;
+
+/// How many bytes of memory a feed keeps at most where nothing is unread. So many it does keep, for the next frame.
+const KEPT: usize = 65_536;
 
 /// What stands in front of the unread bytes.
 #[derive(Drop)]
@@ -29,9 +32,14 @@ pub enum Next<'a> {
 
 /// The bytes of a stream that were not yet read. A clause sees their list.
 ///
-/// Bytes are read by moving a position. When a piece comes, what was read makes room where it is at least half of what is
-/// kept: so each byte is moved a constant number of times in however many pieces and frames it comes, and less than half
-/// of what is kept was read.
+/// Bytes are read by moving a position. What was read makes room where it is at least half of what is kept: so each byte
+/// is moved a constant number of times in however many pieces and frames it comes, and at most half of what is kept was
+/// read.
+///
+/// Whatever came before, a feed with nothing unread has at most 65,536 bytes of memory: the invariant says so. It keeps what it
+/// has of that, so frames that follow one another take no memory for each. With bytes unread it gives back what is above, where
+/// a quarter of it or less is in use. No clause bounds it then: a `Vec` does not say how far it grows, and a smaller block may
+/// be refused.
 #[derive(Drop)]
 pub struct FrameFeed {
     bytes: Vec<u8>,
@@ -39,13 +47,14 @@ pub struct FrameFeed {
 }
 
 impl Model for FrameFeed {
-    ghost use Rattle.std.specs.Prelude.{◌≤◌, drop, length, List, ℕ};
+    ghost use Rattle.std.specs.Prelude.{◌≡◌, ◌≤◌, ◌+◌, drop, length, vec_capacity, List, ℕ};
+    ghost use Rattle.kb_api_group.specs.declared.frames.TheConstants.{KEPT};
 
     ghost Value = { List ℕ };
 
     ghost view = { λ a. drop a.start a.bytes.items };
 
-    ghost invariant = { λ a. a.start ≤ length a.bytes.items };
+    ghost invariant = { λ a. (a.start + a.start ≤ length a.bytes.items) × (length a.bytes.items ≡ 0 → vec_capacity a.bytes ≤ KEPT) };
 }
 
 impl FrameFeed {
@@ -66,8 +75,10 @@ impl FrameFeed {
         ensures ok { OnOk result (self.new ≡ self.old ++ piece.now) }
         ensures err { OnErr result (self.new ≡ self.old) }
     {
-        self.make_room();
-        self.bytes.extend_from_slice(piece)
+        grow(&mut self.bytes, piece.len())?;
+        let kept = self.bytes.extend_from_slice(piece);
+        give_back(&mut self.bytes);
+        kept
     }
 
     /// How many bytes are unread.
@@ -84,7 +95,8 @@ impl FrameFeed {
         front_of(&self.bytes[self.start..], limit)
     }
 
-    /// Leaves the frame in front behind. Where no whole frame of at most `limit` stands in front nothing changes. It takes no memory.
+    /// Leaves the frame in front behind. Where no whole frame of at most `limit` stands in front nothing changes. It takes no memory
+    /// above what there is, and may give some back.
     pub fn skip(&mut self, limit: u32)
         ensures { self.new ≡ behind (front limit self.old) self.old }
     {
@@ -93,6 +105,7 @@ impl FrameFeed {
             _ => return,
         };
         self.start += 4 + size;
+        self.start = make_room(&mut self.bytes, self.start);
     }
 
     /// Drops the unread bytes, and gives their memory back.
@@ -103,23 +116,66 @@ impl FrameFeed {
         self.bytes.shrink_to_fit();
         self.start = 0;
     }
+}
 
-    /// Drops what was read, where that is at least half of what is kept.
-    fn make_room(&mut self)
-        ensures { self.new ≡ self.old }
-    {
-        if self.unread() <= self.start {
-            drop_front(&mut self.bytes, self.start);
-            self.start = 0;
-        }
+/// Drops the bytes before `start` where they are at least half of all, and gives memory back. Returns where the others begin.
+fn make_room(bytes: &mut Vec<u8>, start: usize) -> usize
+    requires within { start ≤ vec_len bytes.old }
+    ensures unread { drop result bytes.new.items ≡ drop start bytes.old.items }
+    ensures half { result + result ≤ vec_len bytes.new }
+    ensures idle { vec_len bytes.new ≡ 0 → vec_capacity bytes.new ≤ KEPT }
+    ensures kept { vec_capacity bytes.old ≤ KEPT → vec_capacity bytes.new ≡ vec_capacity bytes.old }
+{
+    if start < bytes.len() - start {
+        give_back(bytes);
+        return start;
     }
+    drop_front(bytes, start);
+    give_back(bytes);
+    0
+}
+
+/// Makes room for `more` bytes where there are at most `KEPT` with them. It doubles up to `KEPT` and no further: else what frames
+/// of fewer bytes need could be above it, and be given back after each.
+fn grow(bytes: &mut Vec<u8>, more: usize) -> Result<(), AllocError>
+    ensures items { bytes.new.items ≡ bytes.old.items }
+    ensures room { OnOk result (vec_len bytes.old + more ≤ KEPT → vec_len bytes.new + more ≤ vec_capacity bytes.new) }
+    ensures kept { vec_capacity bytes.old ≤ KEPT → vec_capacity bytes.new ≤ KEPT }
+    ensures no_less { vec_capacity bytes.old ≤ vec_capacity bytes.new }
+    ensures err { OnErr result (vec_capacity bytes.new ≡ vec_capacity bytes.old) }
+{
+    let needed = bytes.len().saturating_add(more);
+    if needed <= bytes.capacity() || KEPT < needed {
+        return Ok(());
+    }
+    let doubled = needed.max(2 * bytes.capacity());
+    bytes.reserve_exact(KEPT.min(doubled) - bytes.len())
+}
+
+/// Gives memory back where it is above `KEPT` bytes and a quarter of it or less is in use: all of it where there are no bytes, and
+/// else what is above `KEPT` and twice the bytes. A smaller block may be refused for them: then the one that is there stays.
+fn give_back(bytes: &mut Vec<u8>)
+    ensures items { bytes.new.items ≡ bytes.old.items }
+    ensures idle { vec_len bytes.new ≡ 0 → vec_capacity bytes.new ≤ KEPT }
+    ensures kept { vec_capacity bytes.old ≤ KEPT → vec_capacity bytes.new ≡ vec_capacity bytes.old }
+    ensures no_more { vec_capacity bytes.new ≤ vec_capacity bytes.old }
+    ensures room { 0 < vec_len bytes.old → min KEPT (vec_capacity bytes.old) ≤ vec_capacity bytes.new }
+{
+    let len = bytes.len();
+    let capacity = bytes.capacity();
+    if capacity <= KEPT || capacity / 4 < len {
+        return;
+    }
+    let needed = if len == 0 { 0 } else { KEPT.max(len + len) };
+    bytes.shrink_to(needed);
 }
 
 /// Brings the bytes from `n` on to the front. They are no more than those before them, so each is moved once.
 fn drop_front(bytes: &mut Vec<u8>, n: usize)
     requires within { n ≤ vec_len bytes.old }
     requires half { vec_len bytes.old ≤ n + n }
-    ensures { bytes.new.items ≡ drop n bytes.old.items }
+    ensures items { bytes.new.items ≡ drop n bytes.old.items }
+    ensures capacity { vec_capacity bytes.new ≡ vec_capacity bytes.old }
 {
     let unread = bytes.len() - n;
     let (read, rest) = bytes.as_mut_slice().split_at_mut(n);

@@ -221,12 +221,12 @@ front_v1 node ts version old s1 new not0 not2 not3 not4 not5 not7 first last =
 clustered : (brokers cluster self topics : List ℕ) → (brokers ++ (cluster ++ self)) ++ topics ≡ brokers ++ (cluster ++ (self ++ topics))
 clustered brokers cluster self topics = append_assoc brokers (cluster ++ self) topics ∙ ap (λ x. brokers ++ x) (append_assoc cluster self topics)
 
-pub front_v2 : (node : Node) (ts : List MetadataTopic) (old new : List ℕ) → new ≡ old ++ ((array metadata_broker).written (broker node ∷ []) ++ (nullable_string.written None ++ int32.written (pos 0)))
+pub front_v2 : (node : Node) (ts : List MetadataTopic) (old new : List ℕ) → new ≡ old ++ ((array metadata_broker).written (broker node ∷ []) ++ (nullable_string.written (Some node.host) ++ int32.written (pos 0)))
     → new ++ topics_in (pos 2) ts ≡ old ++ metadata_in (pos 2) (reply_with node ts)
 unfolding metadata_reply_v2
 front_v2 node ts old new wrote =
     let brokers = (array metadata_broker).written (broker node ∷ []) in
-    let cluster = nullable_string.written None in
+    let cluster = nullable_string.written (Some node.host) in
     let self = int32.written (pos 0) in
     let topics = topics_in (pos 2) ts in
     behind old new (brokers ++ (cluster ++ self)) topics wrote ∙ ap (λ x. old ++ x) (clustered brokers cluster self topics)
@@ -234,18 +234,18 @@ front_v2 node ts old new wrote =
 
 -- a throttle time and the cluster, and the topics behind it
 front_v3 : (node : Node) (topics old s1 new : List ℕ) → s1 ≡ old ++ int32.written (pos 0)
-    → new ≡ s1 ++ ((array metadata_broker).written (broker node ∷ []) ++ (nullable_string.written None ++ int32.written (pos 0)))
-    → new ++ topics ≡ old ++ (int32.written (pos 0) ++ ((array metadata_broker).written (broker node ∷ []) ++ (nullable_string.written None ++ (int32.written (pos 0) ++ topics))))
+    → new ≡ s1 ++ ((array metadata_broker).written (broker node ∷ []) ++ (nullable_string.written (Some node.host) ++ int32.written (pos 0)))
+    → new ++ topics ≡ old ++ (int32.written (pos 0) ++ ((array metadata_broker).written (broker node ∷ []) ++ (nullable_string.written (Some node.host) ++ (int32.written (pos 0) ++ topics))))
 front_v3 node topics old s1 new first wrote =
     let brokers = (array metadata_broker).written (broker node ∷ []) in
-    let cluster = nullable_string.written None in
+    let cluster = nullable_string.written (Some node.host) in
     let self = int32.written (pos 0) in
     behind old new (self ++ (brokers ++ (cluster ++ self))) topics (written_both old s1 new self (brokers ++ (cluster ++ self)) first wrote)
     ∙ ap (λ x. old ++ x) (append_assoc self (brokers ++ (cluster ++ self)) topics ∙ ap (λ x. self ++ x) (clustered brokers cluster self topics))
 
 -- versions 3 to 5 and 7
 pub front_later : (node : Node) (ts : List MetadataTopic) (version : ℤ) (old s1 new : List ℕ) → (version ≡ pos 3) ⊎ ((version ≡ pos 4) ⊎ ((version ≡ pos 5) ⊎ (version ≡ pos 7))) → s1 ≡ old ++ int32.written (pos 0)
-    → new ≡ s1 ++ ((array metadata_broker).written (broker node ∷ []) ++ (nullable_string.written None ++ int32.written (pos 0)))
+    → new ≡ s1 ++ ((array metadata_broker).written (broker node ∷ []) ++ (nullable_string.written (Some node.host) ++ int32.written (pos 0)))
     → new ++ topics_in version ts ≡ old ++ metadata_in version (reply_with node ts)
 unfolding metadata_reply_v3
 front_later node ts version old s1 new which first wrote =

@@ -3,7 +3,7 @@ use Rattle.std.proofs.Common.{◌≡◌, ◌∙◌, sym, ap, refl, subst, ℕ, �
 use Rattle.std.proofs.lemmas.List.{append-nil, length-map}
 use Rattle.std.specs.List.{flat_map}
 use Rattle.std.proofs.lemmas.List.Elements.{All-cons, All-get_or, All-head, All-nil, All-tail}
-use Rattle.kb_wire.specs.Codec.{Codec, count, counted, nullable_counted, int, sized, nullable, items, array, nullable_array}
+use Rattle.kb_wire.specs.Codec.{Codec, count, counted, nullable_counted, int, sized, nullable, items, array, nullable_array, utf8, string, nullable_string}
 use Rattle.std.specs.Prelude.{All, Option, Some}
 
 -- the count of an array that fits
@@ -47,3 +47,8 @@ one_written c v = ap (λ x. (count w32).written 1 ++ x) (sym (append-nil (c.writ
 pub array_of_nullable : {A : Type 0} (c : Codec A) (o : Option (List A)) (vs : List A) → o ≡ Some vs → (nullable_array c).Fits o → (array c).Fits vs
 unfolding nullable nullable_counted sized counted items
 array_of_nullable c o vs is fits = subst (nullable_array c).Fits is fits
+
+-- a text where null might stand
+pub text_fits_nullable : (v : List ℕ) → string.Fits v → nullable_string.Fits (Some v)
+unfolding nullable nullable_counted sized counted utf8
+text_fits_nullable v fits = fits

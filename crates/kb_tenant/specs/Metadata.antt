@@ -106,12 +106,22 @@ topic_v0 t = record { error_code = t.error_code; name = t.name; partitions = t.p
 abbrev pub reply_v0 : MetadataReply → MetadataReplyV0
 reply_v0 r = record { brokers = map broker_v0 r.brokers; topics = map topic_v0 r.topics }
 
--- Versions from 2 on tell the cluster's id, which is null; from 3 on how long the client is held back, which is never.
+-- Versions from 2 on tell the cluster's id, which is the host of its broker; from 3 on how long the client is held back, which is never.
+abbrev pub cluster_id : List MetadataBroker → Option (List ℕ)
+cluster_id [] = None
+cluster_id (b ∷ bs) = Some b.host
+
 abbrev pub reply_v2 : MetadataReply → MetadataReplyV2
-reply_v2 r = record { brokers = r.brokers; cluster_id = None; controller_id = r.controller_id; topics = r.topics }
+reply_v2 r = record { brokers = r.brokers; cluster_id = cluster_id r.brokers; controller_id = r.controller_id; topics = r.topics }
 
 abbrev pub reply_v3 : MetadataReply → MetadataReplyV3
-reply_v3 r = record { throttle_time_ms = pos 0; brokers = r.brokers; cluster_id = None; controller_id = r.controller_id; topics = r.topics }
+reply_v3 r = record {
+  throttle_time_ms = pos 0;
+  brokers = r.brokers;
+  cluster_id = cluster_id r.brokers;
+  controller_id = r.controller_id;
+  topics = r.topics;
+}
 
 -- Version 5 tells beside each partition which of its replicas are offline: none is.
 abbrev pub metadata_partition_v5 : Codec (MetadataPartition × List ℤ)
@@ -128,7 +138,7 @@ topic_v5 t = (t.error_code, (t.name, (t.is_internal, map partition_v5 t.partitio
 
 abbrev pub written_v5 : MetadataReply → List ℕ
 written_v5 r = (int32 ⊗ array metadata_broker ⊗ nullable_string ⊗ int32 ⊗ array metadata_topic_v5).written
-    (pos 0, (r.brokers, (None, (r.controller_id, map topic_v5 r.topics))))
+    (pos 0, (r.brokers, (cluster_id r.brokers, (r.controller_id, map topic_v5 r.topics))))
 
 -- Version 7 tells behind each partition's leader the leader's epoch, and offline replicas as version 5.
 abbrev pub metadata_partition_v7 : Codec (MetadataPartition × List ℤ)
@@ -143,7 +153,7 @@ metadata_topic_v7 = int16 ⊗ string ⊗ boolean ⊗ array metadata_partition_v7
 
 abbrev pub written_v7 : MetadataReply → List ℕ
 written_v7 r = (int32 ⊗ array metadata_broker ⊗ nullable_string ⊗ int32 ⊗ array metadata_topic_v7).written
-    (pos 0, (r.brokers, (None, (r.controller_id, map topic_v5 r.topics))))
+    (pos 0, (r.brokers, (cluster_id r.brokers, (r.controller_id, map topic_v5 r.topics))))
 
 -- the reply in bytes
 abbrev pub metadata_in : ℤ → MetadataReply → List ℕ

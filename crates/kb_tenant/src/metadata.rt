@@ -111,14 +111,15 @@ fn put_broker(node: &Node<'_>, sink: &mut Sink) -> Result<(), AllocError>
     broker.write(sink)
 }
 
-/// Writes the one broker, the cluster's id, which is null, and the controller, which is that broker.
+/// Writes the one broker, the cluster's id, which is the broker's host, and the controller, which is that broker.
 fn put_cluster(node: &Node<'_>, sink: &mut Sink) -> Result<(), AllocError>
     requires { string.Fits node.now.host }
     ensures { OnOk result (sink.new.bytes ≡ sink.old.bytes
-        ++ ((array metadata_broker).written (broker node.now ∷ []) ++ (nullable_string.written None ++ int32.written (pos 0)))) }
+        ++ ((array metadata_broker).written (broker node.now ∷ [])
+        ++ (nullable_string.written (Some node.now.host) ++ int32.written (pos 0)))) }
 {
     put_broker(node, sink)?;
-    sink.put_nullable_string(&None)?;
+    sink.put_nullable_string(&Some(Text::new(node.host.as_str())))?;
     sink.put_i32(0)
 }
 

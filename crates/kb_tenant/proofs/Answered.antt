@@ -133,7 +133,7 @@ module _ (a b : Scene Seen) (node : Node) (clock : ℕ) (request : Request) (tou
   create_topics_told (Err fault) is told = tt
 
   pub delete_topics_told : (r : Result Answer ReadFault) → request.api_key ≡ DELETE_TOPICS
-      → IfOk r (λ answer. WhereHonest a b (AcknowledgesRemovals (CatalogFailed a b) request.correlation_id request.api_version
+      → IfOk r (λ answer. WhereHonest a b (AcknowledgesRemovals (CatalogFailed a b) node.limits.request_entries request.correlation_id request.api_version
       a.state.world request.body.now b.state.world touched answer))
       → IfOk r (λ answer. WhereHonest a b (IsToldOf a b node clock request touched answer))
   delete_topics_told (Ok answer) is told = λ honest agree. record {
@@ -152,7 +152,7 @@ module _ (a b : Scene Seen) (node : Node) (clock : ℕ) (request : Request) (tou
   delete_topics_told (Err fault) is told = tt
 
   pub delete_records_told : (r : Result Answer ReadFault) → request.api_key ≡ DELETE_RECORDS
-      → IfOk r (λ answer. WhereHonest a b (AcknowledgesDeletions (CatalogFailed a b) request.correlation_id a.state.world
+      → IfOk r (λ answer. WhereHonest a b (AcknowledgesDeletions (CatalogFailed a b) node.limits.request_entries request.correlation_id a.state.world
       request.body.now b.state.world touched answer))
       → IfOk r (λ answer. WhereHonest a b (IsToldOf a b node clock request touched answer))
   delete_records_told (Ok answer) is told = λ honest agree. record {

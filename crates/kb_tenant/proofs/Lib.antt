@@ -14,6 +14,7 @@ pub mod Counting
 pub mod CountsKept
 pub mod CreateMoves
 pub mod Creating
+pub mod Cutting
 pub mod DeleteMoves
 pub mod DeletedRecords
 pub mod Deleting

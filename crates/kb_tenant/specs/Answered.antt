@@ -31,8 +31,8 @@ IsAnswerOrShut id reaction answer = IsAnswer id reaction answer ⊎ (answer ≡ 
 
 -- A request on the connection of number n that came to a world w at a time of the clock, and left v, is answered the truth. Each of its
 -- entries did what is defined; or it is answered a code that names what refused it, and changed nothing. What only looks up is answered
--- what is defined. Where the connection is shut instead, a Produce has appended nothing, unless its reply is too long. `failed` says that
--- the store failed meanwhile, `full` that the catalog's log has no room.
+-- what is defined. Where the connection is shut instead, a Produce has appended nothing, unless its reply is too long, and a DeleteTopics or
+-- a DeleteRecords did its first entries and nothing else. `failed` says that the store failed meanwhile, `full` that the catalog's log has no room.
 pub record IsTruthful (failed full : Type 0) (node : Node) (clock n : ℕ) (key version id : ℤ) (body : List ℕ) (w v : World)
     (touched : List TopicPartition) (answer : Answer) : Type 0 where
   pub produced : key ≡ PRODUCE → Acknowledges failed node.limits.bytes id version w body v touched answer
@@ -40,8 +40,8 @@ pub record IsTruthful (failed full : Type 0) (node : Node) (clock n : ℕ) (key 
   pub fetched : key ≡ FETCH → AnswersFetch failed id version node.limits.fetch_bytes w clock body answer
   pub listed : key ≡ LIST_OFFSETS → AnswersListing failed id version w body answer
   pub created : key ≡ CREATE_TOPICS → AcknowledgesCreations ((failed ⊎ full) ⊎ AreInstancesGivenOut v) node.limits id version w body v answer
-  pub removed : key ≡ DELETE_TOPICS → AcknowledgesRemovals (failed ⊎ full) id version w body v touched answer
-  pub trimmed : key ≡ DELETE_RECORDS → AcknowledgesDeletions (failed ⊎ full) id w body v touched answer
+  pub removed : key ≡ DELETE_TOPICS → AcknowledgesRemovals (failed ⊎ full) node.limits.request_entries id version w body v touched answer
+  pub trimmed : key ≡ DELETE_RECORDS → AcknowledgesDeletions (failed ⊎ full) node.limits.request_entries id w body v touched answer
   pub issued : key ≡ INIT_PRODUCER_ID → AcknowledgesIssue (failed ⊎ full) id w body v answer
   pub committed : key ≡ OFFSET_COMMIT → AcknowledgesCommits (failed ⊎ full) node.limits id version w body v answer
   pub looked_up : LooksUp key → IsAnswerOrShut id (plainly_served node w clock n key version body).reaction answer

@@ -1,6 +1,6 @@
 -- What each entry of a request is answered, whatever memory and the store refuse: what is defined, or else a code that names
 -- what refused it.
-use Rattle.std.specs.Prelude.{◌≡◌, ◌≤◌, ◌+◌, ◌^◌, ◌++◌, ◌⊎◌, ℕ, ℤ, pos, Bool, true, false, List, [], Option, Ok, Err, ⊤}
+use Rattle.std.specs.Prelude.{◌≡◌, ◌≤◌, ◌+◌, ◌^◌, ◌++◌, ◌⊎◌, ℕ, ℤ, pos, Bool, true, false, List, [], Option, Ok, Err, OnErr, ⊤}
 use Rattle.std.specs.List.{AllZip}
 use Rattle.kb_wire.specs.Codec.{whole}
 use Rattle.kb_api_data.specs.Layouts.{delete_topics_request, init_producer_id_reply, init_producer_id_request}
@@ -60,6 +60,7 @@ use Rattle.kb_tenant_state.specs.declared.topic_partition.TopicPartition.{TopicP
 use Rattle.kb_tenant.specs.CreateTopics.{asked_creations, created_topic, creations_in}
 use Rattle.kb_tenant.specs.DeleteRecords.{deletion_answered, deleted}
 use Rattle.kb_tenant.specs.DeleteTopics.{deleted_topic, deletions_in}
+use Rattle.kb_tenant.specs.Entries.{delete_records_entries, delete_topics_entries, within}
 use Rattle.kb_tenant.specs.Fetch.{Limits, asked_code, asked_fetch, begun, bounded, deadline_of, fetch_answered, fetched_as, is_ready, places_of}
 use Rattle.kb_tenant.specs.Fetch.{refused, reply_written}
 use Rattle.kb_tenant.specs.InitProducerId.{id_refused, init_producer_id}
@@ -68,7 +69,7 @@ use Rattle.kb_tenant.specs.OffsetCommit.{asked_commit, committed_entry, refusal_
 use Rattle.kb_tenant.specs.Produce.{Progress, answer, progress, refusal_of, entry_served, produced_in, tells_starts}
 use Rattle.kb_tenant.specs.Replies.{framed}
 use Rattle.kb_tenant.specs.Room.{reply_length}
-use Rattle.kb_tenant.specs.Turns.{AreServed}
+use Rattle.kb_tenant.specs.Turns.{AreFirstServed, AreServed, AreServedInto}
 use Rattle.kb_tenant.specs.declared.answer.Answer.{Answer}
 use Rattle.kb_tenant.specs.declared.answer.Answer.TheVariants as answers
 use Rattle.kb_tenant.specs.declared.fetch.waiting.Fetching.{Fetching}
@@ -202,6 +203,17 @@ IsReplied id Told (answers.Wait deadline limit keys) = ⊥
 IsReplied id Told answers.NoReply = ⊥
 IsReplied id Told answers.Shut = ⊤
 
+-- The answer is a reply whose body tells that; or the connection is shut, and then something else is told.
+abbrev pub IsRepliedOrCut : ℤ → (List ℕ → Type 0) → Type 0 → Answer → Type 0
+IsRepliedOrCut id Told Cut (answers.Reply bytes) = (body : List ℕ) × ((bytes.items ≡ framed id body) × Told body)
+IsRepliedOrCut id Told Cut (answers.Wait deadline limit keys) = ⊥
+IsRepliedOrCut id Told Cut answers.NoReply = ⊥
+IsRepliedOrCut id Told Cut answers.Shut = Cut
+
+-- The connection is shut, and nothing has changed.
+abbrev pub IsTurnedAway : World → World → List TopicPartition → Answer → Type 0
+IsTurnedAway w v touched a = (a ≡ answers.Shut) × ((v ≡ w) × (touched ≡ []))
+
 -- It is the reply of a CreateTopics, whose topics are so told one after another.
 abbrev pub TellsCreations : Type 0 → DataLimits → ℤ → World → CreateTopicsRequestV1 → World → List ℕ → Type 0
 TellsCreations failed limits version w q v body = (replies : List CreateTopicReply)
@@ -218,10 +230,18 @@ abbrev pub TellsRemovals : Type 0 → ℤ → World → DeleteTopicsRequest → 
 TellsRemovals failed version w q v touched body = (replies : List DeleteTopicReply)
     × ((body ≡ deletions_in version (record { topics = replies })) × AreServed (IsRemovalTold failed) (w, []) q.names (v, touched) replies)
 
--- The same of a body, where it is a request of DeleteTopics.
-abbrev pub AcknowledgesRemovals : Type 0 → ℤ → ℤ → World → List ℕ → World → List TopicPartition → Answer → Type 0
-AcknowledgesRemovals failed id version w body v touched a =
-    (q : DeleteTopicsRequest) → whole delete_topics_request body ≡ Ok q → IsReplied id (TellsRemovals failed version w q v touched) a
+-- The first names of a DeleteTopics, so many, are so told, and nothing else has changed.
+abbrev pub AreRemovalsCut : Type 0 → World × List TopicPartition → DeleteTopicsRequest → World × List TopicPartition → Type 0
+AreRemovalsCut failed s q t = AreFirstServed (IsRemovalTold failed) s q.names t
+
+-- The same of a body, where it is a request of DeleteTopics, also where the connection is shut. One that is none, or that names more topics
+-- than a limit allows, is turned away.
+abbrev pub AcknowledgesRemovals : Type 0 → Option ℕ → ℤ → ℤ → World → List ℕ → World → List TopicPartition → Answer → Type 0
+AcknowledgesRemovals failed limit id version w body v touched a =
+    let read = whole delete_topics_request body in
+    ((q : DeleteTopicsRequest) → read ≡ Ok q
+    → IsRepliedOrCut id (TellsRemovals failed version w q v touched) (AreRemovalsCut failed (w, []) q (v, touched)) a)
+    × OnErr (within limit delete_topics_entries read) (IsTurnedAway w v touched a)
 
 -- It is the reply of an InitProducerId.
 abbrev pub TellsIssue : Type 0 → World → InitProducerIdRequest → World → List ℕ → Type 0
@@ -280,10 +300,22 @@ abbrev pub TellsDeletions : Type 0 → World → DeleteRecordsRequest → World 
 TellsDeletions failed w q v touched body =
     (reply : DeleteRecordsReply) × ((body ≡ delete_records_reply.written reply) × AreTrimsTold failed (w, []) q (v, touched) reply)
 
--- The same of a body, where it is a request of DeleteRecords.
-abbrev pub AcknowledgesDeletions : Type 0 → ℤ → World → List ℕ → World → List TopicPartition → Answer → Type 0
-AcknowledgesDeletions failed id w body v touched a =
-    (q : DeleteRecordsRequest) → whole delete_records_request body ≡ Ok q → IsReplied id (TellsDeletions failed w q v touched) a
+-- The first entries of a topic, so many, are so told, and nothing else has changed.
+abbrev pub IsTrimTopicCut : Type 0 → World × List TopicPartition → DeleteRecordsTopic → World × List TopicPartition → Type 0
+IsTrimTopicCut failed s e t = AreFirstServed (IsTrimTold failed (named e.name s.0.known.topics)) s e.partitions t
+
+-- The first topics of a DeleteRecords, so many, are so told, and of the one behind them the first entries; nothing else has changed.
+abbrev pub AreTrimsCut : Type 0 → World × List TopicPartition → DeleteRecordsRequest → World × List TopicPartition → Type 0
+AreTrimsCut failed s q t = AreServedInto (IsTrimTopicTold failed) (IsTrimTopicCut failed) s q.topics t
+
+-- The same of a body, where it is a request of DeleteRecords, also where the connection is shut. One that is none, or that has more entries
+-- than a limit allows, is turned away.
+abbrev pub AcknowledgesDeletions : Type 0 → Option ℕ → ℤ → World → List ℕ → World → List TopicPartition → Answer → Type 0
+AcknowledgesDeletions failed limit id w body v touched a =
+    let read = whole delete_records_request body in
+    ((q : DeleteRecordsRequest) → read ≡ Ok q
+    → IsRepliedOrCut id (TellsDeletions failed w q v touched) (AreTrimsCut failed (w, []) q (v, touched)) a)
+    × OnErr (within limit delete_records_entries read) (IsTurnedAway w v touched a)
 
 -- ---- ListOffsets
 

@@ -1,5 +1,5 @@
 //! DeleteRecords, version 0 (Kafka protocol guide): the starts of partitions move, one after another.
-ghost use Rattle.std.specs.Prelude.{◌≡◌, ◌++◌, ℕ, List, length, pos, take, OnOk};
+ghost use Rattle.std.specs.Prelude.{◌≡◌, ◌++◌, ℕ, List, length, pos, take, OnErr, OnOk};
 ghost use Rattle.std.specs.List.{flat_map};
 ghost use Rattle.kb_api_data.specs.Layouts.{delete_records_partition_reply, delete_records_reply, delete_records_request};
 ghost use Rattle.kb_api_data.specs.Layouts.{delete_records_topic, delete_records_topic_reply};
@@ -8,8 +8,9 @@ ghost use Rattle.kb_api_data.specs.declared.delete_records.DeleteRecordsReply.{D
 ghost use Rattle.kb_api_data.specs.declared.delete_records.DeleteRecordsTopicReply.{DeleteRecordsTopicReply};
 ghost use Rattle.kb_tenant_state.specs.Scene.{WhereHonest};
 ghost use Rattle.kb_tenant.specs.DeleteRecords.{deletion_answered as answered_with, deleted, deleted_all, deleted_at, deleted_topic, told};
-ghost use Rattle.kb_tenant.specs.Told.{AreTrimsTold, CatalogFailed, IsDeleted, IsDeletionTold, IsRefusalFor, IsTrimTold, IsTrimTopicTold};
-ghost use Rattle.kb_tenant.specs.Turns.{in_turn, written_behind, AreServed};
+ghost use Rattle.kb_tenant.specs.Told.{AreTrimsCut, AreTrimsTold, CatalogFailed, IsDeleted, IsDeletionTold, IsRefusalFor};
+ghost use Rattle.kb_tenant.specs.Told.{IsTrimTold, IsTrimTopicCut, IsTrimTopicTold};
+ghost use Rattle.kb_tenant.specs.Turns.{in_turn, written_behind, AreFirstServed, AreServed};
 ghost use Rattle.kb_tenant_state.specs.Parts.{scene};
 ghost use Rattle.kb_tenant_state.specs.Steps.{IsStep, Meets};
 ghost use Rattle.kb_tenant_state.specs.Told.{Deletes, IsDeletionWant};
@@ -122,6 +123,9 @@ fn delete_entries<L: PartitionLog + Drop, S: Store>(
         × ((sink.new.bytes ≡ sink.old.bytes ++ flat_map delete_records_partition_reply.written replies)
         × AreServed (IsTrimTold (CatalogFailed a b) topic)
         (a.state.world, touched.old.items) entries.now (b.state.world, touched.new.items) replies))) }
+    ensures cut { OnErr result (let a = scene L.log S.disk parts.old shelf.old in let b = scene L.log S.disk parts.new shelf.new in
+        WhereHonest a b (AreFirstServed (IsTrimTold (CatalogFailed a b) topic)
+        (a.state.world, touched.old.items) entries.now (b.state.world, touched.new.items))) }
 {
     for entry in entries {
         let reply = delete_entry(parts, shelf, topic, entry, touched);
@@ -149,6 +153,9 @@ fn delete_in_topic<L: PartitionLog + Drop, S: Store>(
     ensures told { OnOk result (let a = scene L.log S.disk parts.old shelf.old in let b = scene L.log S.disk parts.new shelf.new in
         WhereHonest a b ((reply : DeleteRecordsTopicReply) × ((sink.new.bytes ≡ sink.old.bytes ++ delete_records_topic_reply.written reply)
         × IsTrimTopicTold (CatalogFailed a b) (a.state.world, touched.old.items) topic.now (b.state.world, touched.new.items) reply))) }
+    ensures cut { OnErr result (let a = scene L.log S.disk parts.old shelf.old in let b = scene L.log S.disk parts.new shelf.new in
+        WhereHonest a b (IsTrimTopicCut (CatalogFailed a b) (a.state.world, touched.old.items) topic.now
+        (b.state.world, touched.new.items))) }
 {
     let name = topic.name.as_str();
     sink.put_string(name)?;
@@ -188,6 +195,10 @@ pub(crate) fn delete_records<L: PartitionLog + Drop, S: Store>(
     ensures told { OnOk result (let a = scene L.log S.disk parts.old shelf.old in let b = scene L.log S.disk parts.new shelf.new in
         WhereHonest a b ((reply : DeleteRecordsReply) × ((sink.new.bytes ≡ sink.old.bytes ++ delete_records_reply.written reply)
         × AreTrimsTold (CatalogFailed a b) (a.state.world, touched.old.items) request.now (b.state.world, touched.new.items) reply))) }
+    // On an `Err` the first entries are so told, and no other records are deleted.
+    ensures cut { OnErr result (let a = scene L.log S.disk parts.old shelf.old in let b = scene L.log S.disk parts.new shelf.new in
+        WhereHonest a b (AreTrimsCut (CatalogFailed a b) (a.state.world, touched.old.items) request.now
+        (b.state.world, touched.new.items))) }
 {
     sink.put_i32(0)?;
     sink.put_count(request.topics.len())?;

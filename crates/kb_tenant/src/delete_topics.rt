@@ -6,7 +6,7 @@ ghost use Rattle.kb_tenant_state.specs.Scene.{WhereHonest};
 ghost use Rattle.kb_store.specs.Disk.{Files};
 ghost use Rattle.kb_api_data.specs.Layouts.{delete_topics_request};
 ghost use Rattle.kb_tenant.specs.DeleteTopics.{places_at, places_named, told_if, deleted, deleted_all, deletions_in, throttle_in};
-ghost use Rattle.kb_tenant.specs.Told.{CatalogFailed, IsDeleted, IsDeletionTold, IsFaultOf, IsRemovalTold};
+ghost use Rattle.kb_tenant.specs.Told.{AreRemovalsCut, CatalogFailed, IsDeleted, IsDeletionTold, IsFaultOf, IsRemovalTold};
 ghost use Rattle.kb_tenant.specs.Turns.{AreServed};
 ghost use Rattle.kb_tenant_state.specs.Parts.{scene, world_of};
 ghost use Rattle.kb_tenant_state.specs.Steps.{IsStep, Meets};
@@ -118,6 +118,10 @@ pub fn delete_topics<L: PartitionLog + Drop, S: Store>(
         × ((sink.new.bytes ≡ sink.old.bytes ++ deletions_in version (record { topics = replies }))
         × AreServed (IsRemovalTold (CatalogFailed a b)) (a.state.world, touched.old.items) request.now.names
         (b.state.world, touched.new.items) replies))) }
+    // On an `Err` the first topics are so told, and no other is deleted.
+    ensures cut { OnErr result (let a = scene L.log S.disk parts.old shelf.old in let b = scene L.log S.disk parts.new shelf.new in
+        WhereHonest a b (AreRemovalsCut (CatalogFailed a b) (a.state.world, touched.old.items) request.now
+        (b.state.world, touched.new.items))) }
 {
     let names = request.names.as_slice();
     put_throttle(version, sink)?;

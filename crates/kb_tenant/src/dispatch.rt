@@ -1,7 +1,7 @@
 //! A request of a tenant, by its key.
 ghost use Rattle.std.specs.Prelude.{◌≡◌, ◌≤◌, ◌^◌, [], IfOk, OnErr};
 ghost use Rattle.kb_wire.specs.Codec.{string, whole};
-ghost use Rattle.kb_wire.specs.declared.api_key.TheConstants.{PRODUCE};
+ghost use Rattle.kb_wire.specs.declared.api_key.TheConstants.{PRODUCE, DELETE_TOPICS, DELETE_RECORDS};
 ghost use Rattle.kb_api_data.specs.Layouts.{produce_request, metadata_request, create_topics_request};
 ghost use Rattle.kb_api_data.specs.Layouts.{delete_records_request, delete_topics_request, init_producer_id_request};
 ghost use Rattle.kb_store.specs.Disk.{Files};
@@ -24,6 +24,7 @@ ghost use Rattle.kb_tenant.specs.Told.{AcknowledgesIssue, AcknowledgesRemovals, 
 ghost use Rattle.kb_tenant.specs.Told.{AcknowledgesDeletions, AnswersFetch, AnswersListing, AnswersLook};
 ghost use Rattle.kb_tenant.specs.Serve.{if_read, of_produce, of_fetch, of_list_offsets, of_metadata, of_create_topics, of_delete_records};
 ghost use Rattle.kb_tenant.specs.Serve.{of_describe_configs};
+ghost use Rattle.kb_tenant.specs.declared.answer.Answer.TheVariants as answers;
 ghost use Rattle.kb_tenant.specs.Serve.{of_delete_topics, of_init_producer_id, plainly_served, looked, stays, IsOutcome, IsServed};
 
 use crate::answer::{Answer, begin, finish, finish_within, most_bytes};
@@ -247,8 +248,12 @@ fn serve_delete_topics<L: PartitionLog + Drop, S: Store>(
         b.state.world touched.new.items result) }
     ensures acknowledged { let a = scene L.log S.disk parts.old shelf.old in let b = scene L.log S.disk parts.new shelf.new in
         IfOk result (λ answer. WhereHonest a b (AcknowledgesRemovals
-        (CatalogFailed a b) request.now.correlation_id request.now.api_version a.state.world request.now.body.now b.state.world
+        (CatalogFailed a b) limit request.now.correlation_id request.now.api_version a.state.world request.now.body.now b.state.world
         touched.new.items answer)) }
+    ensures cut { let a = scene L.log S.disk parts.old shelf.old in let b = scene L.log S.disk parts.new shelf.new in
+        OnErr result (WhereHonest a b (AcknowledgesRemovals
+        (CatalogFailed a b) limit request.now.correlation_id request.now.api_version a.state.world request.now.body.now b.state.world
+        touched.new.items answers.Shut)) }
 {
     let asked = read_within::<DeleteTopicsRequest<'_>>(alloc, limit, request.body)?;
     let mut sink = begin(alloc, request.correlation_id)?;
@@ -280,8 +285,11 @@ fn serve_delete_records<L: PartitionLog + Drop, S: Store>(
         (if_read a.state.world (within limit delete_records_entries (whole delete_records_request request.now.body.now))
         (of_delete_records a.state.world)) b.state.world touched.new.items result) }
     ensures acknowledged { let a = scene L.log S.disk parts.old shelf.old in let b = scene L.log S.disk parts.new shelf.new in
-        IfOk result (λ answer. WhereHonest a b (AcknowledgesDeletions (CatalogFailed a b)
+        IfOk result (λ answer. WhereHonest a b (AcknowledgesDeletions (CatalogFailed a b) limit
         request.now.correlation_id a.state.world request.now.body.now b.state.world touched.new.items answer)) }
+    ensures cut { let a = scene L.log S.disk parts.old shelf.old in let b = scene L.log S.disk parts.new shelf.new in
+        OnErr result (WhereHonest a b (AcknowledgesDeletions (CatalogFailed a b) limit
+        request.now.correlation_id a.state.world request.now.body.now b.state.world touched.new.items answers.Shut)) }
 {
     let asked = read_within::<DeleteRecordsRequest<'_>>(alloc, limit, request.body)?;
     let mut sink = begin(alloc, request.correlation_id)?;
@@ -365,6 +373,14 @@ fn serve_by_key<L: PartitionLog + Drop, S: Store>(
     ensures shut { let a = scene L.log S.disk parts.old shelf.old in let b = scene L.log S.disk parts.new shelf.new in
         request.now.api_key ≡ PRODUCE →
         IfOk result (λ answer. IsSpared request.now.api_version a.state.world request.now.body.now b.state.world answer) }
+    ensures removals { let a = scene L.log S.disk parts.old shelf.old in let b = scene L.log S.disk parts.new shelf.new in
+        request.now.api_key ≡ DELETE_TOPICS → OnErr result (WhereHonest a b (AcknowledgesRemovals (CatalogFailed a b)
+        node.now.limits.request_entries request.now.correlation_id request.now.api_version a.state.world request.now.body.now
+        b.state.world touched.new.items answers.Shut)) }
+    ensures trims { let a = scene L.log S.disk parts.old shelf.old in let b = scene L.log S.disk parts.new shelf.new in
+        request.now.api_key ≡ DELETE_RECORDS → OnErr result (WhereHonest a b (AcknowledgesDeletions (CatalogFailed a b)
+        node.now.limits.request_entries request.now.correlation_id a.state.world request.now.body.now b.state.world
+        touched.new.items answers.Shut)) }
 {
     let limit = node.limits.request_entries;
     match request.api_key {

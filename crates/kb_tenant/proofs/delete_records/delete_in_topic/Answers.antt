@@ -1,9 +1,13 @@
-use Rattle.std.proofs.Common.{◌∙◌, ap}
-use Rattle.std.proofs.lemmas.Result.{on_ok_weaker}
+use Rattle.std.proofs.Common.{◌∙◌, List, Option, ap, subst}
+use Rattle.std.proofs.lemmas.Result.{on_err_weaker, on_ok_weaker}
+use Rattle.kb_api_data.specs.declared.delete_records.DeleteRecordsPartition.{DeleteRecordsPartition}
 use Rattle.kb_topics.specs.Known.{named}
 use Rattle.kb_tenant_state.specs.Parts.{scene}
 use Rattle.kb_tenant_state.specs.Steps.{meets_so}
-use Rattle.kb_tenant.specs.Told.{CatalogFailed}
+use Rattle.kb_tenant_state.specs.World.{World}
+use Rattle.kb_tenant_state.specs.declared.topic_partition.TopicPartition.{TopicPartition}
+use Rattle.kb_tenant.specs.Told.{CatalogFailed, IsTrimTold}
+use Rattle.kb_tenant.specs.Turns.{AreFirstServed}
 use Rattle.kb_tenant.proofs.DeletedRecords.{name_fits, entries_fit, topic_told}
 use Rattle.kb_tenant.proofs.Trimming.{topic_trimmed}
 use Rattle.kb_tenant.proofs.delete_records.delete_in_topic.Goals as goal
@@ -44,3 +48,19 @@ returns-clause-told g c =
     c.as_str-name.ensures c.as_slice.ensures c.len.ensures named_so c.in_ok-put_string.ensures.ok c.in_ok-put_count.ensures.ok
     (told honest agree))
     c.delete_entries.ensures.told
+
+pub returns-clause-cut : goal.returns-clause-cut
+returns-clause-cut g c =
+    let log = g.L.PartitionLog.log in
+    let disk = g.S.Store.disk in
+    let a = scene log disk c.args.parts.now c.args.shelf.now in
+    let b = scene log disk c.delete_entries.new.parts c.delete_entries.new.shelf in
+    let topic = c.args.topic.now in
+    let start : World × List TopicPartition = (a.state.world, c.args.touched.now.items) in
+    let end : World × List TopicPartition = (b.state.world, c.delete_entries.new.touched.items) in
+    let named_so = c.topic_named-instance.ensures a.disk.files ∙ ap (λ n. named n a.state.world.known.topics) c.as_str-name.ensures in
+    on_err_weaker c.delete_entries.result
+    (λ cut honest agree. subst (λ es. AreFirstServed (IsTrimTold (CatalogFailed a b) (named topic.name a.state.world.known.topics)) start es end)
+    c.as_slice.ensures
+    (subst (λ i. AreFirstServed (IsTrimTold (CatalogFailed a b) i) start c.as_slice.result.now end) named_so (cut honest agree)))
+    c.delete_entries.ensures.cut

@@ -1,16 +1,17 @@
-use Rattle.std.proofs.Common.{◌≡◌, ◌∙◌, ◌++◌, [], ◌∷◌, append-nil, length, of_z, sym, ap, refl, subst, take, to_z, w16, w32, ℕ, List}
+use Rattle.std.proofs.Common.{◌≡◌, ◌∙◌, ◌++◌, ◌+◌, [], ◌∷◌, append-nil, length, of_z, sym, ap, refl, subst, take, to_z, w16, w32, ℕ, List}
 use Rattle.std.specs.List.{flat_map}
 use Rattle.std.proofs.lemmas.Int.{to_z-of_z}
 use Rattle.std.proofs.Math.Seq.{take-length}
 use Rattle.kb_wire.specs.Codec.{count, string, array}
 use Rattle.kb_api_data.specs.Layouts.{delete_topic_reply}
 use Rattle.kb_api_data.specs.declared.delete_topics.DeleteTopicReply.{DeleteTopicReply}
-use Rattle.kb_tenant_state.specs.Scene.{Scene}
+use Rattle.kb_tenant_state.specs.Scene.{Scene, WhereHonest}
 use Rattle.kb_tenant.specs.DeleteTopics.{deleted_topic, deletions_in, throttle_in}
+use Rattle.kb_store.proofs.Seen.{on_err}
 use Rattle.kb_tenant_state.specs.Parts.{Seen, scene}
 use Rattle.kb_tenant_state.specs.Steps.{step_same, step_then, meets_then, meets_so}
-use Rattle.kb_tenant.specs.Told.{CatalogFailed, IsRemovalTold}
-use Rattle.kb_tenant.specs.Turns.{in_turn, AreServed}
+use Rattle.kb_tenant.specs.Told.{AreRemovalsCut, CatalogFailed, IsRemovalTold}
+use Rattle.kb_tenant.specs.Turns.{in_turn, AreFirstServed, AreServed}
 use Rattle.kb_tenant_state.specs.World.{World}
 use Rattle.kb_tenant_state.specs.declared.topic_partition.TopicPartition.{TopicPartition}
 use Rattle.kb_tenant.proofs.Acknowledging.{honest_then, served_all, served_length, served_next, written_more}
@@ -132,3 +133,35 @@ returns-clause-told g c = λ honest agree.
     let bytes = deletions_written c.args.version start head end so.0 before (written_both head c.put_count.new.self.bytes end ((count w32).written (length names)) (flat_map delete_topic_reply.written so.0) c.in_ok-put_count.ensures.ok so.1.0
     ∙ ap (λ x. head ++ x) (array_written delete_topic_reply so.0 (length names) many)) in
     subst (λ (xs : List (List ℕ)). (replies : List DeleteTopicReply) × ((end ≡ start ++ deletions_in c.args.version (record { topics = replies })) × AreServed (IsRemovalTold (CatalogFailed a b)) s xs t replies)) c.as_slice-names.ensures (so.0, (bytes, all))
+
+pub returns-in_err-write-clause-cut : goal.returns-in_err-write-clause-cut
+returns-in_err-write-clause-cut g c =
+    let log = g.L.PartitionLog.log in
+    let disk = g.S.Store.disk in
+    let a : Scene Seen = scene log disk c.args.parts.now c.args.shelf.now in
+    let b : Scene Seen = scene log disk c.loop-name.parts c.loop-name.shelf in
+    let d : Scene Seen = scene log disk c.delete_topic.new.parts c.delete_topic.new.shelf in
+    let names = c.as_slice-names.result.now in
+    let i = c.loop-name.name-index in
+    let t = c.name-item.result in
+    let start : World × List TopicPartition = (a.state.world, c.args.touched.now.items) in
+    let p : World × List TopicPartition = (b.state.world, c.loop-name.touched.items) in
+    let q : World × List TopicPartition = (d.state.world, c.delete_topic.new.touched.items) in
+    let sent = to_z-of_z w16 c.delete_topic.result (record { sfits = c.delete_topic.type_inv }) in
+    let reply : DeleteTopicReply = record { name = c.new.result; error_code = to_z w16 (of_z w16 c.delete_topic.result) } in
+    let first = c.loop-name.invariant.step in
+    let second = c.delete_topic.ensures.step in
+    let is : WhereHonest a d (AreRemovalsCut (CatalogFailed a d) start c.args.request.now q) = λ honest agree.
+        let both = honest_then a b d _ _ first second c.loop-name.invariant.answers
+        (removal_told_so b d c.loop-name.touched.items c.delete_topic.new.touched.items t c.as_str-name.result.now c.new.result
+        c.delete_topic.result reply.error_code second c.as_str-name.ensures c.new.ensures sent c.delete_topic.ensures.answered)
+        honest agree in
+        let before = both.0 in
+        subst (λ (xs : List (List ℕ)). AreFirstServed (IsRemovalTold (CatalogFailed a d)) start xs q) c.as_slice-names.ensures
+        (i + 1, (
+          before.0 ++ reply ∷ [],
+          served_next (IsRemovalTold (CatalogFailed a d)) start p q names i t before.0 reply c.loop-name-test.true c.name-item.is
+              (removals_before a b d second (take i names) start p before.0 before.1.1)
+              (removal_behind a b d first p t q reply both.1),
+        )) in
+    on_err _ is

@@ -5,7 +5,7 @@ use Rattle.std.specs.declared.alloc.Global.{Global}
 use Rattle.std.specs.declared.vec.Vec.{Vec}
 use Rattle.kb_tenant_state.specs.Steps.{calm_then}
 use Rattle.kb_tenant_api.specs.Hosted.{TenantState, kept_of, refusals_of}
-use Rattle.kb_tenant_api.specs.Turns.{HavePassed, IsTurn}
+use Rattle.kb_tenant_api.specs.Turns.{HavePassed, IsTurn, PassesPartly}
 use Rattle.kb_tenant_api.specs.Waiters.{AreTicked}
 use Rattle.kb_tenants.specs.Tenants.{AreQuietBut, IsQuietBut}
 use Rattle.kb_broker.specs.Places.{Leaves}
@@ -18,6 +18,7 @@ module _ (H G : Type 0) (clock place : ℕ) (ts us vs : List TenantState) (back 
     grows = λ u. (let first = passed.grows u in let then = turn.grows u in omega (arith, first, then));
     kept = λ honest u calm. stays honest u
         ∙ passed.kept (back honest) u (calm_then (refusals_of ts u) (refusals_of us u) (refusals_of vs u) (passed.grows u) (turn.grows u) calm).0;
+    partly = λ honest u. subst (PassesPartly clock (kept_of ts u)) (sym (stays honest u)) (passed.partly (back honest) u);
     waits = λ honest u. subst (λ k. AreTicked (kept_of ts u).groups k.groups) (sym (stays honest u)) (passed.waits (back honest) u);
   }
 

@@ -247,5 +247,11 @@ true_look H honest failed fails next whom a b i l m us e sound at is told =
 pub true_moment : (H : Type 0) → H → (a b : BrokerState) → b.lines ≡ a.lines → HavePassed a.clock H a.tenants b.tenants → SpeaksTruth a b
 true_moment H honest a b lines passed = speaks_step a b (inr (inr (inl (record {
   lines = lines;
-  passed = record { names = passed.names; grows = passed.grows; kept = λ yes. passed.kept honest; waits = λ yes. passed.waits honest };
+  passed = record {
+    names = passed.names;
+    grows = passed.grows;
+    kept = λ yes. passed.kept honest;
+    partly = λ yes. passed.partly honest;
+    waits = λ yes. passed.waits honest;
+  };
 }))))

@@ -8,5 +8,6 @@ pub mod Keys
 pub mod Laws
 pub mod LimitsKept
 pub mod Looking
+pub mod Moments
 pub mod Waiters
 pub mod WaitersServed

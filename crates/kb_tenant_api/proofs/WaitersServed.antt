@@ -28,7 +28,7 @@ use Rattle.kb_groups.specs.Calls as one
 use Rattle.kb_groups.specs.Moments.{tick}
 use Rattle.kb_groups.specs.Rebalance.{Step}
 use Rattle.kb_coordinator.specs.declared.groups.Entry.{Entry}
-use Rattle.kb_coordinator.specs.Calls.{after_heartbeat, after_join, after_may_commit, after_sync, by_group, deleted, has_members, hung_up, is_accepted, is_there, join_code, joined_by, left, room, some_released, some_ticked, sync_answer, sync_in, ticked, Ticks}
+use Rattle.kb_coordinator.specs.Calls.{after_heartbeat, after_join, after_may_commit, after_sync, at_moment, by_group, deleted, has_members, hung_up, is_accepted, is_due, is_there, join_code, joined_by, left, room, some_released, some_ticked, sync_answer, sync_in, ticked, Ticks}
 use Rattle.kb_coordinator.specs.Groups as co
 use Rattle.kb_coordinator.specs.Groups.{Groups, first_above, found, silent}
 use Rattle.kb_coordinator.specs.Replies.{join_refusal}
@@ -48,6 +48,7 @@ use Rattle.kb_tenant_api.specs.Replies.{Reaction, Plain, Rebalances, replies}
 use Rattle.kb_tenant_api.specs.declared.answer.Answer.{Answer}
 use Rattle.kb_tenant_api.specs.declared.answer.Answer.TheVariants as answers
 use Rattle.kb_tenant_api.specs.Serve.{AreGroupsAfter, AreGroupsBy, Outcome, if_read, of_delete, of_describe, of_groups, of_heartbeat, of_join, of_leave, of_list, of_offset_commit, of_sync, of_topics, served, sync_reaction}
+use Rattle.kb_tenant_api.specs.Turns.{PassGroups}
 use Rattle.kb_tenant_api.specs.Waiters.{AreServed, AreTicked, IsWaitTold, IsWaitToldBy, given, members_on, once, rebalances, replies_on, waiting, waiting_in}
 use Rattle.kb_tenant_api.proofs.Waiters.{all, dropped_none, dropped_waits, join_waits, leave_waits, tick_waits, touched_waits, within_waits}
 
@@ -184,7 +185,7 @@ entry_less id w gs = by (one.is_empty id) (has_members id gs) (has_committed id 
     by false false false false = same
 
 turns_less : (ids : List (List ℕ)) (w : World) (gs : Groups) → IsLess gs (in_turn deleted_entry (w, gs) ids).0.1
-turns_less [] w gs k = (omega arith, omega arith)
+turns_less [] w gs = λ k. (omega arith, omega arith)
 turns_less (id ∷ ids) w gs =
     let s = (deleted_entry (w, gs) id).0 in
     less_then gs s.1 (in_turn deleted_entry s ids).0.1 (entry_less id w gs) (turns_less ids s.0 s.1)
@@ -251,11 +252,18 @@ ticks_in k clock (b ∷ bs) (e ∷ es) = by b (ticks_in k clock bs es)
     by true h = omega (arith, h, tick_waits k clock e.group, given_both k (tick clock e.group).released (some_released clock bs es))
     by false h = omega (arith, h)
 
-pub ticks_told : (clock : ℕ) (es new : List Entry) (rs : List Release) (refused : ℕ) → Ticks clock es new rs refused → (k : ℕ) → waiting_in k new + given k rs ≤ waiting_in k es
+ticks_told : (clock : ℕ) (es new : List Entry) (rs : List Release) (refused : ℕ) → Ticks clock es new rs refused → (k : ℕ) → waiting_in k new + given k rs ≤ waiting_in k es
 ticks_told clock es new rs refused (marks, same, is, released, none) k =
     let a : waiting_in k new ≡ waiting_in k (some_ticked clock marks es) = ap (waiting_in k) is in
     let b : given k rs ≡ given k (some_released clock marks es) = ap (given k) released in
     omega (arith, a, b, ticks_in k clock marks es)
+
+-- where none was refused
+moment_told : (k clock : ℕ) (es : List Entry) → waiting_in k (map (ticked clock) es) + given k (flat_map (λ e. (tick clock e.group).released) es) ≤ waiting_in k es
+moment_told k clock [] = omega arith
+moment_told k clock (e ∷ es) =
+    let others = flat_map (λ e. (tick clock e.group).released) es in
+    omega (arith, moment_told k clock es, tick_waits k clock e.group, given_both k (tick clock e.group).released others)
 
 pub left_on : (k clock n : ℕ) (es : List Entry) → waiting_in k (map (hung_up clock n) es) ≤ waiting_in k es
 left_on k clock n [] = omega arith
@@ -281,9 +289,15 @@ after_told node w clock gs n key version body answer new (inl made) = λ k. subs
 after_told node w clock gs n key version body answer new (inr (inl stays)) = subst (AreServed n true gs) (sym stays.0) (silent_served n true gs)
 after_told node w clock gs n key version body answer new (inr (inr gone)) = fewer_served n true gs new gone.1
 
--- a moment of the groups
-pub passed_told : (clock : ℕ) (old new : Groups) (refused : ℕ) → Ticks clock old.groups new.groups new.released refused → AreTicked old new
-passed_told clock old new refused ticks k = let less = ticks_told clock old.groups new.groups new.released refused ticks k in (omega (arith, less), omega (arith, less))
+-- a moment of the groups, whatever was refused
+pub passed_told : (clock : ℕ) (old new : Groups) → PassGroups clock old new → AreTicked old new
+passed_told clock old new (inl is) = subst (AreTicked old) (sym is) (by (is_due clock old))
+  where
+    by : (b : Bool) → AreTicked old (if b then at_moment clock old else old)
+    by true = λ k. let less = moment_told k clock old.groups in (omega (arith, less), omega (arith, less))
+    by false = λ k. (omega arith, omega arith)
+passed_told clock old new (inr (refused, ticks, members, limits)) = λ k.
+    let less = ticks_told clock old.groups new.groups new.released refused ticks k in (omega (arith, less), omega (arith, less))
 
 -- on the request's connection no member more waits, as long as it comes to no wait
 fewer_on : (n : ℕ) (old new : Groups) → AreServed n false old new → members_on n new ≤ members_on n old

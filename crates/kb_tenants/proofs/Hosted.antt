@@ -446,6 +446,15 @@ module _ {L S : Type 0} (log : L → Log) (disk : S → Disk) (law : (l : L) →
         ap (λ ss. kept_of ss u) (map-set_same (state_of log files) old.tenants.items t (record x { groups = gs }) x
         (ap (λ v. state_of log files (record x { groups = v })) same ∙ ap (state_of log files) (sym (get_or_from_slice_get old.tenants.items t x x here))))
 
+    -- the groups had their moment
+    pub passed_own : (clock : ℕ) → groups.is_due clock x.groups ≡ false
+        → (kept_of (hosted log disk (after old t x x.parts gs x.counts old.shelf)) t).groups ≡ groups.passed clock (kept_of (hosted log disk old) t).groups
+    passed_own clock early =
+        let was = kept_here log (disk old.shelf.store).files old.tenants.items t x (stands log disk old t x lt read) in
+        ap (λ (k : Kept). k.groups) (stays_own t)
+        ∙ subst (λ (k : Kept). k.groups ≡ groups.passed clock k.groups) (sym was)
+        (ap (λ b. cond b (groups.at_moment clock x.groups) x.groups) (sym early))
+
     pub kept_own : AreKept log disk (after old t x x.parts gs x.counts old.shelf)
     kept_own = kept_same log disk law old t x x.parts gs x.counts old.shelf lt read kept step_own (λ honest. stays_own)
 
@@ -512,6 +521,16 @@ module _ {L S : Type 0} (log : L → Log) (disk : S → Disk) (law : (l : L) →
   -- what the tenant kept
   pub was_called : kept_of (hosted log disk old) t ≡ kept_in (world_of log x.parts (disk old.shelf.store).files) x.groups
   was_called = kept_here log (disk old.shelf.store).files old.tenants.items t x (stands log disk old t x lt read)
+
+  -- what is told so of what the topics were and are
+  pub topics_called : (P : World → World → Type 0)
+      → WhereHonest (scene log disk x.parts old.shelf) (scene log disk mid shelf)
+      (P (world_of log x.parts (disk old.shelf.store).files) (world_of log mid (disk shelf.store).files))
+      → (disk shelf.store).honest → P (kept_of (hosted log disk old) t).world (kept_of (hosted log disk (after old t x p gs cs shelf)) t).world
+  topics_called P told honest =
+      let is : Parts L → World = λ v. world_of log v (disk shelf.store).files in
+      subst (P (kept_of (hosted log disk old) t).world) (sym (ap (λ (k : Kept). k.world) now_called ∙ ap is counted))
+      (told_called (λ w. P w (is mid)) told honest)
 
   -- how many commands the log of its catalog has recorded
   pub commands_called : commands_of log (after old t x p gs cs shelf) t ≡ (meta log mid).end

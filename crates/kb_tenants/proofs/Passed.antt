@@ -4,9 +4,10 @@ use Rattle.std.proofs.lemmas.List.{length-map}
 use Rattle.kb_tenant_state.specs.Calls.{retain_all}
 use Rattle.kb_tenant_state.specs.Counts.{END, IsCalm}
 use Rattle.kb_tenant_state.specs.Steps.{calm_then}
-use Rattle.kb_tenant_api.specs.Waiters.{AreTicked}
 use Rattle.kb_tenant_api.specs.Hosted.{Kept, TenantState, kept_of, refusals_of, names_of, passed}
-use Rattle.kb_tenant_api.specs.Turns.{HavePassed, IsTurn, IsMet}
+use Rattle.kb_tenant_api.specs.Turns.{HavePassed, IsTurn, IsMet, PassGroups, PassTopics, PassesPartly}
+use Rattle.kb_tenant_api.proofs.Moments.{passes_all}
+use Rattle.kb_tenant_api.proofs.WaitersServed.{passed_told}
 use Rattle.kb_tenant.proofs.LogMoves.{same_or_not}
 use Rattle.kb_tenants.specs.Tenants.{IsDisturbed, drops, regrouped, retained}
 use Rattle.kb_tenants.proofs.Idle.{below_or_not, past_passed}
@@ -71,16 +72,25 @@ module _ (clock t : ℕ) (H G : Type 0) (ps qs rs : List TenantState) (before : 
       let calms = calm_then (refusals_of ps t) (refusals_of qs t) (refusals_of rs t) (first.grows t) (second.grows t) calm in
       subst (λ (k : Kept). P (kept_of ps t) k) (sym (stays t)) (met (before honest) calms.0)
 
+-- the groups had their part, and then the topics
+pub partly_both : (clock : ℕ) (k l m : Kept) → PassGroups clock k.groups l.groups → l.world ≡ k.world → PassTopics clock l.world m.world
+    → m.groups ≡ l.groups → PassesPartly clock k m
+partly_both clock k l m groups world topics stays = record {
+  topics = subst (λ w. PassTopics clock w m.world) world topics;
+  groups = subst (PassGroups clock k.groups) (sym stays) groups;
+}
+
 -- ---- a moment of all of them
 
--- Of the tenants before a place each to which nothing was refused keeps what a moment leaves; the others are as they were.
+-- Of the tenants before a place each keeps what a moment leaves, or, where something was refused to it, some of that; the others are as
+-- they were.
 pub record HavePassedTo (clock i : ℕ) (honest : Type 0) (old new : List TenantState) : Type 0 where
   pub names : names_of new ≡ names_of old
   pub grows : (u : ℕ) → refusals_of old u ≤ refusals_of new u
   pub kept : honest → (u : ℕ) → u < i → IsCalm (refusals_of old u) (refusals_of new u) → kept_of new u ≡ passed clock (kept_of old u)
   pub counts : (u : ℕ) → i ≤ u → refusals_of new u ≡ refusals_of old u
   pub rest : honest → (u : ℕ) → i ≤ u → kept_of new u ≡ kept_of old u
-  pub waits : honest → (u : ℕ) → AreTicked (kept_of old u).groups (kept_of new u).groups
+  pub partly : honest → (u : ℕ) → u < i → PassesPartly clock (kept_of old u) (kept_of new u)
 
 -- as many tenants as names
 pub length_named : (ps qs : List TenantState) → names_of qs ≡ names_of ps → length qs ≡ length ps
@@ -94,12 +104,12 @@ passed_none clock H ps = record {
   kept = λ honest u lt calm. absurd (omega (arith, lt));
   counts = λ u le. refl;
   rest = λ honest u le. refl;
-  waits = λ honest u k. (omega arith, omega arith);
+  partly = λ honest u lt. absurd (omega (arith, lt));
 }
 
 -- one tenant's turn
 module _ (clock i : ℕ) (H G : Type 0) (ps qs rs : List TenantState) (before : G → H) (done : HavePassedTo clock i H ps qs) (turn : IsTurn i G qs rs)
-    (met : IsMet i G qs rs (λ k l. l ≡ passed clock k)) (ticked : AreTicked (kept_of qs i).groups (kept_of rs i).groups) where
+    (met : IsMet i G qs rs (λ k l. l ≡ passed clock k)) (partly : G → PassesPartly clock (kept_of qs i) (kept_of rs i)) where
   next_kept : G → (u : ℕ) → u < i + 1 → IsCalm (refusals_of ps u) (refusals_of rs u) → kept_of rs u ≡ passed clock (kept_of ps u)
   next_kept honest u lt calm = ⊎_elim
       (λ (same : u ≡ i).
@@ -110,14 +120,12 @@ module _ (clock i : ℕ) (H G : Type 0) (ps qs rs : List TenantState) (before : 
       turn.others honest u ne ∙ done.kept (before honest) u (omega (arith, lt, ne)) (subst (λ n. IsCalm (refusals_of ps u) n) (turn.counts u ne) calm))
       (same_or_not u i)
 
-  next_waits : G → (u : ℕ) → AreTicked (kept_of ps u).groups (kept_of rs u).groups
-  next_waits honest u k = ⊎_elim
-      (λ (same : u ≡ i).
-      let now : AreTicked (kept_of qs u).groups (kept_of rs u).groups = subst (λ v. AreTicked (kept_of qs v).groups (kept_of rs v).groups) (sym same) ticked in
-      let first : AreTicked (kept_of ps u).groups (kept_of qs u).groups = done.waits (before honest) u in
-      let a = (now k).0 in let b = (first k).0 in let c = (now k).1 in let d = (first k).1 in
-      (omega (arith, a, b), omega (arith, c, d)))
-      (λ (ne : u ≡ i → ⊥). subst (λ (x : Kept). AreTicked (kept_of ps u).groups x.groups) (sym (turn.others honest u ne)) (done.waits (before honest) u) k)
+  next_partly : G → (u : ℕ) → u < i + 1 → PassesPartly clock (kept_of ps u) (kept_of rs u)
+  next_partly honest u lt = ⊎_elim
+      (λ (same : u ≡ i). subst (λ v. PassesPartly clock (kept_of ps v) (kept_of rs v)) (sym same)
+      (subst (λ k. PassesPartly clock k (kept_of rs i)) (done.rest (before honest) i (omega arith)) (partly honest)))
+      (λ (ne : u ≡ i → ⊥). subst (PassesPartly clock (kept_of ps u)) (sym (turn.others honest u ne))
+      (done.partly (before honest) u (omega (arith, lt, ne))))
       (same_or_not u i)
 
   pub passed_next : HavePassedTo clock (i + 1) G ps rs
@@ -127,7 +135,7 @@ module _ (clock i : ℕ) (H G : Type 0) (ps qs rs : List TenantState) (before : 
     kept = next_kept;
     counts = λ u le. turn.counts u (λ same. omega (arith, le, same)) ∙ done.counts u (omega (arith, le));
     rest = λ honest u le. turn.others honest u (λ same. omega (arith, le, same)) ∙ done.rest (before honest) u (omega (arith, le));
-    waits = next_waits;
+    partly = next_partly;
   }
 
   -- what disturbed a tenant before disturbs it still
@@ -145,14 +153,33 @@ module _ (clock i : ℕ) (H G : Type 0) (ps qs rs : List TenantState) (before : 
       disturbed
 
 -- behind the last tenant
-pub passed_over : (clock i : ℕ) (H : Type 0) (ps qs : List TenantState) → length ps ≤ i → HavePassedTo clock i H ps qs → HavePassed clock H ps qs
-passed_over clock i H ps qs le done = record {
-  names = done.names;
-  grows = done.grows;
-  kept = λ honest u calm. ⊎_elim
-      (λ lt. done.kept honest u lt calm)
-      (λ above.
-      done.rest honest u above ∙ sym (past_passed ps u clock (omega (arith, le, above))))
-      (below_or_not u i);
-  waits = done.waits;
+module _ (clock i : ℕ) (H : Type 0) (ps qs : List TenantState) (le : length ps ≤ i) (done : HavePassedTo clock i H ps qs) where
+  -- where there is none
+  over : H → (u : ℕ) → i ≤ u → kept_of qs u ≡ passed clock (kept_of ps u)
+  over honest u above = done.rest honest u above ∙ sym (past_passed ps u clock (omega (arith, le, above)))
+
+  all_partly : H → (u : ℕ) → PassesPartly clock (kept_of ps u) (kept_of qs u)
+  all_partly honest u = ⊎_elim
+      (λ lt. done.partly honest u lt)
+      (λ above. passes_all clock (kept_of ps u) (kept_of qs u) (over honest u above))
+      (below_or_not u i)
+
+  pub passed_over : HavePassed clock H ps qs
+  passed_over = record {
+    names = done.names;
+    grows = done.grows;
+    kept = λ honest u calm. ⊎_elim (λ lt. done.kept honest u lt calm) (over honest u) (below_or_not u i);
+    partly = all_partly;
+    waits = λ honest u. passed_told clock (kept_of ps u).groups (kept_of qs u).groups (all_partly honest u).groups;
+  }
+
+-- where nothing was due for any, all stays
+pub passed_idle : (clock : ℕ) (H : Type 0) (ps : List TenantState) → (H → (u : ℕ) → passed clock (kept_of ps u) ≡ kept_of ps u)
+    → HavePassed clock H ps ps
+passed_idle clock H ps idle = record {
+  names = refl;
+  grows = λ u. omega arith;
+  kept = λ honest u calm. sym (idle honest u);
+  partly = λ honest u. passes_all clock (kept_of ps u) (kept_of ps u) (sym (idle honest u));
+  waits = λ honest u k. (omega arith, omega arith);
 }

@@ -1,13 +1,11 @@
-use Rattle.std.proofs.Common.{◌+◌, ap, sym, subst, arith, to_z, of_z, w64}
+use Rattle.std.proofs.Common.{◌+◌, inl, inr, ap, arith, to_z, of_z, w64}
 use Rattle.std.proofs.lemmas.Int.{ints}
 use Rattle.std.specs.Prelude.{min}
 use Rattle.kb_tenant_state.specs.Counts.{END}
-use Rattle.kb_tenant_api.specs.Hosted.{Kept, kept_of}
-use Rattle.kb_tenant_api.specs.Waiters.{AreTicked}
-use Rattle.kb_tenant_api.proofs.WaitersServed.{passed_told}
-use Rattle.kb_tenants.specs.Tenants.{hosted}
+use Rattle.kb_tenant_api.specs.Hosted.{Kept}
+use Rattle.kb_tenant_api.specs.Turns.{PassGroups}
 use Rattle.kb_tenants.proofs.Causes.{counted_counted, counted_own}
-use Rattle.kb_tenants.proofs.Hosted.{groups_counted, kept_counted, kept_own, met_counted, met_own, stays_own, topics_counted, turn_counted}
+use Rattle.kb_tenants.proofs.Hosted.{groups_counted, kept_counted, kept_own, met_counted, met_own, passed_own, stays_own, topics_counted, turn_counted}
 use Rattle.kb_tenants.proofs.tenants.Tenants.pass_groups.Goals as goal
 
 -- ---- nothing was due
@@ -28,12 +26,11 @@ returns-in_default-clause-topics g c =
     ap (λ (k : Kept). k.world) (stays_own g.L.PartitionLog.log g.S.Store.disk g.met.L.PartitionLog.lawful c.args.self.now c.args.tenant c.index_mut-one.result.now c.pass.new.self
     c.requires.tenant c.index_mut-one.ensures.value c.requires.invariant c.in_default.ensures.none.1 c.args.tenant)
 
-pub returns-in_default-clause-waits : goal.returns-in_default-clause-waits
-returns-in_default-clause-waits g c =
-    let same = stays_own g.L.PartitionLog.log g.S.Store.disk g.met.L.PartitionLog.lawful c.args.self.now c.args.tenant c.index_mut-one.result.now c.pass.new.self
-    c.requires.tenant c.index_mut-one.ensures.value c.requires.invariant c.in_default.ensures.none.1 c.args.tenant in
-    let was = kept_of (hosted g.L.PartitionLog.log g.S.Store.disk c.args.self.now) c.args.tenant in
-    subst (λ (k : Kept). AreTicked was.groups k.groups) (sym same) (λ k. (omega arith, omega arith))
+pub returns-in_default-clause-partly : goal.returns-in_default-clause-partly
+returns-in_default-clause-partly g c =
+    inl (passed_own g.L.PartitionLog.log g.S.Store.disk g.met.L.PartitionLog.lawful c.args.self.now c.args.tenant c.index_mut-one.result.now c.pass.new.self
+    c.requires.tenant c.index_mut-one.ensures.value c.requires.invariant c.in_default.ensures.none.1
+    c.args.clock c.in_default.ensures.none.0)
 
 pub returns-in_default-clause-accounted : goal.returns-in_default-clause-accounted
 returns-in_default-clause-accounted g c =
@@ -42,12 +39,12 @@ returns-in_default-clause-accounted g c =
 
 -- ---- a moment
 
-pub returns-clause-waits : goal.returns-clause-waits
-returns-clause-waits g c =
+pub returns-clause-partly : goal.returns-clause-partly
+returns-clause-partly g c =
     groups_counted g.L.PartitionLog.log g.S.Store.disk g.met.L.PartitionLog.lawful c.args.self.now c.args.tenant c.index_mut-one.result.now c.pass.new.self
     c.requires.tenant c.index_mut-one.ensures.value c.requires.invariant c.count.new.parts
     (min (c.refusals-before.result + c.in-Some.refused) END) c.count.ensures
-    AreTicked (passed_told c.args.clock c.index_mut-one.result.now.groups c.pass.new.self c.in-Some.refused c.in-Some.ensures.groups)
+    (PassGroups c.args.clock) (inr (c.in-Some.refused, c.in-Some.ensures.groups, c.pass.ensures.members, c.pass.ensures.limits))
 
 pub returns-clause-topics : goal.returns-clause-topics
 returns-clause-topics g c =

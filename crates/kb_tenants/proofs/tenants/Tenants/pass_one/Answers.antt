@@ -2,14 +2,14 @@ use Rattle.std.proofs.Common.{◌≡◌, ◌<◌, ◌∙◌, ◌++◌, inr, ap, 
 use Rattle.std.specs.Prelude.{Contains}
 use Rattle.std.proofs.lemmas.List.Elements.{Contains-append_left}
 use Rattle.kb_tenant_api.specs.Hosted.{Kept, kept_of, passed}
-use Rattle.kb_tenant_api.specs.Waiters.{AreTicked}
+use Rattle.kb_tenant_api.specs.Turns.{PassesPartly}
 use Rattle.kb_tenants.specs.Tenants.{answered_connections, hosted, shelf_is_honest}
 use Rattle.kb_log.specs.Shelf.{Shelved}
 use Rattle.kb_tenants.specs.Counts.{counts_of}
 use Rattle.kb_tenants.proofs.Causes.{counted_then}
 use Rattle.kb_tenants.proofs.Alone.{alone_since, alone_still, honest_before}
 use Rattle.kb_tenants.proofs.Answered.{quiet_listed, quiet_turn}
-use Rattle.kb_tenants.proofs.Passed.{disturbed_both, length_named, loud_both, met_both, met_still, turn_both, turn_where}
+use Rattle.kb_tenants.proofs.Passed.{disturbed_both, length_named, loud_both, met_both, met_still, partly_both, turn_both, turn_where}
 use Rattle.kb_tenants.proofs.tenants.Tenants.pass_one.Goals as goal
 
 pub list_answered-requires-clause-tenant : goal.list_answered-requires-clause-tenant
@@ -36,15 +36,19 @@ returns-then-not-regrouped-clause-meets g c =
     met_both c.args.clock c.args.tenant (shelf_is_honest disk mid) (shelf_is_honest disk new) (seen c.args.self.now) (seen mid) (seen new) c.retain_one.ensures.honest
     c.pass_groups-regrouped.ensures.turn c.retain_one.ensures.turn c.retain_one.result c.pass_groups-regrouped.ensures.meets c.retain_one.ensures.meets
 
-pub returns-then-retain_one-clause-waits : goal.returns-then-retain_one-clause-waits
-returns-then-retain_one-clause-waits g c =
+pub returns-then-retain_one-clause-partly : goal.returns-then-retain_one-clause-partly
+returns-then-retain_one-clause-partly g c = λ honest.
+    let t = c.args.tenant in
     let seen = hosted g.L.PartitionLog.log g.S.Store.disk in
-    subst (AreTicked (kept_of (seen c.args.self.now) c.args.tenant).groups) (sym c.retain_one.ensures.groups) c.pass_groups-regrouped.ensures.waits
+    partly_both c.args.clock (kept_of (seen c.args.self.now) t) (kept_of (seen c.pass_groups-regrouped.new.self) t) (kept_of (seen c.retain_one.new.self) t)
+    c.pass_groups-regrouped.ensures.partly c.pass_groups-regrouped.ensures.topics (c.retain_one.ensures.partly honest) c.retain_one.ensures.groups
 
-pub returns-then-not-regrouped-clause-waits : goal.returns-then-not-regrouped-clause-waits
-returns-then-not-regrouped-clause-waits g c =
+pub returns-then-not-regrouped-clause-partly : goal.returns-then-not-regrouped-clause-partly
+returns-then-not-regrouped-clause-partly g c = λ honest.
+    let t = c.args.tenant in
     let seen = hosted g.L.PartitionLog.log g.S.Store.disk in
-    subst (AreTicked (kept_of (seen c.args.self.now) c.args.tenant).groups) (sym c.retain_one.ensures.groups) c.pass_groups-regrouped.ensures.waits
+    partly_both c.args.clock (kept_of (seen c.args.self.now) t) (kept_of (seen c.pass_groups-regrouped.new.self) t) (kept_of (seen c.retain_one.new.self) t)
+    c.pass_groups-regrouped.ensures.partly c.pass_groups-regrouped.ensures.topics (c.retain_one.ensures.partly honest) c.retain_one.ensures.groups
 
 pub returns-then-retain_one-clause-left_alone : goal.returns-then-retain_one-clause-left_alone
 returns-then-retain_one-clause-left_alone g c =
@@ -199,7 +203,14 @@ returns-else-not-regrouped-clause-unsure g c = λ no honest.
     let last = turn_where t (shelf_is_honest disk new) (seen ret) (seen new) c.list_answered.ensures.turn in
     inr (loud_both c.args.clock t (shelf_is_honest disk ret) (shelf_is_honest disk new) (seen old) (seen ret) (seen new) before both last (c.list_answered.ensures.counted no))
 
-pub returns-else-not-regrouped-clause-waits : goal.returns-else-not-regrouped-clause-waits
-returns-else-not-regrouped-clause-waits g c =
-    let seen = hosted g.L.PartitionLog.log g.S.Store.disk in
-    subst (AreTicked (kept_of (seen c.args.self.now) c.args.tenant).groups) (sym (ap (λ (k : Kept). k.groups) (c.list_answered.ensures.stays c.args.tenant) ∙ c.retain_one.ensures.groups)) c.pass_groups-regrouped.ensures.waits
+pub returns-else-not-regrouped-clause-partly : goal.returns-else-not-regrouped-clause-partly
+returns-else-not-regrouped-clause-partly g c = λ honest.
+    let disk = g.S.Store.disk in
+    let t = c.args.tenant in
+    let old = c.args.self.now in
+    let ret = c.retain_one.new.self in
+    let seen = hosted g.L.PartitionLog.log disk in
+    let before = honest_before disk old ret c.list_answered.new.self c.list_answered.ensures.shelf honest in
+    subst (PassesPartly c.args.clock (kept_of (seen old) t)) (sym (c.list_answered.ensures.stays t))
+    (partly_both c.args.clock (kept_of (seen old) t) (kept_of (seen c.pass_groups-regrouped.new.self) t) (kept_of (seen ret) t)
+    c.pass_groups-regrouped.ensures.partly c.pass_groups-regrouped.ensures.topics (c.retain_one.ensures.partly before) c.retain_one.ensures.groups)

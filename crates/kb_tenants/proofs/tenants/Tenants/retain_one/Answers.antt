@@ -2,12 +2,15 @@ use Rattle.std.proofs.Common.{◌≡◌, ◌∙◌, ◌+◌, ◌-◌, ap, refl, 
 use Rattle.std.proofs.lemmas.Int.{ints}
 use Rattle.std.specs.Prelude.{min}
 use Rattle.kb_tenant_state.specs.Counts.{END}
+use Rattle.kb_tenant_state.specs.Parts.{scene}
 use Rattle.kb_tenant_api.specs.Hosted.{kept_in}
+use Rattle.kb_tenant_api.specs.Turns.{PassTopics}
+use Rattle.kb_tenant_api.proofs.Moments.{retained_told}
 use Rattle.kb_tenants.specs.Counts.{with_store}
 use Rattle.kb_tenants.specs.Tenants.{drops, retained}
 use Rattle.kb_tenants.proofs.Causes.{counted_called}
 use Rattle.kb_tenants.proofs.Change.{called}
-use Rattle.kb_tenants.proofs.Hosted.{alone_called, sound_here, groups_called, kept_called, turn_called, met_called, stays_called}
+use Rattle.kb_tenants.proofs.Hosted.{alone_called, sound_here, groups_called, kept_called, topics_called, turn_called, met_called, stays_called}
 use Rattle.kb_tenants.proofs.tenants.Tenants.retain_one.Goals as goal
 
 pub retain_all-dropped-requires-clause-sound : goal.retain_all-dropped-requires-clause-sound
@@ -38,6 +41,15 @@ returns-clause-meets g c =
     c.requires.tenant c.index_mut-one.ensures.value c.requires.invariant c.retain_all-dropped.new.self c.count.new.parts (min (c.refusals-before.result + (c.failures.result - c.failures-failures.result)) END) c.index_mut-one.result.now.groups c.add_store.new.self c.retain_all-dropped.new.shelf c.count.ensures (called c.retain_all-dropped.ensures.step)
     (λ k l. (l ≡ retained c.args.clock k) × (c.retain_all-dropped.result ≡ drops c.args.clock k))
     (λ honest agree calm. let done = c.retain_all-dropped.ensures.meets honest agree calm in (ap (λ r. kept_in r.0 c.index_mut-one.result.now.groups) done, ap (λ r. r.1) done))
+
+pub returns-clause-partly : goal.returns-clause-partly
+returns-clause-partly g c =
+    let mid = c.retain_all-dropped.new in
+    topics_called g.L.PartitionLog.log g.S.Store.disk g.met.L.PartitionLog.lawful c.args.self.now c.args.tenant c.index_mut-one.result.now
+    c.requires.tenant c.index_mut-one.ensures.value c.requires.invariant mid.self c.count.new.parts (min (c.refusals-before.result + (c.failures.result - c.failures-failures.result)) END) c.index_mut-one.result.now.groups c.add_store.new.self mid.shelf c.count.ensures (called c.retain_all-dropped.ensures.step)
+    (PassTopics c.args.clock)
+    (retained_told (scene g.L.PartitionLog.log g.S.Store.disk c.index_mut-one.result.now.parts c.args.self.now.shelf)
+    (scene g.L.PartitionLog.log g.S.Store.disk mid.self mid.shelf) c.args.clock c.retain_all-dropped.result c.retain_all-dropped.ensures.told)
 
 pub returns-clause-stays : goal.returns-clause-stays
 returns-clause-stays g c = λ none.

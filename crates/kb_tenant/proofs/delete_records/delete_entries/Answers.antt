@@ -117,17 +117,17 @@ returns-in_err-write-clause-cut g c =
     let e = get_or entries i none in
     let reply = c.delete_entry-reply.result in
     let is : WhereHonest a d (AreFirstServed (IsTrimTold (CatalogFailed a d) c.args.topic) start entries q) = λ honest agree.
-        let both = honest_then a b d _ _ first second c.loop-entry.invariant.answers
-        (trim_told_so b d c.loop-entry.touched.items c.delete_entry-reply.new.touched.items c.args.topic e reply second
-        c.delete_entry-reply.ensures.told) honest agree in
-        let earlier = both.0 in (
-          i + 1,
-          (
-            earlier.0 ++ reply ∷ [],
-            served_next (IsTrimTold (CatalogFailed a d) c.args.topic) start p q entries i e earlier.0 reply c.loop-entry-test.true
-                (get_or_any entries i none e c.loop-entry-test.true)
-                (trims_before a b d second c.args.topic (take i entries) start p earlier.0 earlier.1.1)
-                (trim_behind a b d first c.args.topic p e q reply both.1),
-          ),
-        ) in
+    let both = honest_then a b d _ _ first second c.loop-entry.invariant.answers
+    (trim_told_so b d c.loop-entry.touched.items c.delete_entry-reply.new.touched.items c.args.topic e reply second
+    c.delete_entry-reply.ensures.told) honest agree in
+    let earlier = both.0 in (
+      i + 1,
+      (
+        earlier.0 ++ reply ∷ [],
+        served_next (IsTrimTold (CatalogFailed a d) c.args.topic) start p q entries i e earlier.0 reply c.loop-entry-test.true
+            (get_or_any entries i none e c.loop-entry-test.true)
+            (trims_before a b d second c.args.topic (take i entries) start p earlier.0 earlier.1.1)
+            (trim_behind a b d first c.args.topic p e q reply both.1),
+      ),
+    ) in
     on_err _ is

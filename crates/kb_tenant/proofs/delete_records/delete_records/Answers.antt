@@ -127,7 +127,7 @@ returns-in_err-put_i32-clause-cut g c =
     let a = scene g.L.PartitionLog.log g.S.Store.disk c.args.parts.now c.args.shelf.now in
     let start : World × List TopicPartition = (a.state.world, c.args.touched.now.items) in
     let is : WhereHonest a a (AreTrimsCut (CatalogFailed a a) start c.args.request.now start) = λ honest agree.
-        trims_none (CatalogFailed a a) start c.args.request.now in
+    trims_none (CatalogFailed a a) start c.args.request.now in
     on_err _ is
 
 pub returns-in_err-put_count-clause-cut : goal.returns-in_err-put_count-clause-cut
@@ -135,7 +135,7 @@ returns-in_err-put_count-clause-cut g c =
     let a = scene g.L.PartitionLog.log g.S.Store.disk c.args.parts.now c.args.shelf.now in
     let start : World × List TopicPartition = (a.state.world, c.args.touched.now.items) in
     let is : WhereHonest a a (AreTrimsCut (CatalogFailed a a) start c.args.request.now start) = λ honest agree.
-        trims_none (CatalogFailed a a) start c.args.request.now in
+    trims_none (CatalogFailed a a) start c.args.request.now in
     on_err _ is
 
 pub returns-in_err-delete_in_topic-clause-cut : goal.returns-in_err-delete_in_topic-clause-cut
@@ -154,11 +154,11 @@ returns-in_err-delete_in_topic-clause-cut g c =
     let i = c.loop-topic.topic-index in
     let t = c.topic-item.result in
     let is : WhereHonest a d (AreTrimsCut (CatalogFailed a d) start c.args.request.now q) = λ honest agree.
-        let both = honest_then a b d _ _ first second c.loop-topic.invariant.answers c.in_err-delete_in_topic.ensures.cut honest agree in
-        let earlier = both.0 in
-        into_next (IsTrimTopicTold (CatalogFailed a d)) (IsTrimTopicCut (CatalogFailed a d)) start p q topics i t earlier.0
-        (subst (λ ts. i < length ts) c.as_slice-topic-items.ensures c.loop-topic-test.true)
-        (c.topic-item.is ∙ ap (λ ts. get_or ts i t) c.as_slice-topic-items.ensures)
-        (trim_topics_before a b d second (take i topics) start p earlier.0 earlier.1.1)
-        (trim_cut_behind a b d first p t q both.1) in
+    let both = honest_then a b d _ _ first second c.loop-topic.invariant.answers c.in_err-delete_in_topic.ensures.cut honest agree in
+    let earlier = both.0 in
+    into_next (IsTrimTopicTold (CatalogFailed a d)) (IsTrimTopicCut (CatalogFailed a d)) start p q topics i t earlier.0
+    (subst (λ ts. i < length ts) c.as_slice-topic-items.ensures c.loop-topic-test.true)
+    (c.topic-item.is ∙ ap (λ ts. get_or ts i t) c.as_slice-topic-items.ensures)
+    (trim_topics_before a b d second (take i topics) start p earlier.0 earlier.1.1)
+    (trim_cut_behind a b d first p t q both.1) in
     on_err _ is

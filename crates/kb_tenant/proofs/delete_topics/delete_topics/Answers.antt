@@ -152,16 +152,18 @@ returns-in_err-write-clause-cut g c =
     let first = c.loop-name.invariant.step in
     let second = c.delete_topic.ensures.step in
     let is : WhereHonest a d (AreRemovalsCut (CatalogFailed a d) start c.args.request.now q) = λ honest agree.
-        let both = honest_then a b d _ _ first second c.loop-name.invariant.answers
-        (removal_told_so b d c.loop-name.touched.items c.delete_topic.new.touched.items t c.as_str-name.result.now c.new.result
-        c.delete_topic.result reply.error_code second c.as_str-name.ensures c.new.ensures sent c.delete_topic.ensures.answered)
-        honest agree in
-        let before = both.0 in
-        subst (λ (xs : List (List ℕ)). AreFirstServed (IsRemovalTold (CatalogFailed a d)) start xs q) c.as_slice-names.ensures
-        (i + 1, (
-          before.0 ++ reply ∷ [],
-          served_next (IsRemovalTold (CatalogFailed a d)) start p q names i t before.0 reply c.loop-name-test.true c.name-item.is
-              (removals_before a b d second (take i names) start p before.0 before.1.1)
-              (removal_behind a b d first p t q reply both.1),
-        )) in
+    let both = honest_then a b d _ _ first second c.loop-name.invariant.answers
+    (removal_told_so b d c.loop-name.touched.items c.delete_topic.new.touched.items t c.as_str-name.result.now c.new.result
+    c.delete_topic.result reply.error_code second c.as_str-name.ensures c.new.ensures sent c.delete_topic.ensures.answered)
+    honest agree in
+    let before = both.0 in
+    subst (λ (xs : List (List ℕ)). AreFirstServed (IsRemovalTold (CatalogFailed a d)) start xs q) c.as_slice-names.ensures (
+      i + 1,
+      (
+        before.0 ++ reply ∷ [],
+        served_next (IsRemovalTold (CatalogFailed a d)) start p q names i t before.0 reply c.loop-name-test.true c.name-item.is
+            (removals_before a b d second (take i names) start p before.0 before.1.1)
+            (removal_behind a b d first p t q reply both.1),
+      ),
+    ) in
     on_err _ is

@@ -67,12 +67,12 @@ returns-in_err-delete_records-clause-cut g c =
     let end : World × List TopicPartition = (b.state.world, touched) in
     let is : WhereHonest a b (AcknowledgesDeletions (CatalogFailed a b) c.args.limit request.correlation_id a.state.world
     request.body.now b.state.world touched answers.Shut) = λ honest agree.
-        let cut = subst (λ (places : List TopicPartition). AreTrimsCut (CatalogFailed a b) (a.state.world, places) asked end)
-        c.requires.untouched (c.in_err-delete_records.ensures.cut honest agree) in (
-          λ q read.
-              let both : Ok asked ≡ Ok q = sym c.in_ok-asked.ensures.spelled ∙ read in
-              let one : asked ≡ q = cc in
-              subst (λ x. AreTrimsCut (CatalogFailed a b) start x end) one cut,
-          subst (λ r. OnErr r (IsTurnedAway a.state.world b.state.world touched answers.Shut)) (sym c.in_ok-asked.ensures.exact) tt,
-        ) in
+    let cut = subst (λ (places : List TopicPartition). AreTrimsCut (CatalogFailed a b) (a.state.world, places) asked end)
+    c.requires.untouched (c.in_err-delete_records.ensures.cut honest agree) in (
+      λ q read.
+          let both : Ok asked ≡ Ok q = sym c.in_ok-asked.ensures.spelled ∙ read in
+          let one : asked ≡ q = cc in
+          subst (λ x. AreTrimsCut (CatalogFailed a b) start x end) one cut,
+      subst (λ r. OnErr r (IsTurnedAway a.state.world b.state.world touched answers.Shut)) (sym c.in_ok-asked.ensures.exact) tt,
+    ) in
     on_err _ is

@@ -250,3 +250,24 @@ module _ (a b : Scene Seen) (node : Node) (clock : ℕ) (request : Request) (tou
     looked_up = λ looks. inr refl;
     stays = λ reads. same;
   }
+
+  -- What is told of a request whose connection is shut.
+  pub shut_told : (request.api_key ≡ PRODUCE → b.state.world ≡ a.state.world) → (OnlyReads request.api_key → b.state.world ≡ a.state.world)
+      → (request.api_key ≡ DELETE_TOPICS → AcknowledgesRemovals (CatalogFailed a b) node.limits.request_entries request.correlation_id
+      request.api_version a.state.world request.body.now b.state.world touched answers.Shut)
+      → (request.api_key ≡ DELETE_RECORDS → AcknowledgesDeletions (CatalogFailed a b) node.limits.request_entries request.correlation_id
+      a.state.world request.body.now b.state.world touched answers.Shut)
+      → IsToldOf a b node clock request touched answers.Shut
+  shut_told spared stays removals trims = record {
+    produced = λ also q read. tt;
+    spared = λ also. inl (spared also);
+    fetched = λ also q read. tt;
+    listed = λ also q read. tt;
+    created = λ also q read made. tt;
+    removed = removals;
+    trimmed = trims;
+    issued = λ also q read. tt;
+    committed = λ also q read. tt;
+    looked_up = λ looks. inr refl;
+    stays = stays;
+  }

@@ -1,6 +1,5 @@
 -- Requests whose connection is shut when their first entries were served.
 use Rattle.std.proofs.Common.{◌≡◌, ◌∙◌, ap, refl, sym, subst, ℕ, ℤ, ◌+◌, ◌<◌, List, [], ◌∷◌, ◌++◌, Option, length, take, drop, get_or}
-use Rattle.std.specs.Prelude.{Ok, OnErr}
 use Rattle.std.proofs.Math.Seq.{drop-length, take-length}
 use Rattle.std.proofs.lemmas.List.{drop_more}
 use Rattle.kb_wire.specs.Codec.{whole}
@@ -17,7 +16,7 @@ use Rattle.kb_topics.specs.Known.{named}
 use Rattle.kb_tenant.specs.Entries.{delete_records_entries, delete_topics_entries, within}
 use Rattle.kb_tenant.specs.Replies.{begun, IsAnswer, Replies}
 use Rattle.kb_tenant.specs.Told.{AcknowledgesDeletions, AcknowledgesRemovals, AreTrimsCut, CatalogFailed, IsRepliedOrCut, IsTrimTold}
-use Rattle.kb_tenant.specs.Told.{IsTrimTopicCut, IsTrimTopicTold, IsTurnedAway}
+use Rattle.kb_tenant.specs.Told.{IsTrimTopicCut, IsTrimTopicTold}
 use Rattle.kb_tenant.specs.Turns.{AreFirstServed, AreServed, AreServedInto, IsNextServed}
 use Rattle.kb_tenant.specs.declared.answer.Answer.{Answer}
 use Rattle.kb_tenant.specs.declared.answer.Answer.TheVariants as answers

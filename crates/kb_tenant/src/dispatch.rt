@@ -373,6 +373,7 @@ fn serve_by_key<L: PartitionLog + Drop, S: Store>(
     ensures shut { let a = scene L.log S.disk parts.old shelf.old in let b = scene L.log S.disk parts.new shelf.new in
         request.now.api_key ≡ PRODUCE →
         IfOk result (λ answer. IsSpared request.now.api_version a.state.world request.now.body.now b.state.world answer) }
+    // a DeleteTopics or a DeleteRecords that is refused did its first entries, and nothing else
     ensures removals { let a = scene L.log S.disk parts.old shelf.old in let b = scene L.log S.disk parts.new shelf.new in
         request.now.api_key ≡ DELETE_TOPICS → OnErr result (WhereHonest a b (AcknowledgesRemovals (CatalogFailed a b)
         node.now.limits.request_entries request.now.correlation_id request.now.api_version a.state.world request.now.body.now
@@ -407,8 +408,8 @@ fn serve_by_key<L: PartitionLog + Drop, S: Store>(
 /// A body that is not the API's, one that names more entries than the tenant's limit allows, a key that is not a tenant's and a
 /// reply whose size does not fit an INT32 shut the connection. So does a reply of Metadata, OffsetFetch or DescribeConfigs that is past
 /// the tenant's limit. So does want of memory for the read request, the reply or the wait, which is counted; changes that were made stay. A
-/// Produce makes none before it has the memory for its whole reply. The host is to fit a STRING, and the clock is at most 2^62, in
-/// milliseconds.
+/// Produce makes none before it has the memory for its whole reply, and a DeleteTopics or a DeleteRecords those of its first entries. The
+/// host is to fit a STRING, and the clock is at most 2^62, in milliseconds.
 pub fn serve<L: PartitionLog + Drop, S: Store>(
     alloc: Global,
     parts: &mut Parts<L>,
@@ -427,7 +428,7 @@ pub fn serve<L: PartitionLog + Drop, S: Store>(
         request.now.body.now)
         b.state.world result.touched.items result.answer) }
     // What is answered with no error is done, and of what is fetched or listed each partition has what is defined, or the code of what
-    // refused it, whatever was refused.
+    // refused it, whatever was refused. A DeleteTopics or a DeleteRecords that is shut did its first entries, and nothing else.
     ensures told { let a = scene L.log S.disk parts.old shelf.old in let b = scene L.log S.disk parts.new shelf.new in
         WhereHonest a b (IsTruthful (HasFailed a b) (IsLogFull b) node.now clock request.now.connection request.now.api_key
         request.now.api_version request.now.correlation_id request.now.body.now a.state.world b.state.world result.touched.items

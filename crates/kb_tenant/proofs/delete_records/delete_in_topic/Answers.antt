@@ -1,6 +1,5 @@
-use Rattle.std.proofs.Common.{◌∙◌, List, Option, ap, subst}
+use Rattle.std.proofs.Common.{◌∙◌, List, ap, subst}
 use Rattle.std.proofs.lemmas.Result.{on_err_weaker, on_ok_weaker}
-use Rattle.kb_api_data.specs.declared.delete_records.DeleteRecordsPartition.{DeleteRecordsPartition}
 use Rattle.kb_topics.specs.Known.{named}
 use Rattle.kb_tenant_state.specs.Parts.{scene}
 use Rattle.kb_tenant_state.specs.Steps.{meets_so}

@@ -18,7 +18,15 @@ module _ (H G : Type 0) (clock place : ℕ) (ts us vs : List TenantState) (back 
     grows = λ u. (let first = passed.grows u in let then = turn.grows u in omega (arith, first, then));
     kept = λ honest u calm. stays honest u
         ∙ passed.kept (back honest) u (calm_then (refusals_of ts u) (refusals_of us u) (refusals_of vs u) (passed.grows u) (turn.grows u) calm).0;
-    partly = λ honest u. subst (PassesPartly clock (kept_of ts u)) (sym (stays honest u)) (passed.partly (back honest) u);
+    partly = λ honest u.
+        let part = passed.partly (back honest) u in
+        subst (PassesPartly clock (refusals_of ts u) (refusals_of vs u) (kept_of ts u)) (sym (stays honest u)) (record {
+          of_groups = part.of_groups;
+          of_topics = part.of_topics;
+          groups = part.groups;
+          topics = part.topics;
+          counted = (let first = part.counted in let then = turn.grows u in omega (arith, first, then));
+        });
     waits = λ honest u. subst (λ k. AreTicked (kept_of ts u).groups k.groups) (sym (stays honest u)) (passed.waits (back honest) u);
   }
 

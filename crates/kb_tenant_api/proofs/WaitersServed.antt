@@ -290,13 +290,13 @@ after_told node w clock gs n key version body answer new (inr (inl stays)) = sub
 after_told node w clock gs n key version body answer new (inr (inr gone)) = fewer_served n true gs new gone.1
 
 -- a moment of the groups, whatever was refused
-pub passed_told : (clock : ℕ) (old new : Groups) → PassGroups clock old new → AreTicked old new
-passed_told clock old new (inl is) = subst (AreTicked old) (sym is) (by (is_due clock old))
+pub passed_told : (clock refused : ℕ) (old new : Groups) → PassGroups clock refused old new → AreTicked old new
+passed_told clock refused old new (inl (none, is)) = subst (AreTicked old) (sym is) (by (is_due clock old))
   where
     by : (b : Bool) → AreTicked old (if b then at_moment clock old else old)
     by true = λ k. let less = moment_told k clock old.groups in (omega (arith, less), omega (arith, less))
     by false = λ k. (omega arith, omega arith)
-passed_told clock old new (inr (refused, ticks, members, limits)) = λ k.
+passed_told clock refused old new (inr (ticks, members, limits)) = λ k.
     let less = ticks_told clock old.groups new.groups new.released refused ticks k in (omega (arith, less), omega (arith, less))
 
 -- on the request's connection no member more waits, as long as it comes to no wait

@@ -1,12 +1,12 @@
 -- What a call for one of a broker's tenants leaves of all of them.
-use Rattle.std.specs.Prelude.{◌≡◌, ◌≤◌, ◌+◌, ◌⊎◌, ◌==◌, ◌&&◌, ℕ, zero, suc, List, [], ◌∷◌, Bool, true, if◌then◌else◌}
+use Rattle.std.specs.Prelude.{◌≡◌, ◌≤◌, ◌+◌, ◌⊎◌, ◌==◌, ◌&&◌, ℕ, zero, suc, List, [], ◌∷◌, length, Bool, true, if◌then◌else◌}
 use Rattle.std.specs.List.{sum_by}
 use Rattle.std.specs.Str.{bytes_eq}
 use Rattle.kb_coordinator.specs.Calls as groups
 use Rattle.kb_coordinator.specs.Groups.{Groups}
 use Rattle.kb_tenant_state.specs.Calls.{all_places}
-use Rattle.kb_tenant_state.specs.Counts.{END, IsCalm}
-use Rattle.kb_tenant_state.specs.Retained.{some_retained}
+use Rattle.kb_tenant_state.specs.Counts.{END, IsCalm, counted_by}
+use Rattle.kb_tenant_state.specs.Retained.{some_retained, unmarked}
 use Rattle.kb_tenant_state.specs.World.{World}
 use Rattle.kb_tenant_api.specs.Waiters.{AreTicked}
 use Rattle.kb_tenant_api.specs.Hosted.{TenantState, passed, refusals_of, Kept, kept_of, names_of}
@@ -32,30 +32,35 @@ IsMet t honest old new P = honest → IsCalm (refusals_of old t) (refusals_of ne
 
 -- ---- a moment of all of them
 
--- Some groups after a moment, whatever memory was refused: all had it, if anything was due. Or each had it, and those who waited are told
--- what these give; or it is as it was.
-abbrev pub PassGroups : ℕ → Groups → Groups → Type 0
-PassGroups clock old new = (new ≡ groups.passed clock old)
-    ⊎ ((refused : ℕ) × groups.Ticks clock old.groups new.groups new.released refused
-    × (new.members ≡ old.members) × (new.limits ≡ old.limits))
+-- Some groups after a moment in which that many were refused memory: all had it, if anything was due. Or each had it, and those who waited
+-- are told what these give; or it is as it was.
+abbrev pub PassGroups : (clock refused : ℕ) (old new : Groups) → Type 0
+PassGroups clock refused old new = ((refused ≡ 0) × (new ≡ groups.passed clock old))
+    ⊎ (groups.Ticks clock old.groups new.groups new.released refused × (new.members ≡ old.members) × (new.limits ≡ old.limits))
 
--- Some topics after it: the partitions in turn, by topic name and number, had their part of retention, or are as they were.
-abbrev pub PassTopics : ℕ → World → World → Type 0
-PassTopics clock old new = (marks : List Bool) × (new ≡ (some_retained clock marks (all_places old) old).0)
+-- Some topics after it, where there were so many refusals: each partition in turn, by topic name and number, had its part of retention, or
+-- was refused it and is as it was. Or the list of them was refused memory, and all are as they were.
+abbrev pub PassTopics : (clock refused : ℕ) (old new : World) → Type 0
+PassTopics clock refused old new = ((marks : List Bool) × (length marks ≡ length (all_places old)) × (unmarked marks ≤ refused)
+    × (new ≡ (some_retained clock marks (all_places old) old).0)) ⊎ ((1 ≤ refused) × (new ≡ old))
 
--- What a tenant keeps after a moment, whatever was refused: each of its groups and of its partitions had its part of it, or is as it was.
-pub record PassesPartly (clock : ℕ) (old new : Kept) : Type 0 where
-  pub topics : PassTopics clock old.world new.world
-  pub groups : PassGroups clock old.groups new.groups
+-- What a tenant keeps after a moment, whatever was refused, and its count of refusals: each of its groups and of its partitions had its part
+-- of the moment, or was refused it, which was counted, and is as it was.
+pub record PassesPartly (clock before after : ℕ) (old new : Kept) : Type 0 where
+  pub of_groups : ℕ
+  pub of_topics : ℕ
+  pub groups : PassGroups clock of_groups old.groups new.groups
+  pub topics : PassTopics clock of_topics old.world new.world
+  pub counted : counted_by (of_groups + of_topics) before ≤ after
 
 -- Names stay, and counts only rise; and on an honest store each to which nothing was refused keeps what a moment leaves at that time. Of
--- each, whatever was refused, each group and each partition had its part of the moment or is as it was; and no member more waits on any
--- connection, nor one who was answered.
+-- each, whatever was refused, each group and each partition had its part of the moment or was refused it, which was counted, and is as it
+-- was; and no member more waits on any connection, nor one who was answered.
 pub record HavePassed (clock : ℕ) (honest : Type 0) (old new : List TenantState) : Type 0 where
   pub names : names_of new ≡ names_of old
   pub grows : (u : ℕ) → refusals_of old u ≤ refusals_of new u
   pub kept : honest → (u : ℕ) → IsCalm (refusals_of old u) (refusals_of new u) → kept_of new u ≡ passed clock (kept_of old u)
-  pub partly : honest → (u : ℕ) → PassesPartly clock (kept_of old u) (kept_of new u)
+  pub partly : honest → (u : ℕ) → PassesPartly clock (refusals_of old u) (refusals_of new u) (kept_of old u) (kept_of new u)
   pub waits : honest → (u : ℕ) → AreTicked (kept_of old u).groups (kept_of new u).groups
 
 -- ---- counts

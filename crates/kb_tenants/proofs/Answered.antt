@@ -1,6 +1,6 @@
 -- Whom the groups of a tenant answered.
 use Rattle.std.proofs.Common.{◌≡◌, ◌∙◌, ℕ, suc, Bool, true, false, ◌&&◌, List, [], ◌∷◌, ◌++◌, map, Some, nat_eq, if◌then◌else◌, inl, inr, refl, sym, ap, subst, arith}
-use Rattle.std.specs.Prelude.{Contains, Result, Ok, Err, OnOk, is_ok, ◌⊎◌}
+use Rattle.std.specs.Prelude.{Contains, Result, Ok, Err, OnOk, is_ok, not, ◌⊎◌}
 use Rattle.std.proofs.lemmas.List.Elements.{Contains-append_right}
 use Rattle.std.proofs.lemmas.Bool.Decides.{nat_tests}
 use Rattle.kb_coordinator.specs.Calls.{reply_among}
@@ -74,3 +74,7 @@ both false b e = absurd cc
 pub not_both : (a b : Bool) → (a && b) ≡ false → (a ≡ false) ⊎ (b ≡ false)
 not_both true b e = inr e
 not_both false b e = inl refl
+
+pub not_so : (b : Bool) → not b ≡ true → b ≡ false
+not_so true e = absurd cc
+not_so false e = refl

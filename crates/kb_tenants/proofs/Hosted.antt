@@ -17,7 +17,7 @@ use Rattle.kb_log.specs.OnShelf.{Log, IsLawfulLog}
 use Rattle.kb_log.specs.Shelf.{Shelved}
 use Rattle.kb_tenant_state.specs.Scene.{WhereHonest}
 use Rattle.kb_tenant_state.specs.Parts.{Agrees, IsSound, meta, scene, world_of, raised, refused}
-use Rattle.kb_tenant_state.specs.Counts.{END, IsCalm, counted_once}
+use Rattle.kb_tenant_state.specs.Counts.{END, IsCalm, counted_by, counted_once}
 use Rattle.kb_tenant_state.specs.Steps.{Meets, step_same}
 use Rattle.kb_tenant_state.specs.World.{World}
 use Rattle.kb_tenant_state.specs.declared.parts.Parts.{Parts}
@@ -428,6 +428,16 @@ module _ {L S : Type 0} (log : L → Log) (disk : S → Disk) (law : (l : L) →
         subst (λ (k : Kept). P k.groups (kept_of (hosted log disk (after old t x p gs x.counts old.shelf)) t).groups) (sym was)
         (subst (λ (k : Kept). P x.groups k.groups) (sym (kept_now log disk law old t x p gs x.counts old.shelf lt read kept counted_own)) h)
 
+    -- how many refusals are counted then
+    pub count_counted : (m : ℕ) → n ≡ min (x.parts.refusals + m) END
+        → refusals_of (hosted log disk (after old t x p gs x.counts old.shelf)) t ≡ counted_by m (refusals_of (hosted log disk old) t)
+    count_counted m count =
+        let files = (disk old.shelf.store).files in
+        let was = refusals_here log files old.tenants.items t x (stands log disk old t x lt read) in
+        let is = refusals_here log files (after old t x p gs x.counts old.shelf).tenants.items t (record x { parts = p; groups = gs }) (there_after log disk law old t x p gs x.counts old.shelf lt read kept counted_own) in
+        let more = ap (λ (v : Parts L). v.refusals) counted in
+        omega (arith, count, more, was, is)
+
     -- a moment of the groups, where none was refused memory
     pub met_counted : (clock m : ℕ) → n ≡ min (x.parts.refusals + m) END → (m ≡ 0 → gs ≡ groups.passed clock x.groups)
         → IsMet t (disk old.shelf.store).honest (hosted log disk old) (hosted log disk (after old t x p gs x.counts old.shelf)) (λ k l. l ≡ regrouped clock k)
@@ -454,6 +464,13 @@ module _ {L S : Type 0} (log : L → Log) (disk : S → Disk) (law : (l : L) →
         ap (λ (k : Kept). k.groups) (stays_own t)
         ∙ subst (λ (k : Kept). k.groups ≡ groups.passed clock k.groups) (sym was)
         (ap (λ b. cond b (groups.at_moment clock x.groups) x.groups) (sym early))
+
+    pub count_own : refusals_of (hosted log disk (after old t x x.parts gs x.counts old.shelf)) t ≡ counted_by 0 (refusals_of (hosted log disk old) t)
+    count_own =
+        let files = (disk old.shelf.store).files in
+        let was = refusals_here log files old.tenants.items t x (stands log disk old t x lt read) in
+        let is = refusals_here log files (after old t x x.parts gs x.counts old.shelf).tenants.items t (record x { groups = gs }) (there_after log disk law old t x x.parts gs x.counts old.shelf lt read kept step_own) in
+        omega (arith, was, is)
 
     pub kept_own : AreKept log disk (after old t x x.parts gs x.counts old.shelf)
     kept_own = kept_same log disk law old t x x.parts gs x.counts old.shelf lt read kept step_own (λ honest. stays_own)
@@ -521,6 +538,15 @@ module _ {L S : Type 0} (log : L → Log) (disk : S → Disk) (law : (l : L) →
   -- what the tenant kept
   pub was_called : kept_of (hosted log disk old) t ≡ kept_in (world_of log x.parts (disk old.shelf.store).files) x.groups
   was_called = kept_here log (disk old.shelf.store).files old.tenants.items t x (stands log disk old t x lt read)
+
+  -- what was counted before is counted then
+  pub count_called : (m : ℕ) → mid.refusals ≡ counted_by m x.parts.refusals
+      → counted_by m (refusals_of (hosted log disk old) t) ≤ refusals_of (hosted log disk (after old t x p gs cs shelf)) t
+  count_called m so =
+      let was = refusals_here log (disk old.shelf.store).files old.tenants.items t x (stands log disk old t x lt read) in
+      let is = refusals_here log (disk shelf.store).files (after old t x p gs cs shelf).tenants.items t (record x { parts = p; groups = gs; counts = cs }) (there_after log disk law old t x p gs cs shelf lt read kept step_called) in
+      let more = ap (λ (v : Parts L). v.refusals) counted in
+      omega (arith, so, more, was, is)
 
   -- what is told so of what the topics were and are
   pub topics_called : (P : World → World → Type 0)

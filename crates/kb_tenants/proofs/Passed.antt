@@ -2,7 +2,7 @@
 use Rattle.std.proofs.Common.{◌≡◌, ◌∙◌, ◌⊎◌, ⊎_elim, inl, inr, ◌≤◌, ◌<◌, ◌+◌, ℕ, Bool, true, List, length, sym, ap, refl, subst, arith}
 use Rattle.std.proofs.lemmas.List.{length-map}
 use Rattle.kb_tenant_state.specs.Calls.{retain_all}
-use Rattle.kb_tenant_state.specs.Counts.{END, IsCalm}
+use Rattle.kb_tenant_state.specs.Counts.{END, IsCalm, counted_by}
 use Rattle.kb_tenant_state.specs.Steps.{calm_then}
 use Rattle.kb_tenant_api.specs.Hosted.{Kept, TenantState, kept_of, refusals_of, names_of, passed}
 use Rattle.kb_tenant_api.specs.Turns.{HavePassed, IsTurn, IsMet, PassGroups, PassTopics, PassesPartly}
@@ -73,11 +73,16 @@ module _ (clock t : ℕ) (H G : Type 0) (ps qs rs : List TenantState) (before : 
       subst (λ (k : Kept). P (kept_of ps t) k) (sym (stays t)) (met (before honest) calms.0)
 
 -- the groups had their part, and then the topics
-pub partly_both : (clock : ℕ) (k l m : Kept) → PassGroups clock k.groups l.groups → l.world ≡ k.world → PassTopics clock l.world m.world
-    → m.groups ≡ l.groups → PassesPartly clock k m
-partly_both clock k l m groups world topics stays = record {
-  topics = subst (λ w. PassTopics clock w m.world) world topics;
-  groups = subst (PassGroups clock k.groups) (sym stays) groups;
+pub partly_both : (clock before between after last : ℕ) (k l m : Kept)
+    → (refused : ℕ) × PassGroups clock refused k.groups l.groups × (between ≡ counted_by refused before) → l.world ≡ k.world
+    → (refused : ℕ) × PassTopics clock refused l.world m.world × (counted_by refused between ≤ after) → m.groups ≡ l.groups
+    → after ≤ last → PassesPartly clock before last k m
+partly_both clock before between after last k l m (i, groups, counted) world (j, topics, more) stays le = record {
+  of_groups = i;
+  of_topics = j;
+  groups = subst (PassGroups clock i k.groups) (sym stays) groups;
+  topics = subst (λ w. PassTopics clock j w m.world) world topics;
+  counted = omega (arith, counted, more, le);
 }
 
 -- ---- a moment of all of them
@@ -90,7 +95,7 @@ pub record HavePassedTo (clock i : ℕ) (honest : Type 0) (old new : List Tenant
   pub kept : honest → (u : ℕ) → u < i → IsCalm (refusals_of old u) (refusals_of new u) → kept_of new u ≡ passed clock (kept_of old u)
   pub counts : (u : ℕ) → i ≤ u → refusals_of new u ≡ refusals_of old u
   pub rest : honest → (u : ℕ) → i ≤ u → kept_of new u ≡ kept_of old u
-  pub partly : honest → (u : ℕ) → u < i → PassesPartly clock (kept_of old u) (kept_of new u)
+  pub partly : honest → (u : ℕ) → u < i → PassesPartly clock (refusals_of old u) (refusals_of new u) (kept_of old u) (kept_of new u)
 
 -- as many tenants as names
 pub length_named : (ps qs : List TenantState) → names_of qs ≡ names_of ps → length qs ≡ length ps
@@ -109,7 +114,8 @@ passed_none clock H ps = record {
 
 -- one tenant's turn
 module _ (clock i : ℕ) (H G : Type 0) (ps qs rs : List TenantState) (before : G → H) (done : HavePassedTo clock i H ps qs) (turn : IsTurn i G qs rs)
-    (met : IsMet i G qs rs (λ k l. l ≡ passed clock k)) (partly : G → PassesPartly clock (kept_of qs i) (kept_of rs i)) where
+    (met : IsMet i G qs rs (λ k l. l ≡ passed clock k))
+    (partly : G → PassesPartly clock (refusals_of qs i) (refusals_of rs i) (kept_of qs i) (kept_of rs i)) where
   next_kept : G → (u : ℕ) → u < i + 1 → IsCalm (refusals_of ps u) (refusals_of rs u) → kept_of rs u ≡ passed clock (kept_of ps u)
   next_kept honest u lt calm = ⊎_elim
       (λ (same : u ≡ i).
@@ -120,12 +126,19 @@ module _ (clock i : ℕ) (H G : Type 0) (ps qs rs : List TenantState) (before : 
       turn.others honest u ne ∙ done.kept (before honest) u (omega (arith, lt, ne)) (subst (λ n. IsCalm (refusals_of ps u) n) (turn.counts u ne) calm))
       (same_or_not u i)
 
-  next_partly : G → (u : ℕ) → u < i + 1 → PassesPartly clock (kept_of ps u) (kept_of rs u)
+  -- what each keeps, and its count
+  abbrev Partly : ℕ → Type 0
+  Partly u = PassesPartly clock (refusals_of ps u) (refusals_of rs u) (kept_of ps u) (kept_of rs u)
+
+  next_partly : G → (u : ℕ) → u < i + 1 → Partly u
   next_partly honest u lt = ⊎_elim
-      (λ (same : u ≡ i). subst (λ v. PassesPartly clock (kept_of ps v) (kept_of rs v)) (sym same)
-      (subst (λ k. PassesPartly clock k (kept_of rs i)) (done.rest (before honest) i (omega arith)) (partly honest)))
-      (λ (ne : u ≡ i → ⊥). subst (PassesPartly clock (kept_of ps u)) (sym (turn.others honest u ne))
-      (done.partly (before honest) u (omega (arith, lt, ne))))
+      (λ (same : u ≡ i). subst Partly (sym same)
+      (subst (λ k. PassesPartly clock (refusals_of ps i) (refusals_of rs i) k (kept_of rs i)) (done.rest (before honest) i (omega arith))
+      (subst (λ n. PassesPartly clock n (refusals_of rs i) (kept_of qs i) (kept_of rs i)) (done.counts i (omega arith)) (partly honest))))
+      (λ (ne : u ≡ i → ⊥).
+      subst (PassesPartly clock (refusals_of ps u) (refusals_of rs u) (kept_of ps u)) (sym (turn.others honest u ne))
+      (subst (λ n. PassesPartly clock (refusals_of ps u) n (kept_of ps u) (kept_of qs u)) (sym (turn.counts u ne))
+      (done.partly (before honest) u (omega (arith, lt, ne)))))
       (same_or_not u i)
 
   pub passed_next : HavePassedTo clock (i + 1) G ps rs
@@ -158,10 +171,10 @@ module _ (clock i : ℕ) (H : Type 0) (ps qs : List TenantState) (le : length ps
   over : H → (u : ℕ) → i ≤ u → kept_of qs u ≡ passed clock (kept_of ps u)
   over honest u above = done.rest honest u above ∙ sym (past_passed ps u clock (omega (arith, le, above)))
 
-  all_partly : H → (u : ℕ) → PassesPartly clock (kept_of ps u) (kept_of qs u)
+  all_partly : H → (u : ℕ) → PassesPartly clock (refusals_of ps u) (refusals_of qs u) (kept_of ps u) (kept_of qs u)
   all_partly honest u = ⊎_elim
       (λ lt. done.partly honest u lt)
-      (λ above. passes_all clock (kept_of ps u) (kept_of qs u) (over honest u above))
+      (λ above. passes_all clock (refusals_of ps u) (refusals_of qs u) (kept_of ps u) (kept_of qs u) (done.grows u) (over honest u above))
       (below_or_not u i)
 
   pub passed_over : HavePassed clock H ps qs
@@ -170,7 +183,7 @@ module _ (clock i : ℕ) (H : Type 0) (ps qs : List TenantState) (le : length ps
     grows = done.grows;
     kept = λ honest u calm. ⊎_elim (λ lt. done.kept honest u lt calm) (over honest u) (below_or_not u i);
     partly = all_partly;
-    waits = λ honest u. passed_told clock (kept_of ps u).groups (kept_of qs u).groups (all_partly honest u).groups;
+    waits = λ honest u. let all = all_partly honest u in passed_told clock all.of_groups (kept_of ps u).groups (kept_of qs u).groups all.groups;
   }
 
 -- where nothing was due for any, all stays
@@ -180,6 +193,6 @@ passed_idle clock H ps idle = record {
   names = refl;
   grows = λ u. omega arith;
   kept = λ honest u calm. sym (idle honest u);
-  partly = λ honest u. passes_all clock (kept_of ps u) (kept_of ps u) (sym (idle honest u));
+  partly = λ honest u. passes_all clock (refusals_of ps u) (refusals_of ps u) (kept_of ps u) (kept_of ps u) (omega arith) (sym (idle honest u));
   waits = λ honest u k. (omega arith, omega arith);
 }

@@ -1,11 +1,11 @@
-use Rattle.std.proofs.Common.{◌+◌, inl, inr, ap, arith, to_z, of_z, w64}
+use Rattle.std.proofs.Common.{◌+◌, inl, inr, refl, ap, arith, to_z, of_z, w64}
 use Rattle.std.proofs.lemmas.Int.{ints}
 use Rattle.std.specs.Prelude.{min}
 use Rattle.kb_tenant_state.specs.Counts.{END}
 use Rattle.kb_tenant_api.specs.Hosted.{Kept}
 use Rattle.kb_tenant_api.specs.Turns.{PassGroups}
 use Rattle.kb_tenants.proofs.Causes.{counted_counted, counted_own}
-use Rattle.kb_tenants.proofs.Hosted.{groups_counted, kept_counted, kept_own, met_counted, met_own, passed_own, stays_own, topics_counted, turn_counted}
+use Rattle.kb_tenants.proofs.Hosted.{count_counted, count_own, groups_counted, kept_counted, kept_own, met_counted, met_own, passed_own, stays_own, topics_counted, turn_counted}
 use Rattle.kb_tenants.proofs.tenants.Tenants.pass_groups.Goals as goal
 
 -- ---- nothing was due
@@ -27,10 +27,17 @@ returns-in_default-clause-topics g c =
     c.requires.tenant c.index_mut-one.ensures.value c.requires.invariant c.in_default.ensures.none.1 c.args.tenant)
 
 pub returns-in_default-clause-partly : goal.returns-in_default-clause-partly
-returns-in_default-clause-partly g c =
-    inl (passed_own g.L.PartitionLog.log g.S.Store.disk g.met.L.PartitionLog.lawful c.args.self.now c.args.tenant c.index_mut-one.result.now c.pass.new.self
-    c.requires.tenant c.index_mut-one.ensures.value c.requires.invariant c.in_default.ensures.none.1
-    c.args.clock c.in_default.ensures.none.0)
+returns-in_default-clause-partly g c = (
+  0,
+  inl (
+    refl,
+    passed_own g.L.PartitionLog.log g.S.Store.disk g.met.L.PartitionLog.lawful c.args.self.now c.args.tenant c.index_mut-one.result.now c.pass.new.self
+        c.requires.tenant c.index_mut-one.ensures.value c.requires.invariant c.in_default.ensures.none.1
+        c.args.clock c.in_default.ensures.none.0,
+  ),
+  count_own g.L.PartitionLog.log g.S.Store.disk g.met.L.PartitionLog.lawful c.args.self.now c.args.tenant c.index_mut-one.result.now c.pass.new.self
+      c.requires.tenant c.index_mut-one.ensures.value c.requires.invariant c.in_default.ensures.none.1,
+)
 
 pub returns-in_default-clause-accounted : goal.returns-in_default-clause-accounted
 returns-in_default-clause-accounted g c =
@@ -40,11 +47,17 @@ returns-in_default-clause-accounted g c =
 -- ---- a moment
 
 pub returns-clause-partly : goal.returns-clause-partly
-returns-clause-partly g c =
-    groups_counted g.L.PartitionLog.log g.S.Store.disk g.met.L.PartitionLog.lawful c.args.self.now c.args.tenant c.index_mut-one.result.now c.pass.new.self
-    c.requires.tenant c.index_mut-one.ensures.value c.requires.invariant c.count.new.parts
-    (min (c.refusals-before.result + c.in-Some.refused) END) c.count.ensures
-    (PassGroups c.args.clock) (inr (c.in-Some.refused, c.in-Some.ensures.groups, c.pass.ensures.members, c.pass.ensures.limits))
+returns-clause-partly g c = (
+  c.in-Some.refused,
+  groups_counted g.L.PartitionLog.log g.S.Store.disk g.met.L.PartitionLog.lawful c.args.self.now c.args.tenant c.index_mut-one.result.now c.pass.new.self
+      c.requires.tenant c.index_mut-one.ensures.value c.requires.invariant c.count.new.parts
+      (min (c.refusals-before.result + c.in-Some.refused) END) c.count.ensures
+      (PassGroups c.args.clock c.in-Some.refused) (inr (c.in-Some.ensures.groups, c.pass.ensures.members, c.pass.ensures.limits)),
+  count_counted g.L.PartitionLog.log g.S.Store.disk g.met.L.PartitionLog.lawful c.args.self.now c.args.tenant c.index_mut-one.result.now c.pass.new.self
+      c.requires.tenant c.index_mut-one.ensures.value c.requires.invariant c.count.new.parts
+      (min (c.refusals-before.result + c.in-Some.refused) END) c.count.ensures
+      c.in-Some.refused (ap (λ k. min (k + c.in-Some.refused) END) c.refusals-before.ensures),
+)
 
 pub returns-clause-topics : goal.returns-clause-topics
 returns-clause-topics g c =

@@ -1,14 +1,14 @@
 use Rattle.std.proofs.Common.{◌≡◌, ◌<◌, ◌∙◌, ◌++◌, inr, ap, subst, sym, arith}
 use Rattle.std.specs.Prelude.{Contains}
 use Rattle.std.proofs.lemmas.List.Elements.{Contains-append_left}
-use Rattle.kb_tenant_api.specs.Hosted.{Kept, kept_of, passed}
+use Rattle.kb_tenant_api.specs.Hosted.{Kept, kept_of, passed, refusals_of}
 use Rattle.kb_tenant_api.specs.Turns.{PassesPartly}
 use Rattle.kb_tenants.specs.Tenants.{answered_connections, hosted, shelf_is_honest}
 use Rattle.kb_log.specs.Shelf.{Shelved}
 use Rattle.kb_tenants.specs.Counts.{counts_of}
 use Rattle.kb_tenants.proofs.Causes.{counted_then}
 use Rattle.kb_tenants.proofs.Alone.{alone_since, alone_still, honest_before}
-use Rattle.kb_tenants.proofs.Answered.{quiet_listed, quiet_turn}
+use Rattle.kb_tenants.proofs.Answered.{not_so, quiet_listed, quiet_same, quiet_turn}
 use Rattle.kb_tenants.proofs.Passed.{disturbed_both, length_named, loud_both, met_both, met_still, partly_both, turn_both, turn_where}
 use Rattle.kb_tenants.proofs.tenants.Tenants.pass_one.Goals as goal
 
@@ -40,15 +40,28 @@ pub returns-then-retain_one-clause-partly : goal.returns-then-retain_one-clause-
 returns-then-retain_one-clause-partly g c = λ honest.
     let t = c.args.tenant in
     let seen = hosted g.L.PartitionLog.log g.S.Store.disk in
-    partly_both c.args.clock (kept_of (seen c.args.self.now) t) (kept_of (seen c.pass_groups-regrouped.new.self) t) (kept_of (seen c.retain_one.new.self) t)
-    c.pass_groups-regrouped.ensures.partly c.pass_groups-regrouped.ensures.topics (c.retain_one.ensures.partly honest) c.retain_one.ensures.groups
+    let old = seen c.args.self.now in
+    let mid = seen c.pass_groups-regrouped.new.self in
+    let new = seen c.retain_one.new.self in
+    partly_both c.args.clock (refusals_of old t) (refusals_of mid t) (refusals_of new t) (refusals_of new t) (kept_of old t) (kept_of mid t) (kept_of new t)
+    c.pass_groups-regrouped.ensures.partly c.pass_groups-regrouped.ensures.topics (c.retain_one.ensures.partly.1 honest) c.retain_one.ensures.partly.0 (omega arith)
 
 pub returns-then-not-regrouped-clause-partly : goal.returns-then-not-regrouped-clause-partly
 returns-then-not-regrouped-clause-partly g c = λ honest.
     let t = c.args.tenant in
     let seen = hosted g.L.PartitionLog.log g.S.Store.disk in
-    partly_both c.args.clock (kept_of (seen c.args.self.now) t) (kept_of (seen c.pass_groups-regrouped.new.self) t) (kept_of (seen c.retain_one.new.self) t)
-    c.pass_groups-regrouped.ensures.partly c.pass_groups-regrouped.ensures.topics (c.retain_one.ensures.partly honest) c.retain_one.ensures.groups
+    let old = seen c.args.self.now in
+    let mid = seen c.pass_groups-regrouped.new.self in
+    let new = seen c.retain_one.new.self in
+    partly_both c.args.clock (refusals_of old t) (refusals_of mid t) (refusals_of new t) (refusals_of new t) (kept_of old t) (kept_of mid t) (kept_of new t)
+    c.pass_groups-regrouped.ensures.partly c.pass_groups-regrouped.ensures.topics (c.retain_one.ensures.partly.1 honest) c.retain_one.ensures.partly.0 (omega arith)
+
+pub returns-then-not-regrouped-clause-quiet : goal.returns-then-not-regrouped-clause-quiet
+returns-then-not-regrouped-clause-quiet g c = λ none honest t.
+    let seen = hosted g.L.PartitionLog.log g.S.Store.disk in
+    quiet_same c.args.answered.now.items (kept_of (seen c.args.self.now) t) (kept_of (seen c.retain_one.new.self) t)
+    (c.retain_one.ensures.stays c.if-retain_one.false honest t
+    ∙ c.pass_groups-regrouped.ensures.stays (not_so c.pass_groups-regrouped.result none) (c.retain_one.ensures.honest honest) t)
 
 pub returns-then-retain_one-clause-left_alone : goal.returns-then-retain_one-clause-left_alone
 returns-then-retain_one-clause-left_alone g c =
@@ -208,9 +221,13 @@ returns-else-not-regrouped-clause-partly g c = λ honest.
     let disk = g.S.Store.disk in
     let t = c.args.tenant in
     let old = c.args.self.now in
+    let mid = c.pass_groups-regrouped.new.self in
     let ret = c.retain_one.new.self in
+    let new = c.list_answered.new.self in
     let seen = hosted g.L.PartitionLog.log disk in
-    let before = honest_before disk old ret c.list_answered.new.self c.list_answered.ensures.shelf honest in
-    subst (PassesPartly c.args.clock (kept_of (seen old) t)) (sym (c.list_answered.ensures.stays t))
-    (partly_both c.args.clock (kept_of (seen old) t) (kept_of (seen c.pass_groups-regrouped.new.self) t) (kept_of (seen ret) t)
-    c.pass_groups-regrouped.ensures.partly c.pass_groups-regrouped.ensures.topics (c.retain_one.ensures.partly before) c.retain_one.ensures.groups)
+    let before = honest_before disk old ret new c.list_answered.ensures.shelf honest in
+    subst (PassesPartly c.args.clock (refusals_of (seen old) t) (refusals_of (seen new) t) (kept_of (seen old) t)) (sym (c.list_answered.ensures.stays t))
+    (partly_both c.args.clock (refusals_of (seen old) t) (refusals_of (seen mid) t) (refusals_of (seen ret) t) (refusals_of (seen new) t)
+    (kept_of (seen old) t) (kept_of (seen mid) t) (kept_of (seen ret) t)
+    c.pass_groups-regrouped.ensures.partly c.pass_groups-regrouped.ensures.topics (c.retain_one.ensures.partly.1 before) c.retain_one.ensures.partly.0
+    (c.list_answered.ensures.turn.grows t))

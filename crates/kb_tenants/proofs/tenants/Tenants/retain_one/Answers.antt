@@ -10,7 +10,7 @@ use Rattle.kb_tenants.specs.Counts.{with_store}
 use Rattle.kb_tenants.specs.Tenants.{drops, retained}
 use Rattle.kb_tenants.proofs.Causes.{counted_called}
 use Rattle.kb_tenants.proofs.Change.{called}
-use Rattle.kb_tenants.proofs.Hosted.{alone_called, sound_here, groups_called, kept_called, topics_called, turn_called, met_called, stays_called}
+use Rattle.kb_tenants.proofs.Hosted.{alone_called, count_called, sound_here, groups_called, kept_called, topics_called, turn_called, met_called, stays_called}
 use Rattle.kb_tenants.proofs.tenants.Tenants.retain_one.Goals as goal
 
 pub retain_all-dropped-requires-clause-sound : goal.retain_all-dropped-requires-clause-sound
@@ -44,24 +44,29 @@ returns-clause-meets g c =
 
 pub returns-clause-partly : goal.returns-clause-partly
 returns-clause-partly g c =
+    let x = c.index_mut-one.result.now in
     let mid = c.retain_all-dropped.new in
-    topics_called g.L.PartitionLog.log g.S.Store.disk g.met.L.PartitionLog.lawful c.args.self.now c.args.tenant c.index_mut-one.result.now
-    c.requires.tenant c.index_mut-one.ensures.value c.requires.invariant mid.self c.count.new.parts (min (c.refusals-before.result + (c.failures.result - c.failures-failures.result)) END) c.index_mut-one.result.now.groups c.add_store.new.self mid.shelf c.count.ensures (called c.retain_all-dropped.ensures.step)
-    (PassTopics c.args.clock)
-    (retained_told (scene g.L.PartitionLog.log g.S.Store.disk c.index_mut-one.result.now.parts c.args.self.now.shelf)
-    (scene g.L.PartitionLog.log g.S.Store.disk mid.self mid.shelf) c.args.clock c.retain_all-dropped.result c.retain_all-dropped.ensures.told)
+    let told = retained_told (scene g.L.PartitionLog.log g.S.Store.disk x.parts c.args.self.now.shelf)
+    (scene g.L.PartitionLog.log g.S.Store.disk mid.self mid.shelf) c.args.clock c.retain_all-dropped.result c.retain_all-dropped.ensures.told in (
+      groups_called g.L.PartitionLog.log g.S.Store.disk g.met.L.PartitionLog.lawful c.args.self.now c.args.tenant x
+          c.requires.tenant c.index_mut-one.ensures.value c.requires.invariant mid.self c.count.new.parts (min (c.refusals-before.result + (c.failures.result - c.failures-failures.result)) END) x.groups c.add_store.new.self mid.shelf c.count.ensures (called c.retain_all-dropped.ensures.step)
+          (λ a b. b ≡ a) refl,
+      λ honest. (
+        told.0,
+        topics_called g.L.PartitionLog.log g.S.Store.disk g.met.L.PartitionLog.lawful c.args.self.now c.args.tenant x
+            c.requires.tenant c.index_mut-one.ensures.value c.requires.invariant mid.self c.count.new.parts (min (c.refusals-before.result + (c.failures.result - c.failures-failures.result)) END) x.groups c.add_store.new.self mid.shelf c.count.ensures (called c.retain_all-dropped.ensures.step)
+            (PassTopics c.args.clock told.0) told.1 honest,
+        count_called g.L.PartitionLog.log g.S.Store.disk g.met.L.PartitionLog.lawful c.args.self.now c.args.tenant x
+            c.requires.tenant c.index_mut-one.ensures.value c.requires.invariant mid.self c.count.new.parts (min (c.refusals-before.result + (c.failures.result - c.failures-failures.result)) END) x.groups c.add_store.new.self mid.shelf c.count.ensures (called c.retain_all-dropped.ensures.step)
+            told.0 told.2,
+      ),
+    )
 
 pub returns-clause-stays : goal.returns-clause-stays
 returns-clause-stays g c = λ none.
     stays_called g.L.PartitionLog.log g.S.Store.disk g.met.L.PartitionLog.lawful c.args.self.now c.args.tenant c.index_mut-one.result.now
     c.requires.tenant c.index_mut-one.ensures.value c.requires.invariant c.retain_all-dropped.new.self c.count.new.parts (min (c.refusals-before.result + (c.failures.result - c.failures-failures.result)) END) c.index_mut-one.result.now.groups c.add_store.new.self c.retain_all-dropped.new.shelf c.count.ensures (called c.retain_all-dropped.ensures.step)
     refl (c.retain_all-dropped.ensures.same none)
-
-pub returns-clause-groups : goal.returns-clause-groups
-returns-clause-groups g c =
-    groups_called g.L.PartitionLog.log g.S.Store.disk g.met.L.PartitionLog.lawful c.args.self.now c.args.tenant c.index_mut-one.result.now
-    c.requires.tenant c.index_mut-one.ensures.value c.requires.invariant c.retain_all-dropped.new.self c.count.new.parts (min (c.refusals-before.result + (c.failures.result - c.failures-failures.result)) END) c.index_mut-one.result.now.groups c.add_store.new.self c.retain_all-dropped.new.shelf c.count.ensures (called c.retain_all-dropped.ensures.step)
-    (λ a b. b ≡ a) refl
 
 pub returns-clause-accounted : goal.returns-clause-accounted
 returns-clause-accounted g c =

@@ -4,20 +4,28 @@
     trials/why_closed.py KBROKER
 
 Hand-made frames shut a connection each: too short, too long, a version that is not served, a body that does not match, a request before
-the login, and a wrong password. Each has its line, with the address and the tenant, and no line has a password. Then 200 connections are
-shut at once: each has a line, or is in the count of the others. It prints `N of M wrong`.
+the login, and a wrong password. Each has its line, with the address and the tenant, and no line has a password. kafka-python is told that
+the broker is Kafka 2.1, and sends Produce 7: that has its line too. The process may then take 4 MB more alone, and twelve connections
+send the front of a long request each: those that are shut have a line, and no other; the broker serves on. At last 200 connections are
+shut at once: each has a line, or is in the count of the others. It prints `N of M wrong`. It needs Debian's python3-kafka.
 """
 
 import re
+import resource
 import socket
 import struct
 import sys
 import tempfile
 import time
 
-from wire import Broker, Client, text
+from wire import Broker, Client, in_debians_python, text
 
-MANY = 200
+in_debians_python("kafka")
+
+import kafka
+import kafka.errors
+
+MANY, FULL = 200, 12
 
 
 def frame(key, version, body):
@@ -82,6 +90,61 @@ def wrong_lines(broker):
     return wrong, len(all_of_them)
 
 
+def later_client_is_told(broker):
+    """Whether kafka-python, which takes the broker for a later one, is refused its Produce, and the log has the version once."""
+    Client(broker.port).create(b"t")
+    producer = kafka.KafkaProducer(bootstrap_servers=f"127.0.0.1:{broker.port}", security_protocol="SASL_PLAINTEXT", sasl_mechanism="PLAIN",
+                                   sasl_plain_username="ann", sasl_plain_password="pw1", api_version=(2, 1, 0), retries=0)
+    try:
+        producer.send("t", b"line").get(10)
+        print("a later Produce was answered")
+        return False
+    except kafka.errors.KafkaError:
+        line = "closed [0-9.]+:[0-9]+ of tenant a: version 7 of Produce is not served\n"
+        if within(4, lambda: len(re.findall(line, broker.log())) == 1):
+            return True
+        print("not told once: version 7 of Produce")
+        return False
+    finally:
+        producer.close(1)
+
+
+def is_closed(peer):
+    """Whether the other side closed a connection, on which it has nothing to say."""
+    peer.settimeout(0.5)
+    try:
+        return not peer.recv(1)
+    except socket.timeout:
+        return False
+    except OSError:
+        return True
+
+
+def want_of_memory_is_told(broker):
+    """Whether connections whose bytes find no memory are told, and no others, and the broker serves on."""
+    time.sleep(1.1)  # (so many lines of a second are told)
+    pid, peers = broker.process.pid, [Client(broker.port).socket for _ in range(FULL)]
+    with open(f"/proc/{pid}/statm", encoding="ascii") as it:
+        most = int(it.read().split()[0]) * resource.getpagesize() + 4_194_304
+    before = resource.prlimit(pid, resource.RLIMIT_AS)
+    resource.prlimit(pid, resource.RLIMIT_AS, (most, before[1]))
+    for peer in peers:
+        try:
+            peer.sendall(struct.pack(">i", 2_000_000) + bytes(1_000_000))
+        except OSError:
+            pass
+    shut = {"127.0.0.1:{}".format(it.getsockname()[1]) for it in peers if is_closed(it)}
+    resource.prlimit(pid, resource.RLIMIT_AS, before)
+
+    def told():
+        return re.findall("closed ([0-9.]+:[0-9]+) of tenant a: out of memory\n", broker.log())
+
+    right = within(4, lambda: sorted(told()) == sorted(shut)) and shut and Client(broker.port).create(b"u") == 0
+    if not right:
+        print(f"of {FULL} connections {len(shut)} were shut for want of memory, and {len(told())} are told")
+    return right
+
+
 def many_are_told(broker):
     """Whether each of many connections that are shut at once has a line or is counted."""
     before = broker.log()
@@ -113,11 +176,13 @@ def main(program):
                 print("the broker does not listen")
                 return 1
             wrong, count = wrong_lines(broker)
+            wrong += not later_client_is_told(broker)
+            wrong += not want_of_memory_is_told(broker)
             wrong += not many_are_told(broker)
             wrong += "secret" in broker.log() or "pw1" in broker.log()
         finally:
             broker.stop()
-    print(f"{wrong} of {count + 2} wrong")
+    print(f"{wrong} of {count + 4} wrong")
     return 1 if wrong else 0
 
 

@@ -1,3 +1,4 @@
 pub mod Bucket
+pub mod Others
 pub mod Settings
 pub mod Sums

@@ -31,3 +31,8 @@ fetched_by v (name ∷ names) = max (unwrap_or (data_of name v).fetch_bytes 8388
 -- the same of a reply to each connection
 abbrev pub fetched_at_most : Values → ℕ
 fetched_at_most v = v.connections * fetched_by v (tenants_of v)
+
+-- How many bytes of requests and replies all sockets may hold together: those of replies that are not read, those of requests that are
+-- begun, and of each connection those of a request that waits for its answer and 65,536 of the next one
+abbrev pub held_at_most : Values → ℕ
+held_at_most v = v.output_bytes + v.requests.input_bytes + v.connections * (v.requests.request_bytes + 65536)

@@ -20,6 +20,7 @@ mod limits;
 mod lines;
 mod look;
 mod named;
+mod others;
 mod reasons;
 mod refused;
 mod report;

@@ -2,8 +2,9 @@
 
 use crate::address::address_text;
 use crate::fault::OperatorFault;
-use crate::sums::{fetched_at_most, stored_at_most};
-use kb_settings::{DataLimits, Endpoint, Settings, TenantLimits, tenant_names};
+use crate::others::{Numbers, numbers_of_others, others};
+use crate::sums::{fetched_at_most, held_at_most, stored_at_most};
+use kb_settings::{ConnectionLimits, DataLimits, Endpoint, Settings, TenantLimits, tenant_names};
 use std::alloc::{AllocError, Global};
 use std::io;
 use std::io::Write;
@@ -12,15 +13,20 @@ use std::io::Write;
 #[derive(Clone, Copy)]
 struct Totals {
     tenants: usize,
+    /// How many of them no limits name, and what each of these may have.
+    others: u64,
+    numbers: Numbers,
     /// How many bytes they may store, where each has a limit.
     stored: Option<u64>,
     /// How many bytes of memory replies of Fetch to all connections may take.
     fetched: u64,
+    /// How many bytes of requests and replies all sockets may hold.
+    held: u64,
 }
 
 /// Writes a line for each key, for each user and for each tenant with limits, in the order of the file and without passwords and the
-/// token for metrics. Then come the counts, what all tenants may store, and what replies of Fetch may take. The folder is the one that
-/// they name.
+/// token for metrics, and one for all other tenants. Then come the counts, what all tenants may store, what replies of Fetch may take, and
+/// what sockets may hold. The folder is the one that they name.
 pub fn write_settings<W: Write>(
     alloc: Global,
     settings: &Settings,
@@ -31,8 +37,11 @@ pub fn write_settings<W: Write>(
     let metrics = endpoint_text(alloc, &settings.metrics.address)?;
     let totals = Totals {
         tenants: tenant_names(alloc, &settings.users)?.len(),
+        others: others(alloc, settings)?,
+        numbers: numbers_of_others(settings),
         stored: stored_at_most(alloc, settings)?,
         fetched: fetched_at_most(alloc, settings)?,
+        held: held_at_most(settings),
     };
     let written = match write_addresses(settings, advertised.as_deref(), writer) {
         Ok(()) => write_rest(settings, metrics.as_deref(), folder, totals, writer),
@@ -90,8 +99,23 @@ fn write_rest<W: Write>(
     for limits in &settings.tenants {
         write_limits(limits, writer)?;
     }
+    write_others(totals, writer)?;
     write_totals(settings.users.len(), totals, writer)?;
     writer.flush()
+}
+
+/// What each tenant may have that no limits name, where there is one.
+fn write_others<W: Write>(totals: Totals, writer: &mut W) -> io::Result<()> {
+    if totals.others == 0 {
+        return Ok(());
+    }
+    write!(
+        writer,
+        "tenants without a table: {}, each with ",
+        totals.others
+    )?;
+    write_numbers(&totals.numbers, writer)?;
+    writeln!(writer)
 }
 
 /// What all users and tenants come to together.
@@ -105,6 +129,11 @@ fn write_totals<W: Write>(users: usize, totals: Totals, writer: &mut W) -> io::R
         writer,
         "bytes of memory that replies of Fetch may take: {}",
         totals.fetched
+    )?;
+    writeln!(
+        writer,
+        "bytes of requests and replies that sockets may hold: {}, and a request and a reply of each tenant above that",
+        totals.held
     )
 }
 
@@ -158,18 +187,30 @@ fn write_limit<W: Write>(
 
 /// The limits of a tenant.
 fn write_limits<W: Write>(limits: &TenantLimits, writer: &mut W) -> io::Result<()> {
-    let most = limits.connections;
-    let reserved = limits.reserved_connections;
-    let groups = limits.groups.groups;
-    let bytes = limits.groups.bytes;
-    write!(
-        writer,
-        "tenant {:?}: connections = {most}, reserved_connections = {reserved}, groups = {groups}, group_bytes = {bytes}",
-        limits.name
-    )?;
-    write_data_limits(&limits.data_limits, writer)?;
+    let numbers = Numbers {
+        connections: ConnectionLimits {
+            most: limits.connections,
+            reserved: limits.reserved_connections,
+        },
+        groups: limits.groups,
+        data: limits.data_limits,
+    };
+    write!(writer, "tenant {:?}: ", limits.name)?;
+    write_numbers(&numbers, writer)?;
     write_advertised(&limits.advertise, writer)?;
     writeln!(writer)
+}
+
+/// What a tenant may have.
+fn write_numbers<W: Write>(numbers: &Numbers, writer: &mut W) -> io::Result<()> {
+    let ConnectionLimits { most, reserved } = numbers.connections;
+    let groups = numbers.groups.groups;
+    let bytes = numbers.groups.bytes;
+    write!(
+        writer,
+        "connections = {most}, reserved_connections = {reserved}, groups = {groups}, group_bytes = {bytes}"
+    )?;
+    write_data_limits(&numbers.data, writer)
 }
 
 /// What a tenant may have, as far as it has limits.

@@ -60,8 +60,8 @@ def requests():
     yield "DescribeConfigs of the broker", 32, 0, struct.pack(">i", ENTRIES) + (b"\4" + text(b"0") + struct.pack(">i", -1)) * ENTRIES
     keys = struct.pack(">i", ENTRIES) + text(b"retention.bytes.of.none") * ENTRIES
     yield "DescribeConfigs, many names", 32, 0, struct.pack(">i", 1) + b"\4" + text(b"0") + keys
-    # (a group counts 64: of more the connection is closed)
-    yield "DeleteGroups, unknown groups", 42, 0, struct.pack(">i", ENTRIES // 64) + b"".join(text(b"g%d" % n) for n in range(ENTRIES // 64))
+    # (a group counts 512: of more the connection is closed)
+    yield "DeleteGroups, unknown groups", 42, 0, struct.pack(">i", ENTRIES // 512) + b"".join(text(b"g%d" % n) for n in range(ENTRIES // 512))
 
 
 class Beside:

@@ -75,9 +75,9 @@ delete_topics_entries r = length r.names
 abbrev pub describe_groups_entries : DescribeGroupsRequest → ℕ
 describe_groups_entries r = length r.group_ids
 
--- groups that are deleted; each counts as much as 64 others, since all partitions of the tenant are looked at for it
+-- groups that are deleted; each counts as much as 512 others, since all partitions of the tenant are looked at for it
 abbrev pub delete_groups_entries : DeleteGroupsRequest → ℕ
-delete_groups_entries r = length r.group_ids * 64
+delete_groups_entries r = length r.group_ids * 512
 
 -- ---- the limit
 

@@ -275,6 +275,6 @@ impl Named for DeleteGroupsRequest<'_> {
     ghost entries = { delete_groups_entries };
 
     fn is_past(&self, limit: u64) -> bool {
-        limit / 64 < self.group_ids.len() as u64
+        limit / 512 < self.group_ids.len() as u64
     }
 }

@@ -1,6 +1,7 @@
 -- A group that is deleted, and what a request of DeleteGroups comes to.
 use Rattle.std.proofs.Common.{◌≡◌, ◌∙◌, ◌⊎◌, ◌++◌, ◌<◌, ◌^◌, ⊎_elim, inl, inr, ℕ, ℤ, Bool, true, false, List, [], ◌∷◌, length, refl, sym, ap, subst, bytes_eq, if◌then◌else◌}
-use Rattle.std.specs.Prelude.{◌×◌, pos, Option, Some, None, Result, Ok, Err, is_some}
+use Rattle.std.specs.Prelude.{pos, Option, Some, None, Result, Ok, Err, is_some}
+use Rattle.std.proofs.lemmas.Bool.{false≢true}
 use Rattle.kb_wire.specs.Codec.{array, count, int, int32, sized, counted, string, utf8}
 use Rattle.kb_wire.specs.ErrorCode.{code_of}
 use Rattle.kb_wire.specs.declared.error_code.ErrorCode.TheVariants as codes
@@ -36,6 +37,14 @@ use Rattle.kb_tenant_api.specs.declared.answer.Answer.TheVariants as answers
 use Rattle.kb_tenant.specs.declared.answer.Answer.TheVariants as plain
 
 -- ---- one group
+
+abbrev went : Result (Unit {0}) CatalogFault → Bool
+went (Ok done) = true
+went (Err fault) = false
+
+abbrev fault_in : Result (Unit {0}) CatalogFault → CatalogFault
+fault_in (Ok done) = catalog.Unknown
+fault_in (Err fault) = fault
 
 -- a group that is not there
 gone_already : (id : List ℕ) (es : List Entry) → is_some (found id es) ≡ false → without id es ≡ es
@@ -75,7 +84,7 @@ module _ (s : World × Groups) (id : List ℕ) where
         by true h =
             let world : v ≡ (all_deleted s id).0 = ap (λ r. r.0) h in
             (λ i. ((world i, gone i), is i))
-        by false h = absurd cc
+        by false h = absurd (false≢true (sym (ap (λ (r : World × Result (Unit {0}) CatalogFault). went r.1) h)))
 
     -- where it committed nothing, whether it is there or not
     pub uncommitted_is : (v : World) (new : Groups) (there : Bool) (code : ℤ) → (v, Err catalog.Unknown) ≡ delete_group s.0 id → new ≡ deleted id s.1 → there ≡ is_there id s.1
@@ -89,7 +98,7 @@ module _ (s : World × Groups) (id : List ℕ) where
             (λ i. ((s.0, (gone ∙ same) i), of i))
 
         by : (c : Bool) → (v, Err catalog.Unknown) ≡ group_deleted_unless s.0 id (if c then None else Some catalog.Unknown) → ((v, new), code) ≡ uncommitted c
-        by true h = absurd cc
+        by true h = absurd (false≢true (ap (λ (r : World × Result (Unit {0}) CatalogFault). went r.1) h))
         by false h =
             let world : v ≡ s.0 = ap (λ r. r.0) h in
             (λ i. ((world i, new), code)) ∙ either (is_there id s.1) refl (subst (λ b. code ≡ code_of (if b then codes.None else codes.GroupIdNotFound)) listed is)
@@ -99,8 +108,8 @@ module _ (s : World × Groups) (id : List ℕ) where
     never_otherwise v fault other made = by (has_committed id s.0.known.topics) made
       where
         by : (c : Bool) → (v, Err fault) ≡ group_deleted_unless s.0 id (if c then None else Some catalog.Unknown) → ⊥
-        by true h = absurd cc
-        by false h = other (let same : fault ≡ catalog.Unknown = cc in same)
+        by true h = false≢true (ap (λ (r : World × Result (Unit {0}) CatalogFault). went r.1) h)
+        by false h = other (ap (λ (r : World × Result (Unit {0}) CatalogFault). fault_in r.1) h)
 
 -- whatever was refused, some groups without members are gone, or none
 pub gone_less : (id : List ℕ) (gs new : Groups) → has_members id gs ≡ false → new ≡ deleted id gs → new ≡ without_empty id gs
@@ -176,14 +185,12 @@ pub answered_groups : (key : ℤ) (old made new : Groups) (answer same : Answer)
 answered_groups key old made new answer same is (inl all) = inl all
 answered_groups key old made new answer same is (inr gone) = inr (inr gone)
 
-pub fault_groups : (key : ℤ) (old made new : Groups) (fault : WireFault) (answer : Answer) → AreGroupsOf key old made (Err (faults.Wire fault)) new → AreGroupsAfter key old made answer new
-fault_groups key old made new fault answer (inl all) = inl all
-fault_groups key old made new fault answer (inr gone) = inr (inr gone)
-
-pub refused_groups : (key : ℤ) (old made new : Groups) (answer : Answer) → answer ≡ answers.Plain plain.Shut → AreGroupsOf key old made (Err faults.Memory) new → AreGroupsAfter key old made answer new
-refused_groups key old made new answer shut (inl (inl all)) = inl all
-refused_groups key old made new answer shut (inl (inr stays)) = inr (inl (stays, shut))
-refused_groups key old made new answer shut (inr gone) = inr (inr gone)
+-- where the request could not be read, or memory was refused, the connection is shut
+pub refused_groups : (key : ℤ) (old made new : Groups) (answer : Answer) (fault : ReadFault) → answer ≡ answers.Plain plain.Shut → AreGroupsOf key old made (Err fault) new → AreGroupsAfter key old made answer new
+refused_groups key old made new answer (faults.Wire w) shut (inl all) = inl all
+refused_groups key old made new answer faults.Memory shut (inl (inl all)) = inl all
+refused_groups key old made new answer faults.Memory shut (inl (inr stays)) = inr (inl (stays, shut))
+refused_groups key old made new answer fault shut (inr gone) = inr (inr gone)
 
 -- ---- a request
 

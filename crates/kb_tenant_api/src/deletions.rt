@@ -1,5 +1,5 @@
 //! DeleteGroups: groups without members go, with all that they committed.
-ghost use Rattle.std.specs.Prelude.{◌≡◌, ◌++◌, ◌⊎◌, ◌<◌, ◌^◌, [], List, IfOk, OnOk, length};
+ghost use Rattle.std.specs.Prelude.{◌≡◌, ◌≢◌, ◌++◌, ◌⊎◌, ◌<◌, ◌^◌, [], List, IfOk, OnOk, length, true, false, if◌then◌else◌};
 ghost use Rattle.kb_api_group.specs.Layouts.{delete_groups_reply, delete_groups_request};
 ghost use Rattle.kb_api_group.specs.declared.delete_groups.DeletedGroup.{DeletedGroup as Entry};
 ghost use Rattle.kb_wire.specs.Codec.{whole};
@@ -37,6 +37,14 @@ fn code_of_uncommitted(was_there: bool) -> ErrorCode
     }
 }
 
+/// Whether that is the fault of a group that committed nothing.
+fn is_unknown(fault: &CatalogFault) -> bool
+    ensures unknown { result ≡ true → fault.now ≡ CatalogFault.Unknown }
+    ensures other { result ≡ false → fault.now ≢ CatalogFault.Unknown }
+{
+    matches!(fault, CatalogFault::Unknown)
+}
+
 /// Deletes a group, if it has no members, with all that it committed, and answers its error code.
 ///
 /// What it committed goes first, which is recorded. Where that is refused nothing has changed.
@@ -68,8 +76,13 @@ fn delete_group<L: PartitionLog + Drop, S: Store>(
             groups.delete(id);
             ErrorCode::None.code()
         }
-        Err(CatalogFault::Unknown) => code_of_uncommitted(groups.delete(id)).code(),
-        Err(fault) => fault.code(),
+        Err(fault) => {
+            if is_unknown(&fault) {
+                code_of_uncommitted(groups.delete(id)).code()
+            } else {
+                fault.code()
+            }
+        }
     }
 }
 

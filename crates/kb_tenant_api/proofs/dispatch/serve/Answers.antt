@@ -3,7 +3,7 @@ use Rattle.kb_tenant_state.specs.Parts.{scene, world_of}
 use Rattle.kb_tenant_state.specs.Steps.{IsStep}
 use Rattle.kb_tenant_state.proofs.Lifted.{refused_step}
 use Rattle.kb_tenant_api.proofs.Answered.{shut_told, told_on}
-use Rattle.kb_tenant_api.proofs.Deleting.{answered_groups, fault_groups, refused_groups}
+use Rattle.kb_tenant_api.proofs.Deleting.{answered_groups, refused_groups}
 use Rattle.kb_tenant_api.proofs.dispatch.serve.Goals as goal
 
 pub returns-in-Ok-clause-told : goal.returns-in-Ok-clause-told
@@ -30,10 +30,15 @@ returns-in-Err-Memory-clause-step g c =
     (refused_step log a c.serve_by_key.new.parts (disk after.store) after.next c.in-Err-Memory.ensures.step)
 
 pub returns-in-Ok-clause-groups : goal.returns-in-Ok-clause-groups
-returns-in-Ok-clause-groups g c = answered_groups _ _ _ _ _ _ c.served_with.ensures.answer c.in-Ok.ensures.groups
+returns-in-Ok-clause-groups g c =
+    answered_groups c.args.request.now.api_key c.args.groups.now _ c.serve_by_key.new.groups _ _ c.served_with.ensures.answer c.in-Ok.ensures.groups
 
 pub returns-in-Err-Wire-clause-groups : goal.returns-in-Err-Wire-clause-groups
-returns-in-Err-Wire-clause-groups g c = fault_groups _ _ _ _ _ _ c.in-Err-Wire.ensures.groups
+returns-in-Err-Wire-clause-groups g c =
+    refused_groups c.args.request.now.api_key c.args.groups.now _ c.serve_by_key.new.groups _ c.in-Err-Wire.field-0 c.served_with-in-Err-Wire.ensures.answer
+    c.in-Err-Wire.ensures.groups
 
 pub returns-in-Err-Memory-clause-groups : goal.returns-in-Err-Memory-clause-groups
-returns-in-Err-Memory-clause-groups g c = refused_groups _ _ _ _ _ c.served_with-in-Err-Memory.ensures.answer c.in-Err-Memory.ensures.groups
+returns-in-Err-Memory-clause-groups g c =
+    refused_groups c.args.request.now.api_key c.args.groups.now _ c.serve_by_key.new.groups _ c.in-Err-Memory.field-0
+    c.served_with-in-Err-Memory.ensures.answer c.in-Err-Memory.ensures.groups

@@ -42,7 +42,7 @@ topic_there log p d next place (Some t) part sound at there =
       number = omega (arith, slice_get_within t.partitions place.number part there, small);
     }
 
-known_some : {A : Type 0} (r : Option (Bor A)) (o : Option A) → option_copied r ≡ o → is_some r ≡ true → (x : A) × (o ≡ Some x)
+pub known_some : {A : Type 0} (r : Option (Bor A)) (o : Option A) → option_copied r ≡ o → is_some r ≡ true → (x : A) × (o ≡ Some x)
 known_some None o e f = absurd cc
 known_some (Some b) o e f = (b.now, sym e)
 

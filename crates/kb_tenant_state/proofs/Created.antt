@@ -31,7 +31,7 @@ use Rattle.kb_tenant_state.proofs.Moves.{IsMove, as_step}
 use Rattle.kb_tenant_state.proofs.Recorded.{Resume, on_shelf}
 use Rattle.kb_tenant_state.proofs.Spared as spared
 use Rattle.kb_tenant_state.proofs.Starts.{create_starts, new_starts, still_started}
-use Rattle.kb_tenant_state.proofs.Sums.{created_offsets, told_created}
+use Rattle.kb_tenant_state.proofs.Sums.{created_offsets, created_texts, told_created}
 use Rattle.kb_tenant_state.proofs.Tied.{counted_inserted, named_still, none_seen, tied_world}
 
 same_number : (k i : ℕ) → is_at (nat_cmp k) i ≡ true → k ≡ i
@@ -108,6 +108,7 @@ module _ {L : Type 0} (log : L → Log) (law : (l : L) → IsLawfulLog (log l)) 
         catalog_named = named_still _ _ _ _ frames.identity sound.catalog_named;
         logs_named = named sound.logs_named;
         offsets = sound.offsets ∙ sym (ap up_to_end (created_offsets (known p.catalog) (known changed) count new none topics many));
+        texts = sound.texts ∙ sym (ap up_to_end (created_texts (known p.catalog) (known changed) count new none topics many));
       };
       others = record {
         later = frames.others.later;

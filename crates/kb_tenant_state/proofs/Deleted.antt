@@ -28,7 +28,6 @@ use Rattle.kb_tenant_state.proofs.Put.{own_number}
 use Rattle.kb_tenant_state.specs.Parts as parts
 use Rattle.kb_tenant_state.specs.Parts.{IsSound, Agrees, meta, entries, recorded_start, world_of}
 use Rattle.kb_tenant_state.specs.Steps.{IsStep, settles_then}
-use Rattle.kb_tenant_state.specs.Stored.{offsets_in, up_to_end}
 use Rattle.kb_tenant_state.specs.Tied.{counted, partition_count}
 use Rattle.kb_tenant_state.specs.declared.parts.Parts.{Parts}
 use Rattle.kb_tenant_state.proofs.Retained as retained
@@ -37,7 +36,7 @@ use Rattle.kb_tenant_state.proofs.Lifted.{parts_move, parts_settle}
 use Rattle.kb_tenant_state.proofs.Moves.{IsMove, as_step, move_then}
 use Rattle.kb_tenant_state.proofs.Recorded.{Resume, catalog_settles, on_shelf, recorded_logs, untied_move}
 use Rattle.kb_tenant_state.proofs.Starts.{delete_starts}
-use Rattle.kb_tenant_state.proofs.Tied.{KeepNames, KeepStarts, counted_removed, untied_on}
+use Rattle.kb_tenant_state.proofs.Tied.{IsCounted, KeepNames, KeepStarts, counted_removed, untied_on}
 
 mapped : {A B : Type 0} (f : A → B) (o : Option A) (x : A) (y : B) → o ≡ Some x → option_map f o ≡ Some y → y ≡ f x
 mapped f o x y here e = let is : Some y ≡ Some (f x) = sym e ∙ ap (option_map f) here in cc
@@ -89,7 +88,7 @@ module _ {L : Type 0} (log : L → Log) (law : (l : L) → IsLawfulLog (log l)) 
   pub recorded : IsMove (parts.scene_on log old d next) (untied_on log (recorded_start (known old.catalog)) (record old { catalog = changed }) d' next')
   recorded =
       let same = ap (λ k. k.creates) new in
-      untied_move log law old changed d d' next next' sound frames old.offsets (omega (arith, longer)) fold (omega (arith, same)) (omega (arith, same, sound.few)) (as_deleted (known old.catalog) (known changed) i new gone) resumes
+      untied_move log law old changed d d' next next' sound frames old.offsets old.texts (omega (arith, longer)) fold (omega (arith, same)) (omega (arith, same, sound.few)) (as_deleted (known old.catalog) (known changed) i new gone) resumes
 
   module _ (ps : Partitions L) (e : Disk) (last : ℕ) (places : places_of ps.topics.entries ≡ remove_entry (is_at (nat_cmp i)) (places_of (entries old)))
       (frame : Frame (scene_on log (entries old) d' next') (scene_on log ps.topics.entries e last))
@@ -106,27 +105,27 @@ module _ {L : Type 0} (log : L → Log) (law : (l : L) → IsLawfulLog (log l)) 
         subst (λ n. (log x.log).resumes n) (sym (ap (λ k. recorded_start k j q) new ∙ delete_starts (known old.catalog) i j q ne)) (started j q x at)
 
     -- and the partitions are gone
-    pub delete_move : (o : ℕ) → o ≡ up_to_end (offsets_in (known changed)) → KeepNames log (entries old) ps.topics.entries → KeepStarts log (entries old) ps.topics.entries
-        → IsMove (parts.scene_on log old d next) (parts.scene_on log (record old { catalog = changed; partitions = ps; stored = None; offsets = o }) e last)
-    delete_move o counts named starts =
-        move_then (parts.scene_on log old d next) (untied_on log (recorded_start (known old.catalog)) (record old { catalog = changed }) d' next') (parts.scene_on log (record old { catalog = changed; partitions = ps; stored = None; offsets = o }) e last) recorded
-        (parts_move log law (recorded_start (known old.catalog)) (record old { catalog = changed }) (record old { catalog = changed; partitions = ps; stored = None; offsets = o }) d' e next' last refl (refl, refl) named
+    pub delete_move : (o t : ℕ) → IsCounted o t (known changed) → KeepNames log (entries old) ps.topics.entries → KeepStarts log (entries old) ps.topics.entries
+        → IsMove (parts.scene_on log old d next) (parts.scene_on log (record old { catalog = changed; partitions = ps; stored = None; offsets = o; texts = t }) e last)
+    delete_move o t counts named starts =
+        move_then (parts.scene_on log old d next) (untied_on log (recorded_start (known old.catalog)) (record old { catalog = changed }) d' next') (parts.scene_on log (record old { catalog = changed; partitions = ps; stored = None; offsets = o; texts = t }) e last) recorded
+        (parts_move log law (recorded_start (known old.catalog)) (record old { catalog = changed }) (record old { catalog = changed; partitions = ps; stored = None; offsets = o; texts = t }) d' e next' last refl (refl, refl) named
         (still_unmade i (entries old) ps.topics.entries sound.logs.ordered places) (still_small i (entries old) ps.topics.entries sound.logs.ordered places) (omega arith) tied
         recorded.frame.sound frame (λ honest agree. still (starts (recorded_start (known old.catalog)) agree.started))
         (λ honest agree. kept_deleted old.next_retention_time (world_of log (record old { catalog = changed }) d'.files) (world_of log (record old { catalog = changed; partitions = ps }) e.files) i gone
         (as_before (known changed) (known changed) refl) (removed honest agree.logs) agree.until)
         counts (λ honest agree. tt))
 
-    pub delete_step : (o : ℕ) → o ≡ up_to_end (offsets_in (known changed)) → KeepNames log (entries old) ps.topics.entries → KeepStarts log (entries old) ps.topics.entries
+    pub delete_step : (o t : ℕ) → IsCounted o t (known changed) → KeepNames log (entries old) ps.topics.entries → KeepStarts log (entries old) ps.topics.entries
         → ⊥ ⊎ one.Settles (on_shelf (meta log old) d next) (on_shelf (log (meta_log changed)) d' next')
         → Settles (scene_on log (entries old) d' next') (scene_on log ps.topics.entries e last)
-        → IsStep (parts.scene_on log old d next) (parts.scene_on log (record old { catalog = changed; partitions = ps; stored = None; offsets = o }) e last)
-    delete_step o counts named starts settled settles =
+        → IsStep (parts.scene_on log old d next) (parts.scene_on log (record old { catalog = changed; partitions = ps; stored = None; offsets = o; texts = t }) e last)
+    delete_step o t counts named starts settled settles =
         let mid = record old { catalog = changed } in
-        let last_of = record old { catalog = changed; partitions = ps; stored = None; offsets = o } in
-        as_step (parts.scene_on log old d next) (parts.scene_on log last_of e last) (delete_move o counts named starts) (λ calm.
+        let last_of = record old { catalog = changed; partitions = ps; stored = None; offsets = o; texts = t } in
+        as_step (parts.scene_on log old d next) (parts.scene_on log last_of e last) (delete_move o t counts named starts) (λ calm.
         settles_then (parts.scene_on log old d next) (parts.scene_on log mid d' next') (parts.scene_on log last_of e last)
-        (⊎_elim (λ bad. absurd bad) (catalog_settles log law old changed d d' next next' sound frames old.offsets) settled)
+        (⊎_elim (λ bad. absurd bad) (catalog_settles log law old changed d d' next next' sound frames old.offsets old.texts) settled)
         (parts_settle log law mid last_of d' e next' last refl recorded.frame.sound frame settles))
 
     pub deleted_world : e.honest → Agrees log old d.files

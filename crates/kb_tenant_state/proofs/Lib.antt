@@ -30,4 +30,5 @@ pub mod Starts
 pub mod StillKept
 pub mod Sums
 pub mod Telling
+pub mod Texts
 pub mod Tied

@@ -22,7 +22,7 @@ use Rattle.kb_topics.specs.declared.fault.CatalogFault.{CatalogFault}
 use Rattle.kb_topics.specs.declared.fault.CatalogFault.TheVariants as catalog
 use Rattle.kb_tenant_state.specs.Parts as parts
 use Rattle.kb_tenant_state.specs.RetentionTime.{AreAllKept}
-use Rattle.kb_tenant_state.specs.Stored.{IsTold, offsets_in, stored_in, up_to_end}
+use Rattle.kb_tenant_state.specs.Stored.{IsTold, offsets_in, stored_in, texts_in, up_to_end}
 use Rattle.kb_tenant_state.specs.Parts.{IsSound, Agrees, Seen, meta, entries, recorded_start, world_of, raised, refused, counted_for, counted_for_catalog}
 use Rattle.kb_tenant_state.specs.Counts.{END, IsCalm}
 use Rattle.kb_tenant_state.specs.Steps.{IsStep, Meets, calm_then}
@@ -33,9 +33,13 @@ use Rattle.kb_tenant_state.proofs.StillKept.{as_before, kept_by}
 use Rattle.kb_tenant_state.proofs.Sums.{still_told}
 use Rattle.kb_tenant_state.proofs.Tied.{AgreesBy, AreCounted, AreOf, IsUntied, KeepNames, KeepStarts, from_untied, meta_named, named_as, untied, untied_on}
 
--- the same offsets are counted, and the same is known of the bytes of batches
+-- how many offsets are counted, and the bytes of their texts
+abbrev pub tally : {L : Type 0} → Parts L → ℕ × ℕ
+tally p = (p.offsets, p.texts)
+
+-- the same offsets and texts are counted, and the same is known of the bytes of batches
 abbrev pub AreTallied : {L : Type 0} → Parts L → Parts L → Type 0
-AreTallied q p = (q.offsets ≡ p.offsets) × (q.stored ≡ p.stored)
+AreTallied q p = (tally q ≡ tally p) × (q.stored ≡ p.stored)
 
 -- A call for the partitions: the catalog is as before, and topics that had no partitions have none, or as many as they had. Behind it
 -- the catalog says how many, and where their logs start.
@@ -49,7 +53,7 @@ pub parts_move : {L : Type 0} (log : L → Log) (law : (l : L) → IsLawfulLog (
     → (d'.honest → AgreesBy log recorded p d.files → AreAllKept p'.next_retention_time (world_of log p' d'.files))
     → AreCounted p' → (d'.honest → AgreesBy log recorded p d.files → IsTold p'.stored (up_to_end (stored_in (world_of log p' d'.files))))
     → IsMove (untied_on log recorded p d next) (parts.scene_on log p' d' next')
-parts_move {L} log law recorded p p' d d' next next' catalog of named unmade small grows tied sound frame started until offsets stored =
+parts_move {L} log law recorded p p' d d' next next' catalog of named unmade small grows tied sound frame started until counts stored =
     let m = meta log p in
     let lawful : IsLawfulLog m = law (meta_log p.catalog) in
     let same : meta log p' ≡ m = ap (λ c. log (meta_log c)) catalog in
@@ -70,7 +74,8 @@ parts_move {L} log law recorded p p' d d' next next' catalog of named unmade sma
           tied = tied;
           catalog_named = meta_named p p' (meta log p').identity m.identity of (ap (λ (l : Log). l.identity) same) sound.catalog_named;
           logs_named = named (string_bytes p'.tenant) p'.segment_bytes (named_as log p p' (entries p) of sound.logs_named);
-          offsets = offsets;
+          offsets = counts.0;
+          texts = counts.1;
         };
         others = record {
           later = others.later;
@@ -127,16 +132,16 @@ pub logs_move : {L : Type 0} (log : L → Log) (law : (l : L) → IsLawfulLog (l
     → places_of (entries p') ≡ places_of (entries p) → p.refusals ≤ p'.refusals
     → IsSound log p d.table next → Frame (scene_on log (entries p) d next) (scene_on log (entries p') d' next')
     → (d'.honest → AgreesBy log (recorded_start (known p.catalog)) p d.files → AreAllKept p'.next_retention_time (world_of log p' d'.files))
-    → p'.offsets ≡ p.offsets → (d'.honest → AgreesBy log (recorded_start (known p.catalog)) p d.files → IsTold p'.stored (up_to_end (stored_in (world_of log p' d'.files))))
+    → tally p' ≡ tally p → (d'.honest → AgreesBy log (recorded_start (known p.catalog)) p d.files → IsTold p'.stored (up_to_end (stored_in (world_of log p' d'.files))))
     → IsMove (parts.scene_on log p d next) (parts.scene_on log p' d' next')
-logs_move log law p p' d d' next next' catalog of named starts places grows sound frame until offsets stored =
+logs_move log law p p' d d' next next' catalog of named starts places grows sound frame until counts stored =
     from_untied log p (parts.scene_on log p' d' next') d next
     (parts_move log law (recorded_start (known p.catalog)) p p' d d' next next' catalog of named
     (λ i none. ap (λ ps. lookup (is_at (nat_cmp i)) ps) places ∙ none)
     (λ i n e. ap (λ ps. lookup (is_at (nat_cmp i)) ps) (sym places) ∙ e) grows
     (places ∙ sound.tied ∙ sym (ap (λ c. counted partition_count (known c).topics) catalog)) (untied log p d.table next sound) frame
     (λ honest agree. subst (λ c. AreStarted log (recorded_start (known c)) (entries p')) (sym catalog) (starts (recorded_start (known p.catalog)) agree.started)) until
-    (offsets ∙ sound.offsets ∙ sym (ap (λ c. up_to_end (offsets_in (known c))) catalog)) stored)
+    (ap (λ (n : ℕ × ℕ). n.0) counts ∙ sound.offsets ∙ sym (ap (λ c. up_to_end (offsets_in (known c))) catalog), ap (λ (n : ℕ × ℕ). n.1) counts ∙ sound.texts ∙ sym (ap (λ c. up_to_end (texts_in (known c))) catalog)) stored)
 
 -- A call for the partitions that leaves them as they are, and each log's batches as they were.
 pub read_move : {L : Type 0} (log : L → Log) (law : (l : L) → IsLawfulLog (log l)) (p p' : Parts L) (d d' : Disk) (next next' : ℕ)
@@ -191,7 +196,8 @@ recast_move {L} log a p q d next c of e until tallied le move =
           tied = ap places_of e ∙ s.tied ∙ sym (ap (λ (k : Catalog L). counted partition_count (known k).topics) c);
           catalog_named = meta_named p q (meta log q).identity (meta log p).identity of (ap (λ (l : Log). l.identity) m) s.catalog_named;
           logs_named = named_as log p q (entries q) of (subst (AreNamed log (string_bytes p.tenant) p.segment_bytes) (sym e) s.logs_named);
-          offsets = tallied.0 ∙ s.offsets ∙ sym (ap (λ (k : Catalog L). up_to_end (offsets_in (known k))) c);
+          offsets = ap (λ (n : ℕ × ℕ). n.0) tallied.0 ∙ s.offsets ∙ sym (ap (λ (k : Catalog L). up_to_end (offsets_in (known k))) c);
+          texts = ap (λ (n : ℕ × ℕ). n.1) tallied.0 ∙ s.texts ∙ sym (ap (λ (k : Catalog L). up_to_end (texts_in (known k))) c);
         };
         others = record {
           later = move.frame.others.later;
@@ -316,6 +322,7 @@ kept_step log a p u d next until step =
           catalog_named = s.catalog_named;
           logs_named = s.logs_named;
           offsets = s.offsets;
+          texts = s.texts;
         };
         others = record {
           later = step.frame.others.later;
@@ -360,6 +367,7 @@ told_step log a p o d next stored step =
           catalog_named = s.catalog_named;
           logs_named = s.logs_named;
           offsets = s.offsets;
+          texts = s.texts;
         };
         others = record {
           later = step.frame.others.later;

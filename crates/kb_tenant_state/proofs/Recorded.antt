@@ -19,7 +19,6 @@ use Rattle.kb_tenant_state.specs.Scene.{Settles}
 use Rattle.kb_tenant_state.specs.Parts as parts
 use Rattle.kb_tenant_state.specs.Parts.{IsSound, meta, entries, recorded_start, world_of, counted_for_catalog}
 use Rattle.kb_tenant_state.specs.Steps.{IsStep}
-use Rattle.kb_tenant_state.specs.Stored.{offsets_in, up_to_end}
 use Rattle.kb_tenant_state.specs.Counts.{IsCalm}
 use Rattle.kb_tenant_state.specs.Tied.{counted, partition_count}
 use Rattle.kb_tenant_state.specs.World.{World}
@@ -30,7 +29,7 @@ use Rattle.kb_tenant_state.proofs.Moves.{IsMove, as_step}
 use Rattle.kb_tenant_state.proofs.Spared as spared
 use Rattle.kb_tenant_state.proofs.Starts.{SameStarts, same_topics}
 use Rattle.kb_tenant_state.proofs.Sums.{still_told}
-use Rattle.kb_tenant_state.proofs.Tied.{AreOf, named_still, tie, untied_on}
+use Rattle.kb_tenant_state.proofs.Tied.{AreOf, IsCounted, named_still, still_counted, tie, untied_on}
 
 -- the meta log at a moment
 abbrev pub on_shelf : Log → Disk → ℕ → OnShelf
@@ -56,11 +55,11 @@ module _ {L : Type 0} (log : L → Log) (law : (l : L) → IsLawfulLog (log l)) 
   below file o = (law o.partition.log).given_out d.table next (sound.logs.each o.instance o.number o.partition o.at) file o.own
 
   -- whatever partitions the topics have by then, and wherever they are to start
-  pub untied_move : (o : ℕ) → (meta log p).end ≤ (log (meta_log changed)).end
+  pub untied_move : (o t : ℕ) → (meta log p).end ≤ (log (meta_log changed)).end
       → StaysFold (on_shelf (meta log p) d next) (known p.catalog) (on_shelf (log (meta_log changed)) d' next') (known changed)
       → (known p.catalog).creates ≤ (known changed).creates → (known changed).creates < 2 ^ 63 → WereThere (known p.catalog) (known changed) → Resume (meta log p) (log (meta_log changed))
-      → IsMove (parts.scene_on log p d next) (untied_on log (recorded_start (known p.catalog)) (record p { catalog = changed; offsets = o }) d' next')
-  untied_move o longer fold more few were resumes = record {
+      → IsMove (parts.scene_on log p d next) (untied_on log (recorded_start (known p.catalog)) (record p { catalog = changed; offsets = o; texts = t }) d' next')
+  untied_move o t longer fold more few were resumes = record {
     frame = record {
       sound = record {
         catalog = frames.sound;
@@ -98,32 +97,32 @@ module _ {L : Type 0} (log : L → Log) (law : (l : L) → IsLawfulLog (log l)) 
   }
 
   -- each topic has as many partitions as before, which start where they did
-  pub catalog_move : (o : ℕ) → o ≡ up_to_end (offsets_in (known changed)) → (meta log p).end ≤ (log (meta_log changed)).end
+  pub catalog_move : (o t : ℕ) → IsCounted o t (known changed) → (meta log p).end ≤ (log (meta_log changed)).end
       → StaysFold (on_shelf (meta log p) d next) (known p.catalog) (on_shelf (log (meta_log changed)) d' next') (known changed)
       → counted partition_count (known changed).topics ≡ counted partition_count (known p.catalog).topics
       → (known p.catalog).creates ≤ (known changed).creates → (known changed).creates < 2 ^ 63 → WereThere (known p.catalog) (known changed) → SameStarts (known p.catalog) (known changed)
-      → Resume (meta log p) (log (meta_log changed)) → IsMove (parts.scene_on log p d next) (parts.scene_on log (record p { catalog = changed; offsets = o }) d' next')
-  catalog_move o counted longer fold counts more few were starts resumes =
-      tie log (parts.scene_on log p d next) (recorded_start (known p.catalog)) (record p { catalog = changed; offsets = o }) d' next' (sound.tied ∙ sym counts) starts counted (untied_move o longer fold more few were resumes)
+      → Resume (meta log p) (log (meta_log changed)) → IsMove (parts.scene_on log p d next) (parts.scene_on log (record p { catalog = changed; offsets = o; texts = t }) d' next')
+  catalog_move o t counted longer fold counts more few were starts resumes =
+      tie log (parts.scene_on log p d next) (recorded_start (known p.catalog)) (record p { catalog = changed; offsets = o; texts = t }) d' next' (sound.tied ∙ sym counts) starts counted (untied_move o t longer fold more few were resumes)
 
   -- what the call leaves where it was refused nothing
-  pub catalog_settles : (o : ℕ) → one.Settles (on_shelf (meta log p) d next) (on_shelf (log (meta_log changed)) d' next') → Settles (parts.scene_on log p d next) (parts.scene_on log (record p { catalog = changed; offsets = o }) d' next')
-  catalog_settles o settles = record {
+  pub catalog_settles : (o t : ℕ) → one.Settles (on_shelf (meta log p) d next) (on_shelf (log (meta_log changed)) d' next') → Settles (parts.scene_on log p d next) (parts.scene_on log (record p { catalog = changed; offsets = o; texts = t }) d' next')
+  catalog_settles o t settles = record {
     accounts = λ file there not.
         let before = settles.accounts file there (λ own. not (inl own)) in
         (before.0, λ own. ⊎_elim (λ mine. before.1 mine) (λ theirs. not (inr theirs)) own);
     exact = λ exact. (settles.exact exact.0, spared.spared_exact log law (entries p) d d' next next' sound.logs frames.others.later lengths contents exact.1);
   }
 
-  pub catalog_step : (o : ℕ) → o ≡ up_to_end (offsets_in (known changed)) → (log (meta_log changed)).end ≡ (meta log p).end + 1
+  pub catalog_step : (o t : ℕ) → IsCounted o t (known changed) → (log (meta_log changed)).end ≡ (meta log p).end + 1
       → StaysFold (on_shelf (meta log p) d next) (known p.catalog) (on_shelf (log (meta_log changed)) d' next') (known changed)
       → counted partition_count (known changed).topics ≡ counted partition_count (known p.catalog).topics
       → (known p.catalog).creates ≤ (known changed).creates → (known changed).creates < 2 ^ 63 → WereThere (known p.catalog) (known changed) → SameStarts (known p.catalog) (known changed)
       → Resume (meta log p) (log (meta_log changed)) → ⊥ ⊎ one.Settles (on_shelf (meta log p) d next) (on_shelf (log (meta_log changed)) d' next')
-      → IsStep (parts.scene_on log p d next) (parts.scene_on log (record p { catalog = changed; offsets = o }) d' next')
-  catalog_step o counted longer fold counts more few were starts resumes settled =
-      as_step (parts.scene_on log p d next) (parts.scene_on log (record p { catalog = changed; offsets = o }) d' next') (catalog_move o counted (omega (arith, longer)) fold counts more few were starts resumes)
-      (λ calm. ⊎_elim (λ bad. absurd bad) (catalog_settles o) settled)
+      → IsStep (parts.scene_on log p d next) (parts.scene_on log (record p { catalog = changed; offsets = o; texts = t }) d' next')
+  catalog_step o t counted longer fold counts more few were starts resumes settled =
+      as_step (parts.scene_on log p d next) (parts.scene_on log (record p { catalog = changed; offsets = o; texts = t }) d' next') (catalog_move o t counted (omega (arith, longer)) fold counts more few were starts resumes)
+      (λ calm. ⊎_elim (λ bad. absurd bad) (catalog_settles o t) settled)
 
   -- a call that was refused, and whose refusal is counted: what is known is as before
   pub refused_catalog : (T : Type 0) (q : Parts L) → q.catalog ≡ changed → AreOf q p → entries q ≡ entries p → q.next_retention_time ≡ p.next_retention_time → AreTallied q p → p.refusals ≤ q.refusals
@@ -137,9 +136,9 @@ module _ {L : Type 0} (log : L → Log) (law : (l : L) → IsLawfulLog (log l)) 
       let topics = ap (λ (k : Known). k.topics) same in
       counted_step_catalog T log a q d' next' f
       (recast_move log a mid q d' next' catalog of e until tallied le
-      (catalog_move p.offsets (sound.offsets ∙ sym (ap (λ (k : Known). up_to_end (offsets_in k)) same)) (omega (arith, as_long)) fold (ap (λ (k : Known). counted partition_count k.topics) same) (omega (arith, creates)) (omega (arith, creates, sound.few))
+      (catalog_move p.offsets p.texts (still_counted p.offsets p.texts (known p.catalog) (known changed) same (sound.offsets, sound.texts)) (omega (arith, as_long)) fold (ap (λ (k : Known). counted partition_count k.topics) same) (omega (arith, creates)) (omega (arith, creates, sound.few))
       (as_before (known p.catalog) (known changed) topics) (same_topics (known p.catalog) (known changed) topics) resumes))
-      (⊎_elim (λ want. inl want) (λ settles. inr (recast_settles log a mid q d' next' catalog e (catalog_settles p.offsets settles))) settled)
+      (⊎_elim (λ want. inl want) (λ settles. inr (recast_settles log a mid q d' next' catalog e (catalog_settles p.offsets p.texts settles))) settled)
 
 -- ---- refusals
 

@@ -6,7 +6,7 @@ use Rattle.std.specs.declared.cmp.Ordering.{Ordering}
 use Rattle.std.specs.declared.cmp.Ordering.TheVariants.{Less, Equal, Greater}
 use Rattle.std.specs.Ordering.{nat_cmp, is_eq, match_ordering}
 use Rattle.std.specs.Cmp.Lexicographic.{slice_cmp}
-use Rattle.std.specs.Map.{lookup, set_value}
+use Rattle.std.specs.Map.{lookup, remove_entry, set_value}
 use Rattle.std.specs.BTreeMap.{insert_entry, is_at}
 use Rattle.std.proofs.lemmas.List.Sums.{sum_by-cons, sum_by-append}
 use Rattle.kb_batch.specs.Batch.{stamped}
@@ -17,7 +17,7 @@ use Rattle.kb_topics.specs.Known as topics
 use Rattle.kb_topics.specs.Known.{Known, CommittedOffset, PartitionState, TopicState, new_partition, put_topic, step, topic_at, with_commit, with_part, with_partition, with_start}
 use Rattle.kb_tenant_state.specs.Calls.{known_at, with_committed}
 use Rattle.kb_tenant_state.specs.Logs.{Logs, LogState, appended, log_at, no_log, put_log, with_log, with_new_logs}
-use Rattle.kb_tenant_state.specs.Stored.{IsTold, bytes_in, bytes_in_all, commits_to, offsets_in, offsets_to, offsets_to_all, up_to_end}
+use Rattle.kb_tenant_state.specs.Stored.{IsTold, bytes_in, bytes_in_all, commits_to, offsets_in, text_size, texts_in, up_to_end}
 use Rattle.kb_tenant_state.specs.declared.topic_partition.TopicPartition.{TopicPartition}
 use Rattle.kb_tenant_state.proofs.Put.{found_put, get_here, own_number}
 
@@ -43,6 +43,26 @@ total_set {A} f test (e ∷ es) t u here = by (test e.0) here (total_set f test 
         omega (arith, ap f one, new, total_cons f e es)
     by false found rest = omega (arith, rest found, total_cons f e (set_value test es u), total_cons f e es)
 
+-- a value that is there is part of the sum
+pub total_has : {A : Type 0} (f : A → ℕ) (test : ℕ → Bool) (es : List (ℕ × A)) (t : A) → lookup test es ≡ Some t → f t ≤ total f es
+total_has f test [] t here = absurd cc
+total_has {A} f test (e ∷ es) t here = by (test e.0) here (total_has f test es t)
+  where
+    by : (b : Bool) → cond b (Some e.1) (lookup test es) ≡ Some t → (lookup test es ≡ Some t → f t ≤ total f es) → f t ≤ total f (e ∷ es)
+    by true found rest = let one : e.1 ≡ t = cc in omega (arith, ap f one, total_cons f e es)
+    by false found rest = omega (arith, rest found, total_cons f e es)
+
+-- what a test finds first is taken out
+pub total_removed : {A : Type 0} (f : A → ℕ) (weight : Option A → ℕ) → weight None ≡ 0 → ((t : A) → weight (Some t) ≡ f t) → (test : ℕ → Bool) (es : List (ℕ × A))
+    → total f (remove_entry test es) + weight (lookup test es) ≡ total f es
+total_removed f weight none some test [] = omega (arith, none)
+total_removed {A} f weight none some test (e ∷ es) = by (test e.0) (total_removed f weight none some test es)
+  where
+    by : (b : Bool) → total f (remove_entry test es) + weight (lookup test es) ≡ total f es
+        → total f (cond {A = List (ℕ × A)} b es (e ∷ remove_entry test es)) + weight (cond b (Some e.1) (lookup test es)) ≡ total f (e ∷ es)
+    by true rest = omega (arith, some e.1, total_cons f e es)
+    by false rest = omega (arith, rest, total_cons f e (remove_entry test es), total_cons f e es)
+
 -- a value is put under a new number
 pub total_inserted : {A : Type 0} (f : A → ℕ) (n : ℕ) (v : A) (es : List (ℕ × A)) → lookup (is_at (nat_cmp n)) es ≡ None → total f (insert_entry nat_cmp es n v) ≡ f v + total f es
 total_inserted f n v [] none = total_cons f (n, v) []
@@ -67,26 +87,50 @@ sum_put f (w ∷ ws) zero x y at =
     omega (arith, ap f same, sum_by-cons f y ws, sum_by-cons f w ws)
 sum_put f (w ∷ ws) (suc p) x y at = omega (arith, sum_put f ws p x y at, sum_by-cons f w (slice_set ws p y), sum_by-cons f w ws)
 
--- ---- committed offsets
+-- an item that is there is part of the sum
+sum_has : {A : Type 0} (f : A → ℕ) (xs : List A) (p : ℕ) (x : A) → slice_get xs p ≡ Some x → f x ≤ sum_by f xs
+sum_has f [] p x at = absurd cc
+sum_has f (w ∷ ws) zero x at = let same : w ≡ x = cc in omega (arith, ap f same, sum_by-cons f w ws)
+sum_has f (w ∷ ws) (suc p) x at = omega (arith, sum_has f ws p x at, sum_by-cons f w ws)
 
-put_offsets : (k : Known) (i p : ℕ) (t : TopicState) (q part : PartitionState) → topic_at i k.topics ≡ Some t → slice_get t.partitions p ≡ Some q
-    → offsets_in (with_partition k (pos i) (pos p) part) + length q.commits ≡ offsets_in k + length part.commits
-put_offsets k i p t q part at there =
-    let parts : offsets_to (slice_set t.partitions p part) + length q.commits ≡ offsets_to t.partitions + length part.commits = sum_put (λ (x : PartitionState). length x.commits) t.partitions p q part there in
-    let all : offsets_to_all (set_value (is_at (nat_cmp i)) k.topics (with_part p part t)) + offsets_to t.partitions ≡ offsets_to_all k.topics + offsets_to (slice_set t.partitions p part) =
-    total_set (λ (x : TopicState). offsets_to x.partitions) (is_at (nat_cmp i)) k.topics t (with_part p part t) at in
-    let is : offsets_in (with_partition k (pos i) (pos p) part) ≡ offsets_to_all (set_value (is_at (nat_cmp i)) k.topics (with_part p part t)) = ap (λ o. offsets_to_all (put_topic i p part k.topics o)) at in
-    omega (arith, parts, all, is)
+-- ---- the partitions of all topics
+
+-- the sum over them
+abbrev pub each_part : (PartitionState → ℕ) → List (ℕ × TopicState) → ℕ
+each_part f ts = total (λ (t : TopicState). sum_by f t.partitions) ts
+
+-- one partition has another state
+module _ (f : PartitionState → ℕ) (k : Known) (i p : ℕ) (q part : PartitionState) where
+  put_sum : (t : TopicState) → topic_at i k.topics ≡ Some t → slice_get t.partitions p ≡ Some q → each_part f (with_partition k (pos i) (pos p) part).topics + f q ≡ each_part f k.topics + f part
+  put_sum t at there =
+      let parts : sum_by f (slice_set t.partitions p part) + f q ≡ sum_by f t.partitions + f part = sum_put f t.partitions p q part there in
+      let all : each_part f (set_value (is_at (nat_cmp i)) k.topics (with_part p part t)) + sum_by f t.partitions ≡ each_part f k.topics + sum_by f (slice_set t.partitions p part) =
+      total_set (λ (x : TopicState). sum_by f x.partitions) (is_at (nat_cmp i)) k.topics t (with_part p part t) at in
+      let is : each_part f (with_partition k (pos i) (pos p) part).topics ≡ each_part f (set_value (is_at (nat_cmp i)) k.topics (with_part p part t)) = ap (λ o. each_part f (put_topic i p part k.topics o)) at in
+      omega (arith, parts, all, is)
+
+  pub moved_sum : topics.partition_at k (pos i) (pos p) ≡ Some q → each_part f (with_partition k (pos i) (pos p) part).topics + f q ≡ each_part f k.topics + f part
+  moved_sum there = by (topic_at i k.topics) refl there
+    where
+      by : (o : Option TopicState) → topic_at i k.topics ≡ o → option_and_then (λ (t : TopicState). slice_get t.partitions p) o ≡ Some q
+          → each_part f (with_partition k (pos i) (pos p) part).topics + f q ≡ each_part f k.topics + f part
+      by None e at = absurd cc
+      by (Some t) e at = put_sum t e at
+
+  -- what it had is part of the sum
+  pub part_in_sum : topics.partition_at k (pos i) (pos p) ≡ Some q → f q ≤ each_part f k.topics
+  part_in_sum there = by (topic_at i k.topics) refl there
+    where
+      by : (o : Option TopicState) → topic_at i k.topics ≡ o → option_and_then (λ (t : TopicState). slice_get t.partitions p) o ≡ Some q → f q ≤ each_part f k.topics
+      by None e at = absurd cc
+      by (Some t) e at = omega (arith, sum_has f t.partitions p q at, total_has (λ (x : TopicState). sum_by f x.partitions) (is_at (nat_cmp i)) k.topics t e)
+
+-- ---- committed offsets
 
 -- one partition has another state
 pub moved_offsets : (k : Known) (i p : ℕ) (q part : PartitionState) → topics.partition_at k (pos i) (pos p) ≡ Some q
     → offsets_in (with_partition k (pos i) (pos p) part) + length q.commits ≡ offsets_in k + length part.commits
-moved_offsets k i p q part there = by (topic_at i k.topics) refl there
-  where
-    by : (o : Option TopicState) → topic_at i k.topics ≡ o → option_and_then (λ (t : TopicState). slice_get t.partitions p) o ≡ Some q
-        → offsets_in (with_partition k (pos i) (pos p) part) + length q.commits ≡ offsets_in k + length part.commits
-    by None e at = absurd cc
-    by (Some t) e at = put_offsets k i p t q part e at
+moved_offsets k i p q part there = moved_sum (λ (x : PartitionState). length x.commits) k i p q part there
 
 -- it is found there
 pub moved_there : (k : Known) (i p : ℕ) (q part : PartitionState) → topics.partition_at k (pos i) (pos p) ≡ Some q
@@ -101,23 +145,33 @@ moved_there k i p q part there = by (topic_at i k.topics) refl there
         ∙ ap (option_and_then (λ (t : TopicState). slice_get t.partitions p)) (found_put k.topics i i t (with_part p part t) e ∙ ap (λ b. cond b (Some (with_part p part t)) (topic_at i k.topics)) (own_number i))
         ∙ get_here t.partitions p q part at
 
--- a new start leaves them
-pub started_offsets : (k new : Known) (i p offset : ℤ) (o : Option PartitionState) → topics.partition_at k i p ≡ o
-    → option_and_then (λ (q : PartitionState). cond (int_le q.start offset) (Some (with_partition k i p (with_start q offset))) None) o ≡ Some new → offsets_in new ≡ offsets_in k
-started_offsets k new i p offset None at e = absurd cc
-started_offsets k new (negsuc i) p offset (Some q) at e = absurd cc
-started_offsets k new (pos i) (negsuc p) offset (Some q) at e = absurd cc
-started_offsets k new (pos i) (pos p) offset (Some q) at e = by (int_le q.start offset) e
-  where
-    by : (b : Bool) → cond b (Some (with_partition k (pos i) (pos p) (with_start q offset))) None ≡ Some new → offsets_in new ≡ offsets_in k
-    by true is =
-        let same : with_partition k (pos i) (pos p) (with_start q offset) ≡ new = cc in
-        let moved : offsets_in (with_partition k (pos i) (pos p) (with_start q offset)) + length q.commits ≡ offsets_in k + length q.commits = moved_offsets k i p q (with_start q offset) at in
-        omega (arith, ap offsets_in same, moved)
-    by false is = absurd cc
+-- a new start leaves what the commits come to
+module _ (f : PartitionState → ℕ) (still : (q : PartitionState) (offset : ℤ) → f (with_start q offset) ≡ f q) (k new : Known) (i p offset : ℤ) where
+  started_sum : (o : Option PartitionState) → topics.partition_at k i p ≡ o
+      → option_and_then (λ (q : PartitionState). cond (int_le q.start offset) (Some (with_partition k i p (with_start q offset))) None) o ≡ Some new → each_part f new.topics ≡ each_part f k.topics
+  started_sum None at e = absurd cc
+  started_sum (Some q) at e = placed i p at e
+    where
+      placed : (i p : ℤ) → topics.partition_at k i p ≡ Some q → cond (int_le q.start offset) (Some (with_partition k i p (with_start q offset))) None ≡ Some new → each_part f new.topics ≡ each_part f k.topics
+      placed (negsuc i) p at e = absurd cc
+      placed (pos i) (negsuc p) at e = absurd cc
+      placed (pos i) (pos p) at e = by (int_le q.start offset) e
+        where
+          by : (b : Bool) → cond b (Some (with_partition k (pos i) (pos p) (with_start q offset))) None ≡ Some new → each_part f new.topics ≡ each_part f k.topics
+          by true is =
+              let same : with_partition k (pos i) (pos p) (with_start q offset) ≡ new = cc in
+              let moved = moved_sum f k i p q (with_start q offset) at in
+              omega (arith, ap (λ (j : Known). each_part f j.topics) same, moved, still q offset)
+          by false is = absurd cc
+
+  start_sum : step k (start_command i p offset) ≡ Some new → each_part f new.topics ≡ each_part f k.topics
+  start_sum e = started_sum (topics.partition_at k i p) refl e
 
 pub start_offsets : (k new : Known) (i p offset : ℤ) → step k (start_command i p offset) ≡ Some new → offsets_in new ≡ offsets_in k
-start_offsets k new i p offset e = started_offsets k new i p offset (topics.partition_at k i p) refl e
+start_offsets k new i p offset e = start_sum (λ (q : PartitionState). length q.commits) (λ q offset. refl) k new i p offset e
+
+pub start_texts : (k new : Known) (i p offset : ℤ) → step k (start_command i p offset) ≡ Some new → texts_in new ≡ texts_in k
+start_texts k new i p offset e = start_sum (λ (q : PartitionState). sum_by text_size q.commits) (λ q offset. refl) k new i p offset e
 
 -- a new entry makes none less
 longer : {A B : Type 0} (cmp : A → A → Ordering) (es : List (A × B)) (k : A) (v : B) → length es ≤ length (insert_entry cmp es k v)
@@ -144,16 +198,25 @@ commit_offsets k new place group c (Some q) was before after now at is count b a
     let more : length q.commits ≤ length part.commits = longer (slice_cmp nat_cmp) q.commits group c in
     omega (arith, ap offsets_in is, count, sum, moved, had, has, more)
 
-no_offsets : (count : ℕ) → offsets_to (replicate count new_partition) ≡ 0
-no_offsets zero = refl
-no_offsets (suc count) = omega (arith, sum_by-cons (λ (p : PartitionState). length p.commits) new_partition (replicate count new_partition), no_offsets count)
-
 -- a new topic has none
+module _ (f : PartitionState → ℕ) (none : f new_partition ≡ 0) where
+  none_in : (count : ℕ) → sum_by f (replicate count new_partition) ≡ 0
+  none_in zero = refl
+  none_in (suc count) = omega (arith, sum_by-cons f new_partition (replicate count new_partition), none_in count, none)
+
+  created_sum : (k new : Known) (count : ℕ) (t : TopicState) → topic_at k.creates k.topics ≡ None → new.topics ≡ insert_entry nat_cmp k.topics k.creates t → t.partitions ≡ replicate count new_partition
+      → each_part f new.topics ≡ each_part f k.topics
+  created_sum k new count t absent is parts =
+      let all : each_part f (insert_entry nat_cmp k.topics k.creates t) ≡ sum_by f t.partitions + each_part f k.topics = total_inserted (λ (x : TopicState). sum_by f x.partitions) k.creates t k.topics absent in
+      omega (arith, ap (each_part f) is, all, ap (sum_by f) parts, none_in count)
+
 pub created_offsets : (k new : Known) (count : ℕ) (t : TopicState) → topic_at k.creates k.topics ≡ None → new.topics ≡ insert_entry nat_cmp k.topics k.creates t → t.partitions ≡ replicate count new_partition
     → offsets_in new ≡ offsets_in k
-created_offsets k new count t none is parts =
-    let all : offsets_to_all (insert_entry nat_cmp k.topics k.creates t) ≡ offsets_to t.partitions + offsets_to_all k.topics = total_inserted (λ (x : TopicState). offsets_to x.partitions) k.creates t k.topics none in
-    omega (arith, ap offsets_to_all is, all, ap offsets_to parts, no_offsets count)
+created_offsets k new count t none is parts = created_sum (λ (p : PartitionState). length p.commits) refl k new count t none is parts
+
+pub created_texts : (k new : Known) (count : ℕ) (t : TopicState) → topic_at k.creates k.topics ≡ None → new.topics ≡ insert_entry nat_cmp k.topics k.creates t → t.partitions ≡ replicate count new_partition
+    → texts_in new ≡ texts_in k
+created_texts k new count t none is parts = created_sum (λ (p : PartitionState). sum_by text_size p.commits) refl k new count t none is parts
 
 -- ---- the bytes of batches
 

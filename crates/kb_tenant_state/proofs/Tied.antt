@@ -24,7 +24,7 @@ use Rattle.kb_tenant_state.specs.Scene.{Scene}
 use Rattle.kb_tenant_state.specs.declared.partition.Partition.{Partition}
 use Rattle.kb_tenant_state.specs.RetentionTime.{AreAllKept}
 use Rattle.kb_tenant_state.specs.Parts.{IsSound, Seen, entries, meta, recorded_start, scene_on, world_of}
-use Rattle.kb_tenant_state.specs.Stored.{IsTold, offsets_in, stored_in, up_to_end}
+use Rattle.kb_tenant_state.specs.Stored.{IsTold, offsets_in, stored_in, texts_in, up_to_end}
 use Rattle.kb_tenant_state.specs.Tied.{IsTied, counted, partition_count}
 use Rattle.kb_tenant_state.specs.declared.parts.Parts.{Parts}
 use Rattle.kb_tenant_state.proofs.Moves.{IsMove}
@@ -114,9 +114,17 @@ KeepNames log old new = (tenant : List ℕ) (size : ℕ) → AreNamed log tenant
 abbrev pub KeepStarts : {L : Type 0} → (L → Log) → Entries L → Entries L → Type 0
 KeepStarts log old new = (recorded : ℕ → ℕ → ℕ) → AreStarted log recorded old → AreStarted log recorded new
 
--- the committed offsets are counted
+-- so many offsets are committed, with texts of so many bytes
+abbrev pub IsCounted : ℕ → ℕ → Known → Type 0
+IsCounted offsets texts k = (offsets ≡ up_to_end (offsets_in k)) × (texts ≡ up_to_end (texts_in k))
+
+-- the committed offsets are counted, and their texts
 abbrev pub AreCounted : {L : Type 0} → Parts L → Type 0
-AreCounted p = p.offsets ≡ up_to_end (offsets_in (known p.catalog))
+AreCounted p = IsCounted p.offsets p.texts (known p.catalog)
+
+-- they are while what is known is the same
+pub still_counted : (offsets texts : ℕ) (old new : Known) → new ≡ old → IsCounted offsets texts old → IsCounted offsets texts new
+still_counted offsets texts old new same = subst (IsCounted offsets texts) (sym same)
 
 -- ---- between a command and the call for the partitions
 
@@ -180,7 +188,7 @@ from_untied log p b d next move = record {
 
 pub tie : {L : Type 0} (log : L → Log) (a : Scene Seen) (recorded : ℕ → ℕ → ℕ) (p : Parts L) (d : Disk) (next : ℕ) → places_of (entries p) ≡ counted partition_count (known p.catalog).topics
     → ((i q : ℕ) → recorded_start (known p.catalog) i q ≡ recorded i q) → AreCounted p → IsMove a (untied_on log recorded p d next) → IsMove a (scene_on log p d next)
-tie log a recorded p d next tied same offsets move =
+tie log a recorded p d next tied same counted move =
     let s = move.frame.sound in
     record {
       frame = record {
@@ -194,7 +202,8 @@ tie log a recorded p d next tied same offsets move =
           tied = tied;
           catalog_named = s.catalog_named;
           logs_named = s.logs_named;
-          offsets = offsets;
+          offsets = counted.0;
+          texts = counted.1;
         };
         others = move.frame.others;
         failures = move.frame.failures;

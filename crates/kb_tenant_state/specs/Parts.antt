@@ -17,7 +17,7 @@ use Rattle.kb_topics.specs.declared.fault.CatalogFault.TheVariants as catalog
 use Rattle.kb_tenant_state.specs.declared.fault.PartitionFault.{PartitionFault}
 use Rattle.kb_tenant_state.specs.declared.fault.PartitionFault.TheVariants as partition
 use Rattle.kb_tenant_state.specs.RetentionTime.{AreAllKept}
-use Rattle.kb_tenant_state.specs.Stored.{offsets_in, stored_in, up_to_end, IsTold}
+use Rattle.kb_tenant_state.specs.Stored.{offsets_in, stored_in, texts_in, up_to_end, IsTold}
 use Rattle.kb_tenant_state.specs.Tied.{counted, partition_count}
 use Rattle.kb_tenant_state.specs.World.{World}
 use Rattle.kb_tenant_state.specs.declared.parts.Parts.{Parts}
@@ -36,7 +36,7 @@ Owns log p file = (meta log p).owns file ⊎ Owned log (entries p) file
 
 -- Each log is sound and the tenant's own, the meta log in whatever generation, and no file is of two logs. No instance that is still
 -- to be given out has partitions, and no topic has more than 64. Each topic has as many partitions as the catalog says, under its
--- instance, and there are no others. The committed offsets are counted.
+-- instance, and there are no others. The committed offsets are counted, and the bytes of their texts.
 pub record IsSound {L : Type 0} (log : L → Log) (p : Parts L) (table : Table) (next : ℕ) : Type 0 where
   pub catalog : (meta log p).sound table next
   pub logs : AreSound log (entries p) table next
@@ -48,6 +48,7 @@ pub record IsSound {L : Type 0} (log : L → Log) (p : Parts L) (table : Table) 
   pub catalog_named : (meta log p).identity ≡ catalog_identity (string_bytes p.tenant) (meta log p).identity.generation p.segment_bytes
   pub logs_named : AreNamed log (string_bytes p.tenant) p.segment_bytes (entries p)
   pub offsets : p.offsets ≡ up_to_end (offsets_in (known p.catalog))
+  pub texts : p.texts ≡ up_to_end (texts_in (known p.catalog))
 
 -- what the tenant sees
 abbrev pub world_of : {L : Type 0} → (L → Log) → Parts L → Files → World

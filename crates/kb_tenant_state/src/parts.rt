@@ -8,13 +8,13 @@ ghost use Rattle.kb_topics.specs.Known.{named, topic_at};
 ghost use Rattle.kb_tenant_state.specs.Calls.{start_of, end_of, judged, committed, retain_all};
 ghost use Rattle.kb_tenant_state.specs.Partitions.{AreExact};
 ghost use Rattle.kb_tenant_state.specs.Parts.{Agrees, IsSound, Owns, entries, meta, raised, refused, world_of};
-ghost use Rattle.kb_tenant_state.specs.Stored.{offsets_in, up_to_end};
+ghost use Rattle.kb_tenant_state.specs.Stored.{offsets_in, texts_in, up_to_end};
 ghost use Rattle.kb_tenant_state.specs.Restored.{AreFitting, DoAgree, IsOfEither, restored_world};
 ghost use Rattle.kb_tenant_state.specs.World.{new_world};
 
 use crate::partitions::Partitions;
 use crate::topic_partition::TopicPartition;
-use crate::usage::offset_count;
+use crate::usage::{offset_count, text_sum};
 use kb_batch::BatchView;
 use kb_log::PartitionLog;
 use kb_producers::Verdict;
@@ -22,7 +22,8 @@ use kb_topics::{Catalog, Committed, Topic, TopicsByName};
 use std::alloc::{AllocError, Global};
 
 /// A tenant's catalog and its partitions, a clock up to which no partition has anything to drop, what is known of the bytes of its
-/// batches, how many offsets its groups have committed, and how many refusals of memory and of the store were counted for it.
+/// batches, how many offsets its groups have committed and the bytes of their texts, and how many refusals of memory and of the store were
+/// counted for it.
 #[derive(Drop)]
 pub struct Parts<L: PartitionLog> {
     pub(crate) alloc: Global,
@@ -35,6 +36,8 @@ pub struct Parts<L: PartitionLog> {
     pub(crate) stored: Option<u64>,
     /// How many offsets all groups have committed, or else the greatest number.
     pub(crate) offsets: u64,
+    /// The bytes of the texts of all committed offsets, or else the greatest number.
+    pub(crate) texts: u64,
     pub(crate) refusals: u64,
 }
 
@@ -87,10 +90,12 @@ impl<L: PartitionLog> Parts<L> {
           next_retention_time = negsuc 0;
           stored = None;
           offsets = up_to_end (offsets_in (known catalog));
+          texts = up_to_end (texts_in (known catalog));
           refusals = 0;
         } }
     {
         let offsets = offset_count(&catalog);
+        let texts = text_sum(&catalog);
         Parts {
             alloc,
             tenant,
@@ -101,6 +106,7 @@ impl<L: PartitionLog> Parts<L> {
             next_retention_time: -1,
             stored: None,
             offsets,
+            texts,
             refusals: 0,
         }
     }

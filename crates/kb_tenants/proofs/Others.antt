@@ -51,6 +51,7 @@ module _ {L : Type 0} (log : L → Log) (law : (l : L) → IsLawfulLog (log l)) 
     catalog_named = sound.catalog_named;
     logs_named = sound.logs_named;
     offsets = sound.offsets;
+    texts = sound.texts;
   }
 
   pub still_seen : e.honest → world_of log q e.files ≡ world_of log q d.files

@@ -12,6 +12,7 @@ use Rattle.kb_tenant_state.proofs.Recorded.{catalog_step, on_shelf, recorded_log
 use Rattle.kb_tenant_state.proofs.Starts.{SameStarts}
 use Rattle.kb_tenant_state.proofs.StillKept.{WereThere}
 use Rattle.kb_tenant_state.proofs.Telling.{group_own, told}
+use Rattle.kb_tenant_state.proofs.Texts.{group_taken}
 use Rattle.kb_tenant_state.proofs.parts.Parts.delete_group.Goals as goal
 
 pub returns-in-Err-clause-step : goal.returns-in-Err-clause-step
@@ -54,8 +55,10 @@ returns-in-Ok-clause-step g c =
     let k = known old.catalog in
     let new = group_deleted k (known c.delete_group.new.self) group records.2 in
     let same = ap (λ j. j.creates) new in
+    let texts = group_taken k (known c.delete_group.new.self) group old.texts c.moved_texts-self.result c.group_texts-before.result new c.requires.sound.texts c.group_texts-before.ensures
+    c.moved_texts-self.ensures.moved c.moved_texts-self.ensures.again in
     catalog_step g.L.PartitionLog.log g.met.L.PartitionLog.lawful old c.delete_group.new.self (g.S.Store.disk before.store) (g.S.Store.disk after.store) before.next after.next c.requires.sound c.delete_group.ensures.frame
-    c.offset_count-left.result c.offset_count-left.ensures records.3.end records.4 (ap (λ j. counted partition_count j.topics) new ∙ group_counts group k.topics) (omega (arith, same)) (omega (arith, same, c.requires.sound.few))
+    c.offset_count-left.result c.moved_texts-self.result (c.offset_count-left.ensures, texts) records.3.end records.4 (ap (λ j. counted partition_count j.topics) new ∙ group_counts group k.topics) (omega (arith, same)) (omega (arith, same, c.requires.sound.few))
     (subst (λ j. WereThere k j) (sym new) (group_were k group)) (subst (λ j. SameStarts k j) (sym new) (group_starts k group)) c.delete_group.ensures.resumes c.in-Ok.ensures.settled
 
 pub returns-in-Ok-clause-told : goal.returns-in-Ok-clause-told

@@ -9,7 +9,11 @@ on that is refused each has to be answered 81 (GROUP_MAX_SIZE_REACHED). A member
 answered its heartbeats all the while.
 
 Then the settings give one tenant two groups and 3,000,000 bytes. Its second join of that size is answered 81, and its third group 15
-(COORDINATOR_NOT_AVAILABLE); the other tenant has what it had. It prints `N of M wrong`.
+(COORDINATOR_NOT_AVAILABLE); the other tenant has what it had.
+
+Last a tenant commits offsets of new groups with 4,000 bytes beside each, 20,000 of them. Those up to 67,108,864 bytes of texts are taken, and
+all others are answered 44 (POLICY_VIOLATION). The process has to stay below 90,000,000 bytes. What moves, and what is shorter, is taken at the limit,
+also after the broker was killed; DeleteGroups makes room. Another tenant commits and is given its offset. It prints `N of M wrong`.
 """
 
 import struct
@@ -17,12 +21,16 @@ import sys
 import tempfile
 import time
 
-from wire import Broker, Client, text
+from wire import Broker, Client, commit, committed, text
 
 JOINS = 10_000
 METADATA = 2_000_000
 MOST = 90_000_000
 SESSION = 1_800_000
+
+# The bytes of texts that a tenant's committed offsets may have, where the settings do not say.
+TEXTS = 67_108_864
+OFFSETS, BESIDE = 20_000, 4_000
 
 SMALL = """
 [[tenant]]
@@ -82,6 +90,14 @@ def flood(broker, joins, beat):
     return codes, most
 
 
+def told(looks):
+    """How many looks are wrong, and how many there are."""
+    for name, is_well in looks.items():
+        if not is_well:
+            print(f"wrong: {name}")
+    return sum(not it for it in looks.values()), len(looks)
+
+
 def looked_at(broker, joins):
     """What is wrong, of what was looked at."""
     other, beats = Client(broker.port, b"bob", b"pw2"), []
@@ -101,10 +117,7 @@ def looked_at(broker, joins):
     }
     print(f"{joins} joins in {time.monotonic() - began:.0f} s: {taken} taken, {codes.count(81)} answered 81; "
           f"{before} bytes before, {most} at most; {len(beats)} heartbeats of another tenant")
-    for name, is_well in looks.items():
-        if not is_well:
-            print(f"wrong: {name}")
-    return sum(not it for it in looks.values()), len(looks)
+    return told(looks)
 
 
 def limited(broker):
@@ -119,25 +132,70 @@ def limited(broker):
         "a third group": code(b"ann", b"pw1", b"three", 100) == 15,
         "three groups of another tenant": [code(b"bob", b"pw2", b"g%d" % n, METADATA) for n in range(3)] == [0, 0, 0],
     }
-    for name, is_well in looks.items():
-        if not is_well:
-            print(f"wrong: {name}")
-    return sum(not it for it in looks.values()), len(looks)
+    return told(looks)
+
+
+def deletion(group):
+    """Deletes a group; the error code."""
+    return 42, 0, struct.pack(">i", 1) + text(group), lambda got: struct.unpack_from(">h", got, 10 + len(group))[0]
+
+
+def group_of(number):
+    """A group's id of ten bytes."""
+    return b"group%05d" % number
+
+
+def full(broker):
+    """What is wrong where a tenant commits texts until it is refused."""
+    ann, bob, beside = Client(broker.port), Client(broker.port, b"bob", b"pw2"), b"x" * BESIDE
+    made = [it.create(b"read") for it in (ann, bob)]
+    before, most, codes, began = resident(broker), 0, [], time.monotonic()
+    for first in range(0, OFFSETS, 400):
+        codes += ann.all([commit(group_of(it), b"read", beside, it) for it in range(first, first + 400)])
+        most = max(most, resident(broker))
+    fit = TEXTS // (BESIDE + len(group_of(0)))
+    print(f"{OFFSETS} commits in {time.monotonic() - began:.0f} s: {codes.count(0)} taken; {before} bytes before, {most} at most")
+    looks = {
+        "topics are made": made == [0, 0],
+        "the commits that fit are taken, and all others refused with 44": codes == [0] * fit + [44] * (OFFSETS - fit),
+        "memory with texts": most < MOST,
+        "one that moves": ann.all([commit(group_of(7), b"read", beside, 99), committed(group_of(7), b"read")]) == [0, 99],
+        "another tenant's commit": bob.all([commit(b"own", b"read", beside, 5), committed(b"own", b"read")]) == [0, 5],
+    }
+    return told(looks)
+
+
+def full_again(broker):
+    """What is wrong after a kill: the texts are counted."""
+    ann, beside, more = Client(broker.port), b"x" * BESIDE, b"x" * (BESIDE + 96)
+    left = TEXTS % (BESIDE + len(group_of(0))) // 96
+    looks = {
+        "a commit that moved is there": ann.all([committed(group_of(7), b"read")]) == [99],
+        "texts are counted after a start": ann.commit(b"another-group", b"read", beside) == 44,
+        "longer texts, as far as there is room": [ann.commit(group_of(20 + it), b"read", more) for it in range(left + 2)] == [0] * left + [44] * 2,
+        "a shorter text makes room": [ann.commit(group_of(it), b"read", b"") for it in (9, 10)] == [0, 0]
+        and ann.commit(b"another-group", b"read", beside) == 0,
+        "a deleted group makes room": ann.all([deletion(group_of(11)), deletion(group_of(12))]) == [0, 0]
+        and [ann.commit(b"new-group-%d" % it, b"read", beside) for it in range(2)] == [0, 0],
+    }
+    print(f"{resident(broker)} bytes after a start")
+    return told(looks)
 
 
 def main(program, joins=JOINS):
     """Whether groups' memory has its limit."""
     sums = [0, 0]
-    for more, look in (("", lambda broker: looked_at(broker, joins)), (SMALL, limited)):
+    for more, *looks in (("", lambda broker: looked_at(broker, joins)), (SMALL, limited), ("", full, full_again)):
         with tempfile.TemporaryDirectory() as room:
-            broker = Broker(program, room, more)
-            try:
-                if not broker.listens():
-                    print(f"the broker does not listen: {broker.log()}")
-                    return 1
-                sums = [before + here for before, here in zip(sums, look(broker))]
-            finally:
-                broker.stop()
+            for look in looks:
+                broker = Broker(program, room, more)
+                try:
+                    if not broker.listens():
+                        print(f"the broker does not listen: {broker.log()}")
+                        return 1
+                    sums = [before + here for before, here in zip(sums, look(broker))]
+                finally:
+                    broker.stop()
     print(f"{sums[0]} of {sums[1]} wrong")
     return 1 if sums[0] else 0
 

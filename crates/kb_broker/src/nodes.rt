@@ -37,7 +37,8 @@ fn node_named(
 {
     let (host, port) = settings.told_to(name);
     let host = String::from_str(alloc, host)?;
-    let limits = data_limits(settings, listing, settings.data_of(name));
+    let texts = settings.groups_of(name).bytes;
+    let limits = data_limits(settings, listing, settings.data_of(name), texts);
     Ok(TenantNode::new(host, port, limits))
 }
 
@@ -51,18 +52,27 @@ pub fn node_unnamed(
 {
     let (host, port) = settings.told();
     let host = String::from_str(alloc, host)?;
-    let limits = data_limits(settings, listing, kb_settings::DataLimits::standard());
+    let texts = kb_settings::GroupLimits::standard().bytes;
+    let standard = kb_settings::DataLimits::standard();
+    let limits = data_limits(settings, listing, standard, texts);
     Ok(TenantNode::new(host, port, limits))
 }
 
-/// Limits of what a tenant has, of what its requests name, and of what its replies have.
-fn data_limits(settings: &Settings, listing: Listing, limits: kb_settings::DataLimits) -> DataLimits
-    ensures { result ≡ data_limits listing (values_of settings.now) limits }
+/// Limits of what a tenant has, with that of its groups for the texts of its committed offsets; of what its requests name, and of what its
+/// replies have.
+fn data_limits(
+    settings: &Settings,
+    listing: Listing,
+    limits: kb_settings::DataLimits,
+    group_bytes: u64,
+) -> DataLimits
+    ensures { result ≡ data_limits listing (values_of settings.now) limits group_bytes }
 {
     DataLimits {
         topics: limits.topics,
         partitions: limits.partitions,
         offsets: Some(limits.offsets),
+        group_bytes: Some(group_bytes),
         bytes: limits.bytes,
         request_entries: settings.entries_for(listing.has_stock_clients()),
         fetch_bytes: limits.fetch_bytes,

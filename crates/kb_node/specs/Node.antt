@@ -13,7 +13,7 @@ use Rattle.kb_node.specs.declared.fault.NodeFault.TheVariants as faults
 
 -- 1. The broker of the standard settings
 
--- of every tenant clients are told localhost and port 9092, and no more than 1,000,000 offsets are kept
+-- of every tenant clients are told localhost and port 9092, and no more than 1,000,000 offsets are kept, of 67,108,864 bytes of texts
 abbrev pub standard_node : Node
 standard_node = record {
   host = codes "localhost";
@@ -22,6 +22,7 @@ standard_node = record {
     topics = None;
     partitions = None;
     offsets = Some 1000000;
+    group_bytes = Some 67108864;
     bytes = None;
     request_entries = None;
     fetch_bytes = None;

@@ -11,7 +11,7 @@ use Rattle.kb_tenant_state.specs.Logs.{log_at}
 use Rattle.kb_tenant_state.specs.Tied.{IsTied, counted}
 use Rattle.kb_tenant_state.specs.World.{World, place_in}
 use Rattle.kb_tenant_state.specs.declared.topic_partition.TopicPartition.{TopicPartition}
-use Rattle.kb_tenant.specs.OffsetCommit.{committed_all, committed_at, committed_entry, committed_topic, committed_unless_full, is_one_too_many, metadata_in}
+use Rattle.kb_tenant.specs.OffsetCommit.{committed_all, committed_at, committed_entry, committed_topic, committed_unless_full, is_over_limits, metadata_in}
 use Rattle.kb_tenant.specs.Turns.{in_turn}
 use Rattle.kb_tenant.specs.Waiting.{HasOwnNames}
 use Rattle.kb_tenant.specs.declared.limits.DataLimits.{DataLimits}
@@ -63,7 +63,7 @@ at_commits : (limits : DataLimits) (w : World) (o : Option TopicPartition) (grou
 at_commits limits w None group e = commits_none w
 at_commits limits w (Some place) group e =
     let metadata = metadata_in e.metadata in
-    full_commits (is_one_too_many limits w place group metadata) w place group e.offset metadata
+    full_commits (is_over_limits limits w place group metadata) w place group e.offset metadata
 
 entry_commits : (limits : DataLimits) (refusal : Option ℤ) (group : List ℕ) (topic : Option ℕ) (w : World) (e : CommitPartition) → Commits w (committed_entry limits refusal group topic w e).0
 entry_commits limits (Some code) group topic w e = commits_none w

@@ -2,7 +2,7 @@
 use Rattle.std.proofs.Common.{◌≡◌, ◌∙◌, sym, ap, refl, inl, inr, ⊎_elim, ℕ, ℤ, pos, negsuc, Bool, Bor, true, false, List, ◌++◌, length, map, Option, Some, None, Result, Ok, Err}
 use Rattle.std.specs.Int.{w32}
 use Rattle.std.specs.Option.{option_copied}
-use Rattle.std.specs.Prelude.{◌&&◌, ◌+◌, is_some, nat_lt, not}
+use Rattle.std.specs.Prelude.{◌&&◌, ◌||◌, ◌+◌, is_some, nat_lt, not}
 use Rattle.std.specs.List.{flat_map}
 use Rattle.kb_wire.specs.Codec.{Codec, array, count, int32, int64, items, sized, string, int}
 use Rattle.kb_api_data.specs.Both.{both}
@@ -21,13 +21,13 @@ use Rattle.kb_topics.specs.declared.fault.CatalogFault.{CatalogFault}
 use Rattle.kb_topics.specs.declared.fault.CatalogFault.TheVariants as catalog
 use Rattle.kb_tenant_state.specs.Calls.{commit, committed as committed_to}
 use Rattle.kb_tenant_state.specs.Parts.{Seen}
-use Rattle.kb_tenant_state.specs.Stored.{offsets_in}
+use Rattle.kb_tenant_state.specs.Stored.{offsets_in, texts_in}
 use Rattle.kb_tenant_state.specs.Told.{IsCatalogWant, IsDone, Tells}
 use Rattle.kb_tenant_state.specs.World.{World, place_in}
 use Rattle.kb_tenant_state.specs.declared.topic_partition.TopicPartition.{TopicPartition}
 use Rattle.kb_tenant.specs.CreateTopics.{code_in}
-use Rattle.kb_tenant.specs.Limits.{is_past}
-use Rattle.kb_tenant.specs.OffsetCommit.{committed, committed_all, committed_at, committed_entry, committed_topic, committed_unless_full, entry_with, is_one_too_many, is_takeable, metadata_in, plain, plain_entry, plain_topic, request_with, topic_with}
+use Rattle.kb_tenant.specs.Limits.{is_past, left_of}
+use Rattle.kb_tenant.specs.OffsetCommit.{brings_too_much, committed, committed_all, committed_at, committed_entry, committed_topic, committed_unless_full, entry_with, is_one_too_many, is_over_limits, is_takeable, metadata_in, plain, plain_entry, plain_topic, request_with, text_brought, topic_with}
 use Rattle.kb_tenant.specs.Produce.{written_next}
 use Rattle.kb_tenant.specs.Told.{IsFaultOf, IsTold}
 use Rattle.kb_tenant.specs.Turns.{in_turn, written_behind}
@@ -71,24 +71,47 @@ one_more limits w place group metadata o there takes full limit some is not_so a
     ∙ ap (λ b. not b && is_past limits.offsets (offsets_in w.known + 1)) (sym not_so ∙ is ∙ copied o ∙ ap is_some at)
     ∙ ap (λ b. b && (not (is_some (committed_to w place group)) && is_past limits.offsets (offsets_in w.known + 1))) (sym sure ∙ taken)
 
--- where it would be one more than the tenant may have
+-- it brings more text than is left
+pub much_brought : (limits : DataLimits) (w : World) (place : TopicPartition) (group metadata : List ℕ) (takes past : Bool) (left : Option ℕ) (brought : ℕ)
+    → takes ≡ is_takeable w place metadata → takes ≡ true → left ≡ left_of limits.group_bytes (texts_in w.known) → brought ≡ text_brought w place group metadata → past ≡ is_past left brought
+    → past ≡ brings_too_much limits w place group metadata
+much_brought limits w place group metadata takes past left brought taken sure room more is =
+    let all = left_of limits.group_bytes (texts_in w.known) in
+    is ∙ ap (λ l. is_past l brought) room ∙ ap (is_past all) more ∙ ap (λ b. b && is_past all (text_brought w place group metadata)) (sym sure ∙ taken)
+
+-- one that is refused for another cause does not
+pub much_refused : (limits : DataLimits) (w : World) (place : TopicPartition) (group metadata : List ℕ) (takes : Bool) → takes ≡ is_takeable w place metadata → takes ≡ false
+    → takes ≡ brings_too_much limits w place group metadata
+much_refused limits w place group metadata takes taken not_so =
+    not_so ∙ ap (λ b. b && is_past (left_of limits.group_bytes (texts_in w.known)) (text_brought w place group metadata)) (sym not_so ∙ taken)
+
+-- the limits refuse it for the one or for the other
+pub over_by_one : (limits : DataLimits) (w : World) (place : TopicPartition) (group metadata : List ℕ) (one : Bool) → one ≡ is_one_too_many limits w place group metadata → one ≡ true
+    → one ≡ is_over_limits limits w place group metadata
+over_by_one limits w place group metadata one is so = so ∙ ap (λ b. b || brings_too_much limits w place group metadata) (sym so ∙ is)
+
+pub over_by_text : (limits : DataLimits) (w : World) (place : TopicPartition) (group metadata : List ℕ) (one much : Bool) → one ≡ is_one_too_many limits w place group metadata → one ≡ false
+    → much ≡ brings_too_much limits w place group metadata → much ≡ is_over_limits limits w place group metadata
+over_by_text limits w place group metadata one much is not_so by = by ∙ ap (λ b. b || brings_too_much limits w place group metadata) (sym not_so ∙ is)
+
+-- where the tenant's limits refuse it
 pub commit_full : (limits : DataLimits) (w : World) (place : TopicPartition) (group : List ℕ) (e : CommitPartition) (text : List ℕ) (full : Bool) (code : ℤ)
-    → text ≡ metadata_in e.metadata → full ≡ is_one_too_many limits w place group text → full ≡ true → code ≡ code_of codes.PolicyViolation → (w, code) ≡ committed_at limits w (Some place) group e
+    → text ≡ metadata_in e.metadata → full ≡ is_over_limits limits w place group text → full ≡ true → code ≡ code_of codes.PolicyViolation → (w, code) ≡ committed_at limits w (Some place) group e
 commit_full limits w place group e text full code beside past over is =
     ap (λ z. (w, z)) is
     ∙ ap (λ b. committed_unless_full b w place group e.offset text) (sym over ∙ past)
-    ∙ ap (λ s. committed_unless_full (is_one_too_many limits w place group s) w place group e.offset s) beside
+    ∙ ap (λ s. committed_unless_full (is_over_limits limits w place group s) w place group e.offset s) beside
 
 -- the code for what the call answered, at what the entry says
 pub commit_code : (limits : DataLimits) (v w : World) (place : TopicPartition) (group : List ℕ) (e : CommitPartition) (offset : ℤ) (text : List ℕ) (full : Bool) (r : Result (Unit {0}) CatalogFault) (code : ℤ)
-    → offset ≡ e.offset → text ≡ metadata_in e.metadata → full ≡ is_one_too_many limits w place group text → full ≡ false → code ≡ code_in r → (v, r) ≡ commit w place group offset text
+    → offset ≡ e.offset → text ≡ metadata_in e.metadata → full ≡ is_over_limits limits w place group text → full ≡ false → code ≡ code_in r → (v, r) ≡ commit w place group offset text
     → (v, code) ≡ committed_at limits w (Some place) group e
 commit_code limits v w place group e offset text full r code at beside past under is met =
     ap (λ z. (v, z)) is
     ∙ ap (λ (x : World × Result (Unit {0}) CatalogFault). (x.0, code_in x.1)) met
     ∙ ap (λ b. committed_unless_full b w place group offset text) (sym under ∙ past)
-    ∙ ap (λ z. committed_unless_full (is_one_too_many limits w place group text) w place group z text) at
-    ∙ ap (λ s. committed_unless_full (is_one_too_many limits w place group s) w place group e.offset s) beside
+    ∙ ap (λ z. committed_unless_full (is_over_limits limits w place group text) w place group z text) at
+    ∙ ap (λ s. committed_unless_full (is_over_limits limits w place group s) w place group e.offset s) beside
 
 pub fault_told : (a b : Scene Seen) (Want : CatalogFault → Type 0) (P Q : Type 0) (r : Result (Unit {0}) CatalogFault) (code : ℤ) → (P → Q) → code ≡ code_in r → Tells a b P Want r → IsTold a b Q (IsFaultOf Want code)
 fault_told a b Want P Q (Ok u) code f is told = inl (done_so a b P Q f told)
@@ -99,7 +122,7 @@ fault_told a b Want P Q (Err g) code f is told =
     told
 
 pub commit_told : (limits : DataLimits) (a b : Scene Seen) (place : TopicPartition) (group : List ℕ) (e : CommitPartition) (offset : ℤ) (text : List ℕ) (full : Bool) (r : Result (Unit {0}) CatalogFault) (code : ℤ)
-    → offset ≡ e.offset → text ≡ metadata_in e.metadata → full ≡ is_one_too_many limits a.state.world place group text → full ≡ false → code ≡ code_in r
+    → offset ≡ e.offset → text ≡ metadata_in e.metadata → full ≡ is_over_limits limits a.state.world place group text → full ≡ false → code ≡ code_in r
     → Tells a b ((b.state.world, r) ≡ commit a.state.world place group offset text) (IsCatalogWant a b) r
     → IsTold a b ((b.state.world, code) ≡ committed_at limits a.state.world (Some place) group e) (IsFaultOf (IsCatalogWant a b) code)
 commit_told limits a b place group e offset text full r code at beside past under is told =

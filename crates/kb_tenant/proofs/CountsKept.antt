@@ -1,5 +1,5 @@
 -- What each change of a world makes of the counts that have limits.
-use Rattle.std.proofs.Common.{◌≡◌, ◌∙◌, ◌≤◌, ◌+◌, ℕ, ℤ, zero, suc, pos, Bool, true, false, cond, List, [], ◌∷◌, length, Option, Some, None, refl, sym, ap, subst, arith}
+use Rattle.std.proofs.Common.{◌≡◌, ◌∙◌, ◌≤◌, ◌+◌, ◌-◌, ℕ, ℤ, zero, suc, pos, Bool, true, false, cond, List, [], ◌∷◌, length, Option, Some, None, refl, sym, ap, subst, arith}
 use Rattle.std.specs.Prelude.{nat_le, replicate, slice_get, slice_set, sum_by, int_le}
 use Rattle.std.specs.List.{AllByRecursion}
 use Rattle.std.specs.List.Sorted.{IsStrictlySortedBy}
@@ -9,6 +9,7 @@ use Rattle.std.specs.declared.cmp.Ordering.TheVariants.{Less as Below, Equal, Gr
 use Rattle.std.specs.Ordering.{nat_cmp, is_eq, match_ordering}
 use Rattle.std.specs.Cmp.{IsTotalOrder}
 use Rattle.std.specs.Cmp.Lexicographic.{slice_cmp, nat_list_cmp_total}
+use Rattle.std.specs.FinMap.{slice_cmp-IsAntisymmetric, nat_cmp-IsAntisymmetric}
 use Rattle.std.specs.Map.{keys_of, lookup, remove_entry, set_value}
 use Rattle.std.specs.BTreeMap.{insert_entry, is_at}
 use Rattle.std.proofs.lemmas.List.{length-replicate}
@@ -23,11 +24,11 @@ use Rattle.kb_topics.specs.Known.{CommittedOffset, Known, PartitionState, TopicS
 use Rattle.kb_topics.specs.declared.config.TopicConfig.{TopicConfig}
 use Rattle.kb_topics.proofs.Sorted.{all_get, all_replicate, all_set, left_long, put_long, sorted_put}
 use Rattle.kb_tenant_state.specs.Logs.{LogState, Logs, dropped, log_at, no_log, put_log, with_log, with_new_logs, without_below, without_logs}
-use Rattle.kb_tenant_state.specs.Stored.{bytes_in, bytes_in_all, offsets_in, offsets_to, partitions_in, stored_in}
+use Rattle.kb_tenant_state.specs.Stored.{bytes_in, bytes_in_all, offsets_in, offsets_to, partitions_in, stored_in, text_of, text_size, texts_in, texts_to}
 use Rattle.kb_tenant_state.specs.Tied.{counted, partition_count}
 use Rattle.kb_tenant_state.specs.World.{World, log_in}
 use Rattle.kb_tenant_state.specs.declared.topic_partition.TopicPartition.{TopicPartition}
-use Rattle.kb_tenant_state.proofs.Sums.{moved_offsets, start_offsets, sum_put, total, total_cons, total_set}
+use Rattle.kb_tenant_state.proofs.Sums.{moved_offsets, moved_sum, start_offsets, start_texts, sum_put, total, total_cons, total_set}
 use Rattle.kb_tenant.specs.LimitsKept.{IsOrdered}
 use Rattle.kb_tenant.proofs.LimitsKept.{Less}
 use Rattle.kb_tenant.proofs.RetainMoves.{IsAlike, step_alike}
@@ -116,6 +117,49 @@ same_commit k i p q group c d there ordered found =
     let most = commit_less k i p q (with_commit q group c) there 0 (omega (arith, le)) in
     omega (arith, most)
 
+-- ---- the texts of commits
+
+-- a group that is found has the id that it was found by
+long_as : (group other : List ℕ) → slice_cmp nat_cmp group other ≡ Equal → length other ≡ length group
+long_as group other e = sym (ap (λ (g : List ℕ). length g) (slice_cmp-IsAntisymmetric nat_cmp-IsAntisymmetric group other e))
+
+-- a commit's texts stand in the place of those of what its group had
+put_texts : (group : List ℕ) (c : CommittedOffset) (cs : List (List ℕ × CommittedOffset)) → IsStrictlySortedBy (slice_cmp nat_cmp) (keys_of cs)
+    → sum_by text_size (insert_entry (slice_cmp nat_cmp) cs group c) + text_of group (lookup (is_at (slice_cmp nat_cmp group)) cs) ≡ sum_by text_size cs + text_size (group, c)
+put_texts group c [] s = omega (arith, sum_by-cons text_size (group, c) [])
+put_texts group c (e ∷ cs) s = by (slice_cmp nat_cmp group e.0) refl (put_texts group c cs (sorted_tail (slice_cmp nat_cmp) e.0 (keys_of cs) s))
+  where
+    had : List (List ℕ × CommittedOffset) → ℕ
+    had es = text_of group (lookup (is_at (slice_cmp nat_cmp group)) es)
+
+    found : Ordering → ℕ
+    found o = text_of group (cond (is_eq o) (Some e.1) (lookup (is_at (slice_cmp nat_cmp group)) cs))
+
+    rest : List (List ℕ × CommittedOffset)
+    rest = insert_entry (slice_cmp nat_cmp) cs group c
+
+    by : (o : Ordering) → slice_cmp nat_cmp group e.0 ≡ o → sum_by text_size rest + had cs ≡ sum_by text_size cs + text_size (group, c)
+        → sum_by text_size (match_ordering {X = List (List ℕ × CommittedOffset)} o ((group, c) ∷ e ∷ cs) ((e.0, c) ∷ cs) (e ∷ rest)) + had (e ∷ cs) ≡ sum_by text_size (e ∷ cs) + text_size (group, c)
+    by Below at behind =
+        let none : lookup (is_at (slice_cmp nat_cmp group)) (e ∷ cs) ≡ None = lookup-none (is_at (slice_cmp nat_cmp group)) (e ∷ cs) (none_below_head nat_list_cmp_total group e cs s at) in
+        let nothing : had (e ∷ cs) ≡ 0 = ap (text_of group) none in
+        omega (arith, nothing, sum_by-cons text_size (group, c) (e ∷ cs))
+    by Equal at behind =
+        let has : had (e ∷ cs) ≡ text_size (group, e.1) = ap found at in
+        omega (arith, has, long_as group e.0 at, sum_by-cons text_size (e.0, c) cs, sum_by-cons text_size e cs)
+    by Greater at behind =
+        let has : had (e ∷ cs) ≡ had cs = ap found at in
+        omega (arith, has, behind, sum_by-cons text_size e rest, sum_by-cons text_size e cs)
+
+-- a group's commit brings no more than its texts are more than those that it had
+pub brought_texts : (k : Known) (i p : ℕ) (q : PartitionState) (group : List ℕ) (c : CommittedOffset) → partition_at k (pos i) (pos p) ≡ Some q → IsOrdered q
+    → texts_in (with_partition k (pos i) (pos p) (with_commit q group c)) ≤ texts_in k + (text_size (group, c) - text_of group (committed_at group q))
+brought_texts k i p q group c there ordered =
+    let texts : PartitionState → ℕ = λ (x : PartitionState). sum_by text_size x.commits in
+    let moved : texts_in (with_partition k (pos i) (pos p) (with_commit q group c)) + texts q ≡ texts_in k + texts (with_commit q group c) = moved_sum texts k i p q (with_commit q group c) there in
+    let put : texts (with_commit q group c) + text_of group (committed_at group q) ≡ texts q + text_size (group, c) = put_texts group c q.commits ordered in
+    omega (arith, moved, put)
+
 -- ---- the order of commits
 
 abbrev AreOrdered : Known → Type 0
@@ -203,7 +247,8 @@ moved_less w place start k e =
     let topics = alike_topics w.known k alike in
     let partitions = alike_partitions w.known k alike in
     let offsets = start_offsets w.known k (pos place.instance) (pos place.number) start e in
-    record { bytes = bytes; topics = omega (arith, topics); partitions = omega (arith, partitions); offsets = omega (arith, offsets) }
+    let texts = start_texts w.known k (pos place.instance) (pos place.number) start e in
+    record { bytes = bytes; topics = omega (arith, topics); partitions = omega (arith, partitions); offsets = omega (arith, offsets); texts = omega (arith, texts) }
 
 -- a topic that is gone
 pub deleted_less : (w : World) (i : ℕ) → Less w (record w { known = without_topic w.known i; logs = without_logs i w.logs })
@@ -212,6 +257,7 @@ deleted_less w i = record {
   topics = left_long w.known.topics (is_at (nat_cmp i));
   partitions = less_removed (λ (t : TopicState). length t.partitions) (is_at (nat_cmp i)) w.known.topics;
   offsets = less_removed (λ (t : TopicState). offsets_to t.partitions) (is_at (nat_cmp i)) w.known.topics;
+  texts = less_removed (λ (t : TopicState). texts_to t.partitions) (is_at (nat_cmp i)) w.known.topics;
 }
 
 -- one topic more, of so many partitions
@@ -220,6 +266,7 @@ pub record OneMore (w v : World) (count : ℕ) : Type 0 where
   pub topics : length v.known.topics ≤ length w.known.topics + 1
   pub partitions : partitions_in v.known ≤ partitions_in w.known + count
   pub offsets : offsets_in v.known ≤ offsets_in w.known
+  pub texts : texts_in v.known ≤ texts_in w.known
 
 pub created_more : (w : World) (name : List ℕ) (count : ℕ) (config : TopicConfig) → OneMore w (record w { known = with_topic w.known (new_topic name count config); logs = with_new_logs w.known.creates count w.logs }) count
 created_more w name count config =
@@ -231,4 +278,12 @@ created_more w name count config =
     let many : length t.partitions ≡ count = length-replicate count new_partition in
     let offsets : offsets_in (with_topic w.known t) ≤ offsets_in w.known + offsets_to t.partitions = most_inserted (λ (t : TopicState). offsets_to t.partitions) w.known.creates t w.known.topics in
     let no_offsets : offsets_to t.partitions ≡ 0 = no_sum (λ (p : PartitionState). length p.commits) new_partition refl count in
-    record { bytes = omega (arith, bytes, no_bytes); topics = omega (arith, topics); partitions = omega (arith, partitions, many); offsets = omega (arith, offsets, no_offsets) }
+    let texts : texts_in (with_topic w.known t) ≤ texts_in w.known + texts_to t.partitions = most_inserted (λ (t : TopicState). texts_to t.partitions) w.known.creates t w.known.topics in
+    let no_texts : texts_to t.partitions ≡ 0 = no_sum (λ (p : PartitionState). sum_by text_size p.commits) new_partition refl count in
+    record {
+      bytes = omega (arith, bytes, no_bytes);
+      topics = omega (arith, topics);
+      partitions = omega (arith, partitions, many);
+      offsets = omega (arith, offsets, no_offsets);
+      texts = omega (arith, texts, no_texts);
+    }

@@ -1,7 +1,7 @@
 -- No count of what a tenant has passes its limit.
 use Rattle.std.proofs.Common.{◌≡◌, ◌≤◌, ◌+◌, ℕ, Option, Some, None, List, [], ◌∷◌, length, false, arith}
 use Rattle.std.proofs.lemmas.Bool.Decides.{nat_tests}
-use Rattle.kb_tenant_state.specs.Stored.{offsets_in, partitions_in, stored_in}
+use Rattle.kb_tenant_state.specs.Stored.{offsets_in, partitions_in, stored_in, texts_in}
 use Rattle.kb_tenant_state.specs.World.{World}
 use Rattle.kb_tenant.specs.Limits.{is_past, left_of}
 use Rattle.kb_tenant.specs.LimitsKept.{AreLimitsKept, HasOrderedCommits, IsKept}
@@ -36,6 +36,7 @@ pub record Less (w v : World) : Type 0 where
   pub topics : length v.known.topics ≤ length w.known.topics
   pub partitions : partitions_in v.known ≤ partitions_in w.known
   pub offsets : offsets_in v.known ≤ offsets_in w.known
+  pub texts : texts_in v.known ≤ texts_in w.known
 
 pub less_kept : (limits : DataLimits) (w v : World) → Less w v → AreLimitsKept limits w v
 less_kept limits w v less = record {
@@ -43,10 +44,11 @@ less_kept limits w v less = record {
   topics = kept_less limits.topics (length w.known.topics) (length v.known.topics) less.topics;
   partitions = kept_less limits.partitions (partitions_in w.known) (partitions_in v.known) less.partitions;
   offsets = kept_less limits.offsets (offsets_in w.known) (offsets_in v.known) less.offsets;
+  texts = kept_less limits.group_bytes (texts_in w.known) (texts_in v.known) less.texts;
 }
 
 pub none_less : (w : World) → Less w w
-none_less w = record { bytes = omega arith; topics = omega arith; partitions = omega arith; offsets = omega arith }
+none_less w = record { bytes = omega arith; topics = omega arith; partitions = omega arith; offsets = omega arith; texts = omega arith }
 
 pub less_then : (w v u : World) → Less w v → Less v u → Less w u
 less_then w v u p q = record {
@@ -54,6 +56,7 @@ less_then w v u p q = record {
   topics = omega (arith, p.topics, q.topics);
   partitions = omega (arith, p.partitions, q.partitions);
   offsets = omega (arith, p.offsets, q.offsets);
+  texts = omega (arith, p.texts, q.texts);
 }
 
 pub limits_then : (limits : DataLimits) (w v u : World) → AreLimitsKept limits w v → AreLimitsKept limits v u → AreLimitsKept limits w u
@@ -62,6 +65,7 @@ limits_then limits w v u p q = record {
   topics = kept_then limits.topics (length w.known.topics) (length v.known.topics) (length u.known.topics) p.topics q.topics;
   partitions = kept_then limits.partitions (partitions_in w.known) (partitions_in v.known) (partitions_in u.known) p.partitions q.partitions;
   offsets = kept_then limits.offsets (offsets_in w.known) (offsets_in v.known) (offsets_in u.known) p.offsets q.offsets;
+  texts = kept_then limits.group_bytes (texts_in w.known) (texts_in v.known) (texts_in u.known) p.texts q.texts;
 }
 
 -- A world whose commits are in order has them so after it, and its counts are kept.

@@ -30,7 +30,7 @@ use Rattle.kb_topics.specs.declared.config.TopicConfig.{TopicConfig}
 use Rattle.kb_topics.specs.declared.fault.CatalogFault.{CatalogFault}
 use Rattle.kb_tenant_state.specs.Calls.{all_places, appended_to, committed as committed_to, committed_unless, created_unless, delete_records, deleted_at, due, issue, issued_unless, known_at, moved_to, retain, retain_all, retain_each, retained_from, with_committed, with_log_at}
 use Rattle.kb_tenant_state.specs.Logs.{LogState, appended, with_new_logs}
-use Rattle.kb_tenant_state.specs.Stored.{offsets_in, partitions_in, stored_in}
+use Rattle.kb_tenant_state.specs.Stored.{offsets_in, partitions_in, stored_in, text_of, texts_in}
 use Rattle.kb_tenant_state.specs.World.{World, log_in, new_world, place_in}
 use Rattle.kb_tenant_state.specs.declared.fault.PartitionFault.{PartitionFault}
 use Rattle.kb_tenant_state.specs.declared.fault.PartitionFault.TheVariants as partition
@@ -42,14 +42,14 @@ use Rattle.kb_tenant.specs.DeleteTopics.{deleted_all, deleted_topic}
 use Rattle.kb_tenant.specs.InitProducerId.{id_given, id_refused, init_producer_id}
 use Rattle.kb_tenant.specs.Limits.{is_past, left_of}
 use Rattle.kb_tenant.specs.LimitsKept.{AreLimitsKept, HasOrderedCommits, IsKept}
-use Rattle.kb_tenant.specs.OffsetCommit.{committed_all, committed_at, committed_entry, committed_topic, committed_unless_full, is_one_too_many, metadata_in, refusal_of as group_refusal}
+use Rattle.kb_tenant.specs.OffsetCommit.{brings_too_much, committed_all, committed_at, committed_entry, committed_topic, committed_unless_full, is_one_too_many, is_over_limits, metadata_in, refusal_of as group_refusal, text_brought}
 use Rattle.kb_tenant.specs.Produce.{Progress, appended_at, appended_unless_full, decided, entry_served, is_full, known_place, offered_unless, produced, progress, read_unless, refusal_of, served_topic, tried, verdict_on}
 use Rattle.kb_tenant.specs.Serve.{Outcome, plainly_served}
 use Rattle.kb_tenant.specs.Settings.{settings_in}
 use Rattle.kb_tenant.specs.declared.limits.DataLimits.{DataLimits}
 use Rattle.kb_tenant.specs.declared.node.Node.{Node}
 use Rattle.kb_tenant.proofs.ByRequest.{by_request, of_creations}
-use Rattle.kb_tenant.proofs.CountsKept.{OneMore, alike_partitions, alike_topics, created_more, deleted_less, moved_less, one_commit, ordered_at, ordered_commit, ordered_created, ordered_deleted, ordered_started, same_commit}
+use Rattle.kb_tenant.proofs.CountsKept.{OneMore, alike_partitions, alike_topics, brought_texts, created_more, deleted_less, moved_less, one_commit, ordered_at, ordered_commit, ordered_created, ordered_deleted, ordered_started, same_commit}
 use Rattle.kb_tenant.proofs.LimitsKept.{Less, Stays, kept_less, kept_more, kept_one, less_kept, less_then, none_less, stays_less, stays_same, turns_stay}
 use Rattle.kb_tenant.proofs.RecordsMoves.{by_deletion}
 use Rattle.kb_tenant.proofs.RetainMoves.{put_alike}
@@ -68,6 +68,7 @@ appended_stays limits w place batch l is at room =
         topics = kept_less limits.topics (length w.known.topics) (length w.known.topics) (omega arith);
         partitions = kept_less limits.partitions (partitions_in w.known) (partitions_in w.known) (omega arith);
         offsets = kept_less limits.offsets (offsets_in w.known) (offsets_in w.known) (omega arith);
+        texts = kept_less limits.group_bytes (texts_in w.known) (texts_in w.known) (omega arith);
       };
     }
 
@@ -139,6 +140,7 @@ made_stays limits w t config room None =
         topics = kept_one limits.topics (length w.known.topics) (length v.known.topics) (left_of_or one many room) more.topics;
         partitions = kept_more limits.partitions (partitions_in w.known) count (partitions_in v.known) (right_of_or one many room) more.partitions;
         offsets = kept_less limits.offsets (offsets_in w.known) (offsets_in v.known) more.offsets;
+        texts = kept_less limits.group_bytes (texts_in w.known) (texts_in v.known) more.texts;
       };
     }
 
@@ -172,7 +174,7 @@ delete_stays limits w r =
 issued_stays : (limits : DataLimits) (w : World) (o : Option CatalogFault) → Stays limits w (issued_unless w o).0
 issued_stays limits w (Some f) = stays_same limits w
 issued_stays limits w None =
-    stays_less limits w (issued_unless w None).0 (λ h. h) (record { bytes = omega arith; topics = omega arith; partitions = omega arith; offsets = omega arith })
+    stays_less limits w (issued_unless w None).0 (λ h. h) (record { bytes = omega arith; topics = omega arith; partitions = omega arith; offsets = omega arith; texts = omega arith })
 
 -- what is answered by whether an id for transactions is asked for
 abbrev given_by : World → Option (List ℕ) → World × InitProducerIdReply
@@ -208,10 +210,24 @@ offsets_kept limits w place q group metadata c ordered at taken room None had =
     kept_one limits.offsets (offsets_in w.known) (offsets_in (with_offset w place q group c).known) free
     (one_commit w.known place.instance place.number q group c at)
 
-put_stays : (limits : DataLimits) (w : World) (place : TopicPartition) (group metadata : List ℕ) (c : CommittedOffset) → commit_refusal metadata (known_at w.known place) ≡ None → is_one_too_many limits w place group metadata ≡ false
+-- the texts that there are then
+texts_kept : (limits : DataLimits) (w : World) (place : TopicPartition) (q : PartitionState) (group metadata : List ℕ) (c : CommittedOffset) → c.metadata ≡ metadata → HasOrderedCommits w → known_at w.known place ≡ Some q
+    → commit_refusal metadata (known_at w.known place) ≡ None → brings_too_much limits w place group metadata ≡ false
+    → IsKept limits.group_bytes (texts_in w.known) (texts_in (with_offset w place q group c).known)
+texts_kept limits w place q group metadata c text ordered at taken room =
+    let past : Bool = is_past (left_of limits.group_bytes (texts_in w.known)) (text_brought w place group metadata) in
+    let free : past ≡ false = sym (ap (λ (o : Option CatalogFault). not (is_some o) && past) taken) ∙ room in
+    let had : text_of group (committed_to w place group) ≡ text_of group (offset_of group q) = ap (λ (o : Option PartitionState). text_of group (option_and_then (offset_of group) o)) at in
+    let most = brought_texts w.known place.instance place.number q group c at (ordered_at w.known place.instance place.number q at ordered) in
+    kept_more limits.group_bytes (texts_in w.known) (text_brought w place group metadata) (texts_in (with_offset w place q group c).known) free
+    (omega (arith, most, had, ap length text))
+
+put_stays : (limits : DataLimits) (w : World) (place : TopicPartition) (group metadata : List ℕ) (c : CommittedOffset) → c.metadata ≡ metadata → commit_refusal metadata (known_at w.known place) ≡ None → is_over_limits limits w place group metadata ≡ false
     → (o : Option PartitionState) → known_at w.known place ≡ o → Stays limits w (record w { known = with_committed w.known place group c o })
-put_stays limits w place group metadata c taken room None at = stays_same limits w
-put_stays limits w place group metadata c taken room (Some q) at =
+put_stays limits w place group metadata c text taken room None at = stays_same limits w
+put_stays limits w place group metadata c text taken room (Some q) at =
+    let one = is_one_too_many limits w place group metadata in
+    let much = brings_too_much limits w place group metadata in
     let v : World = with_offset w place q group c in
     let alike = put_alike w.known place.instance place.number (with_commit q group c) (topic_at place.instance w.known.topics) refl in
     let topics = alike_topics w.known v.known alike in
@@ -222,26 +238,27 @@ put_stays limits w place group metadata c taken room (Some q) at =
         bytes = kept_less limits.bytes (stored_in w) (stored_in v) (omega arith);
         topics = kept_less limits.topics (length w.known.topics) (length v.known.topics) (omega (arith, topics));
         partitions = kept_less limits.partitions (partitions_in w.known) (partitions_in v.known) (omega (arith, partitions));
-        offsets = offsets_kept limits w place q group metadata c h at taken room (committed_to w place group) refl;
+        offsets = offsets_kept limits w place q group metadata c h at taken (left_of_or one much room) (committed_to w place group) refl;
+        texts = texts_kept limits w place q group metadata c text h at taken (right_of_or one much room);
       };
     }
 
-unless_committed : (limits : DataLimits) (w : World) (place : TopicPartition) (group metadata : List ℕ) (c : CommittedOffset) → is_one_too_many limits w place group metadata ≡ false
+unless_committed : (limits : DataLimits) (w : World) (place : TopicPartition) (group metadata : List ℕ) (c : CommittedOffset) → c.metadata ≡ metadata → is_over_limits limits w place group metadata ≡ false
     → (o : Option CatalogFault) → commit_refusal metadata (known_at w.known place) ≡ o → Stays limits w (committed_unless w place group c o).0
-unless_committed limits w place group metadata c room (Some f) e = stays_same limits w
-unless_committed limits w place group metadata c room None e = put_stays limits w place group metadata c e room (known_at w.known place) refl
+unless_committed limits w place group metadata c text room (Some f) e = stays_same limits w
+unless_committed limits w place group metadata c text room None e = put_stays limits w place group metadata c text e room (known_at w.known place) refl
 
-full_committed : (limits : DataLimits) (w : World) (place : TopicPartition) (group : List ℕ) (offset : ℤ) (metadata : List ℕ) (full : Bool) → is_one_too_many limits w place group metadata ≡ full
+full_committed : (limits : DataLimits) (w : World) (place : TopicPartition) (group : List ℕ) (offset : ℤ) (metadata : List ℕ) (full : Bool) → is_over_limits limits w place group metadata ≡ full
     → Stays limits w (committed_unless_full full w place group offset metadata).0
 full_committed limits w place group offset metadata true e = stays_same limits w
 full_committed limits w place group offset metadata false e =
-    unless_committed limits w place group metadata (record { offset = offset; metadata = metadata }) e (commit_refusal metadata (known_at w.known place)) refl
+    unless_committed limits w place group metadata (record { offset = offset; metadata = metadata }) refl e (commit_refusal metadata (known_at w.known place)) refl
 
 at_committed : (limits : DataLimits) (w : World) (o : Option TopicPartition) (group : List ℕ) (e : CommitPartition) → Stays limits w (committed_at limits w o group e).0
 at_committed limits w None group e = stays_same limits w
 at_committed limits w (Some place) group e =
     let metadata = metadata_in e.metadata in
-    full_committed limits w place group e.offset metadata (is_one_too_many limits w place group metadata) refl
+    full_committed limits w place group e.offset metadata (is_over_limits limits w place group metadata) refl
 
 entry_committed : (limits : DataLimits) (refusal : Option ℤ) (group : List ℕ) (topic : Option ℕ) (w : World) (e : CommitPartition) → Stays limits w (committed_entry limits refusal group topic w e).0
 entry_committed limits (Some code) group topic w e = stays_same limits w

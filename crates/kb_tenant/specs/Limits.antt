@@ -17,6 +17,7 @@ no_limits = record {
   topics = None;
   partitions = None;
   offsets = None;
+  group_bytes = None;
   bytes = None;
   request_entries = None;
   fetch_bytes = None;

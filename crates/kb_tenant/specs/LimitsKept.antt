@@ -6,7 +6,7 @@ use Rattle.std.specs.Map.{keys_of}
 use Rattle.std.specs.Ordering.{nat_cmp}
 use Rattle.std.specs.Cmp.Lexicographic.{slice_cmp}
 use Rattle.kb_topics.specs.Known.{PartitionState, TopicState}
-use Rattle.kb_tenant_state.specs.Stored.{offsets_in, partitions_in, stored_in}
+use Rattle.kb_tenant_state.specs.Stored.{offsets_in, partitions_in, stored_in, texts_in}
 use Rattle.kb_tenant_state.specs.World.{World}
 use Rattle.kb_tenant.specs.declared.limits.DataLimits.{DataLimits}
 
@@ -15,13 +15,14 @@ abbrev pub IsKept : Option ℕ → ℕ → ℕ → Type 0
 IsKept None old new = ⊤
 IsKept (Some limit) old new = new ≤ max limit old
 
--- From one world to another each count that has a limit is kept: the bytes of batches, the topics, their partitions, and the offsets that
--- groups have committed.
+-- From one world to another each count that has a limit is kept: the bytes of batches, the topics, their partitions, the offsets that
+-- groups have committed, and the bytes of the texts of those.
 pub record AreLimitsKept (limits : DataLimits) (old new : World) : Type 0 where
   pub bytes : IsKept limits.bytes (stored_in old) (stored_in new)
   pub topics : IsKept limits.topics (length old.known.topics) (length new.known.topics)
   pub partitions : IsKept limits.partitions (partitions_in old.known) (partitions_in new.known)
   pub offsets : IsKept limits.offsets (offsets_in old.known) (offsets_in new.known)
+  pub texts : IsKept limits.group_bytes (texts_in old.known) (texts_in new.known)
 
 -- No group has two offsets of a partition: they stand in strict order of groups.
 abbrev pub IsOrdered : PartitionState → Type 0

@@ -1,7 +1,7 @@
 -- OffsetCommit (Kafka protocol guide, "The Messages: OffsetCommit", versions 1, 2, 5 and 6): a group records how far it has processed partitions.
 -- Whether all entries of a request are refused is a parameter of `committed_all`. This crate's own `served` is that of a tenant whose
 -- groups have no members: there only a consumer that chooses its partitions itself commits, and it names a generation below 0.
-use Rattle.std.specs.Prelude.{ℕ, ℤ, pos, negsuc, Bool, true, false, List, [], ◌+◌, length, Option, Some, None, is_some, not, int_lt, ◌==◌, ◌&&◌}
+use Rattle.std.specs.Prelude.{ℕ, ℤ, pos, negsuc, Bool, true, false, List, [], ◌+◌, ◌-◌, length, Option, Some, None, is_some, not, int_lt, ◌==◌, ◌&&◌, ◌||◌}
 use Rattle.std.specs.Prelude.{Result, Ok, int_le, map, if◌then◌else◌}
 use Rattle.kb_wire.specs.Codec.{Codec, array, int32, int64, nullable_string, string, whole, ◌>>=◌}
 use Rattle.kb_wire.specs.ErrorCode.{code_of}
@@ -19,11 +19,11 @@ use Rattle.kb_api_group.specs.declared.offset_commit.OffsetCommitReply.{OffsetCo
 use Rattle.kb_topics.specs.Known.{named}
 use Rattle.kb_topics.specs.Refusals.{commit_refusal}
 use Rattle.kb_tenant_state.specs.Calls.{commit, committed as committed_to, known_at}
-use Rattle.kb_tenant_state.specs.Stored.{offsets_in}
+use Rattle.kb_tenant_state.specs.Stored.{offsets_in, text_of, texts_in}
 use Rattle.kb_tenant_state.specs.World.{World, place_in}
 use Rattle.kb_tenant_state.specs.declared.topic_partition.TopicPartition.{TopicPartition}
 use Rattle.kb_tenant.specs.CreateTopics.{code_in}
-use Rattle.kb_tenant.specs.Limits.{is_past}
+use Rattle.kb_tenant.specs.Limits.{is_past, left_of}
 use Rattle.kb_tenant.specs.Turns.{in_turn}
 use Rattle.kb_tenant.specs.declared.limits.DataLimits.{DataLimits}
 
@@ -49,6 +49,20 @@ abbrev pub is_one_too_many : DataLimits → World → TopicPartition → List �
 is_one_too_many limits w place group metadata =
     is_takeable w place metadata && (not (is_some (committed_to w place group)) && is_past limits.offsets (offsets_in w.known + 1))
 
+-- How many bytes of texts more a commit brings: those of its group's id and of what is kept beside the offset, less those of what the group
+-- has at the partition.
+abbrev pub text_brought : World → TopicPartition → List ℕ → List ℕ → ℕ
+text_brought w place group metadata = length group + length metadata - text_of group (committed_to w place group)
+
+-- Whether an offset brings more text than is left of what the tenant may have: nothing else refuses it. One that brings none never does.
+abbrev pub brings_too_much : DataLimits → World → TopicPartition → List ℕ → List ℕ → Bool
+brings_too_much limits w place group metadata =
+    is_takeable w place metadata && is_past (left_of limits.group_bytes (texts_in w.known)) (text_brought w place group metadata)
+
+-- whether the tenant's limits refuse an offset
+abbrev pub is_over_limits : DataLimits → World → TopicPartition → List ℕ → List ℕ → Bool
+is_over_limits limits w place group metadata = is_one_too_many limits w place group metadata || brings_too_much limits w place group metadata
+
 abbrev pub committed_unless_full : Bool → World → TopicPartition → List ℕ → ℤ → List ℕ → World × ℤ
 committed_unless_full true w place group offset metadata = (w, code_of codes.PolicyViolation)
 committed_unless_full false w place group offset metadata = let r = commit w place group offset metadata in (r.0, code_in r.1)
@@ -57,7 +71,7 @@ abbrev pub committed_at : DataLimits → World → Option TopicPartition → Lis
 committed_at limits w None group e = (w, code_of codes.UnknownTopicOrPartition)
 committed_at limits w (Some place) group e =
     let metadata = metadata_in e.metadata in
-    committed_unless_full (is_one_too_many limits w place group metadata) w place group e.offset metadata
+    committed_unless_full (is_over_limits limits w place group metadata) w place group e.offset metadata
 
 -- An entry of the topic of an instance: its partition gets the group's offset, unless the whole request is refused.
 abbrev pub committed : DataLimits → Option ℤ → List ℕ → Option ℕ → World → CommitPartition → World × ℤ

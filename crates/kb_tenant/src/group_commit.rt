@@ -10,8 +10,8 @@ ghost use Rattle.kb_api_group.specs.declared.offset_commit.OffsetCommitReply.{Of
 ghost use Rattle.kb_tenant_state.specs.Scene.{WhereHonest};
 ghost use Rattle.kb_tenant.specs.OffsetCommit.{refusal_of as refusal_for, metadata_in as metadata_for, committed_at, committed};
 ghost use Rattle.kb_tenant.specs.Entries.{commit_entries, within};
-ghost use Rattle.kb_tenant.specs.OffsetCommit.{asked_commit, commit_as, commit_with, has_retention_time, is_one_too_many, is_takeable};
-ghost use Rattle.kb_tenant.specs.OffsetCommit.{plain, plain_entry, plain_topic};
+ghost use Rattle.kb_tenant.specs.OffsetCommit.{asked_commit, brings_too_much, commit_as, commit_with, has_retention_time, is_one_too_many};
+ghost use Rattle.kb_tenant.specs.OffsetCommit.{is_over_limits, is_takeable, plain, plain_entry, plain_topic, text_brought};
 ghost use Rattle.kb_tenant.specs.OffsetCommit.{committed_entry, committed_topic, committed_all};
 ghost use Rattle.kb_tenant.specs.Produce.{written_next};
 ghost use Rattle.kb_tenant.specs.Told.{CatalogFailed, IsCommitTold, IsCommitTopicTold, IsFaultOf, IsTold};
@@ -25,7 +25,7 @@ ghost use Rattle.kb_tenant_state.specs.Told.{IsCatalogWant, IsDone};
 ghost use Rattle.std.specs.Prelude.{Some, Ok, IfOk};
 
 use crate::create_topics::code_in;
-use crate::limits::DataLimits;
+use crate::limits::{DataLimits, is_past, left_of};
 use crate::within::within;
 use kb_api_data::Both;
 use kb_api_group::{CommitPartition, CommitPartitionReply, CommitTopic, OffsetCommitRequest};
@@ -267,6 +267,50 @@ fn is_one_too_many<L: PartitionLog + Drop>(
     false
 }
 
+/// How many bytes of texts more a commit brings than its group has at the partition.
+fn text_brought<L: PartitionLog + Drop>(
+    parts: &Parts<L>,
+    group: &str,
+    place: TopicPartition,
+    metadata: &str,
+) -> u64
+    ensures { (files : Files) → result ≡ text_brought (world_of L.log parts.now files) place group.now metadata.now }
+{
+    let text = group.len() as u64 + metadata.len() as u64;
+    text.saturating_sub(parts.text_size(place, group))
+}
+
+/// Whether an offset brings more text than is left of what a tenant may have. One that brings none never does.
+fn brings_too_much<L: PartitionLog + Drop>(
+    parts: &Parts<L>,
+    limits: DataLimits,
+    group: &str,
+    place: TopicPartition,
+    metadata: &str,
+) -> bool
+    ensures { (table : Table) (next : ℕ) (files : Files) → IsSound L.log parts.now table next
+        → result ≡ brings_too_much limits (world_of L.log parts.now files) place group.now metadata.now }
+{
+    let brought = text_brought(parts, group, place, metadata);
+    is_takeable(parts, place, metadata)
+        && is_past(left_of(limits.group_bytes, parts.texts()), brought)
+}
+
+/// Whether a tenant's limits refuse an offset.
+fn is_over_limits<L: PartitionLog + Drop>(
+    parts: &Parts<L>,
+    limits: DataLimits,
+    group: &str,
+    place: TopicPartition,
+    metadata: &str,
+) -> bool
+    ensures { (table : Table) (next : ℕ) (files : Files) → IsSound L.log parts.now table next
+        → result ≡ is_over_limits limits (world_of L.log parts.now files) place group.now metadata.now }
+{
+    is_one_too_many(parts, limits, group, place, metadata)
+        || brings_too_much(parts, limits, group, place, metadata)
+}
+
 /// Commits an entry's offset to the partition at a place, and answers its error code.
 fn commit_at<L: PartitionLog + Drop, S: Store>(
     parts: &mut Parts<L>,
@@ -286,7 +330,7 @@ fn commit_at<L: PartitionLog + Drop, S: Store>(
         (IsFaultOf (IsCatalogWant a b) result) }
 {
     let metadata = metadata_in(entry);
-    if is_one_too_many(parts, limits, group, place, metadata) {
+    if is_over_limits(parts, limits, group, place, metadata) {
         return ErrorCode::PolicyViolation.code();
     }
     code_in(parts.commit(shelf, place, group, entry.offset, metadata))
@@ -389,7 +433,8 @@ fn commit_topic<L: PartitionLog + Drop, S: Store>(
 /// Serves OffsetCommit, version 2 (Kafka protocol guide): commits the group's offsets in the order of the request, and writes the
 /// reply behind what is in the sink.
 ///
-/// One offset more than the tenant's limit is answered POLICY_VIOLATION, and is not kept; one that is there is moved at any time.
+/// One offset more than the tenant's limit is answered POLICY_VIOLATION, and is not kept; one that is there is moved at any time. So is one
+/// that brings more text than is left of the tenant's limit; one that brings no more than it replaces is moved at any time.
 /// A refusal is an error code that all entries are answered; then nothing is committed. It says whether the group, its generation
 /// and its member may commit: `group_id` only names whose offsets they are, and `generation_id`, `member_id` and `retention_time_ms`
 /// have no effect. An `Err` is want of memory for the reply, which is not counted: it leaves what was committed, and some front of

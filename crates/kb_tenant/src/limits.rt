@@ -11,6 +11,8 @@ pub struct DataLimits {
     pub partitions: Option<u64>,
     /// How many committed offsets: one a group and a partition.
     pub offsets: Option<u64>,
+    /// How many bytes of texts its committed offsets have: of the ids of their groups, and of what those wrote beside them.
+    pub group_bytes: Option<u64>,
     /// How many bytes of batches, in all of its logs.
     pub bytes: Option<u64>,
     /// How many entries one request may name: topics and partitions together.
@@ -30,6 +32,7 @@ impl DataLimits {
             topics: None,
             partitions: None,
             offsets: None,
+            group_bytes: None,
             bytes: None,
             request_entries: None,
             fetch_bytes: None,

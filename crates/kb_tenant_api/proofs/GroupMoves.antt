@@ -1,10 +1,11 @@
 -- DeleteGroups tells no place, touches no log and no name, and makes nothing more.
-use Rattle.std.proofs.Common.{◌≡◌, ◌∙◌, ◌≤◌, ℕ, ℤ, Bool, true, false, List, [], ◌∷◌, length, map, None, refl, sym, subst, ap, arith}
+use Rattle.std.proofs.Common.{◌≡◌, ◌∙◌, ◌≤◌, ℕ, ℤ, Bool, true, false, cond, List, [], ◌∷◌, length, map, None, refl, sym, subst, ap, arith}
 use Rattle.std.proofs.lemmas.List.{length-map}
 use Rattle.std.specs.Prelude.{if◌then◌else◌}
 use Rattle.std.specs.Option.{option_map}
 use Rattle.std.specs.Ordering.{nat_cmp}
 use Rattle.std.specs.Cmp.Lexicographic.{slice_cmp}
+use Rattle.std.specs.Map.{remove_entry}
 use Rattle.std.specs.BTreeMap.{is_at}
 use Rattle.std.specs.List.{All, AllByRecursion, sum_by}
 use Rattle.std.proofs.lemmas.List.Sums.{sum_by-cons}
@@ -16,10 +17,10 @@ use Rattle.kb_api_data.specs.declared.fetch.FetchRequest.{FetchRequest}
 use Rattle.kb_groups.specs.Calls as one
 use Rattle.kb_coordinator.specs.Calls.{deleted, has_members, is_there}
 use Rattle.kb_coordinator.specs.Groups.{Groups, silent}
-use Rattle.kb_topics.specs.Known.{Known, PartitionState, TopicState, has_committed, without_commit, without_commits, without_group}
+use Rattle.kb_topics.specs.Known.{CommittedOffset, Known, PartitionState, TopicState, has_committed, without_commit, without_commits, without_group}
 use Rattle.kb_topics.proofs.Groups.{apart_less, at_less, less, named_less}
 use Rattle.kb_topics.proofs.Sorted.{left_long, sorted_left}
-use Rattle.kb_tenant_state.specs.Stored.{offsets_to, offsets_to_all}
+use Rattle.kb_tenant_state.specs.Stored.{offsets_to, offsets_to_all, text_size, texts_to, texts_to_all}
 use Rattle.kb_tenant_state.specs.Tied.{IsTied}
 use Rattle.kb_tenant_state.specs.World.{World}
 use Rattle.kb_tenant_state.proofs.GroupDeleted.{group_counts}
@@ -99,6 +100,29 @@ topics_less group (e ∷ ts) =
     let size : ℕ × TopicState → ℕ = λ t. offsets_to t.1.partitions in
     omega (arith, topics_less group ts, parts_less group e.1.partitions, sum_by-cons size e ts, sum_by-cons size (e.0, without_commits group e.1) (less group ts))
 
+left_texts : (group : List ℕ) (cs : List (List ℕ × CommittedOffset)) → sum_by text_size (remove_entry (is_at (slice_cmp nat_cmp group)) cs) ≤ sum_by text_size cs
+left_texts group [] = omega arith
+left_texts group (e ∷ cs) = by (is_at (slice_cmp nat_cmp group) e.0) (left_texts group cs)
+  where
+    rest : List (List ℕ × CommittedOffset)
+    rest = remove_entry (is_at (slice_cmp nat_cmp group)) cs
+
+    by : (b : Bool) → sum_by text_size rest ≤ sum_by text_size cs → sum_by text_size (cond {A = List (List ℕ × CommittedOffset)} b cs (e ∷ rest)) ≤ sum_by text_size (e ∷ cs)
+    by true le = omega (arith, sum_by-cons text_size e cs)
+    by false le = omega (arith, le, sum_by-cons text_size e cs, sum_by-cons text_size e rest)
+
+texts_of_less : (group : List ℕ) (ps : List PartitionState) → texts_to (map (without_commit group) ps) ≤ texts_to ps
+texts_of_less group [] = omega arith
+texts_of_less group (p ∷ ps) =
+    let size : PartitionState → ℕ = λ q. sum_by text_size q.commits in
+    omega (arith, texts_of_less group ps, left_texts group p.commits, sum_by-cons size p ps, sum_by-cons size (without_commit group p) (map (without_commit group) ps))
+
+texts_less : (group : List ℕ) (ts : List (ℕ × TopicState)) → texts_to_all (less group ts) ≤ texts_to_all ts
+texts_less group [] = omega arith
+texts_less group (e ∷ ts) =
+    let size : ℕ × TopicState → ℕ = λ t. texts_to t.1.partitions in
+    omega (arith, texts_less group ts, texts_of_less group e.1.partitions, sum_by-cons size e ts, sum_by-cons size (e.0, without_commits group e.1) (less group ts))
+
 partitions_less : (group : List ℕ) (ts : List (ℕ × TopicState)) → sum_by (λ (t : ℕ × TopicState). length t.1.partitions) (less group ts) ≤ sum_by (λ (t : ℕ × TopicState). length t.1.partitions) ts
 partitions_less group [] = omega arith
 partitions_less group (e ∷ ts) =
@@ -120,6 +144,7 @@ gone_less w group = record {
   topics = (let one : ℕ × TopicState → ℕ × TopicState = λ e. (e.0, without_commits group e.1) in let same = length-map w.known.topics one in omega (arith, same));
   partitions = partitions_less group w.known.topics;
   offsets = topics_less group w.known.topics;
+  texts = texts_less group w.known.topics;
 }
 
 entry_stays : (limits : DataLimits) (s : World × Groups) (id : List ℕ) → Stays limits s.0 (deleted_entry s id).0.0

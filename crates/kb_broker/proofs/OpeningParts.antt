@@ -48,7 +48,8 @@ rows =
     listed_from 2 1 1 1 4 ∷ listed_from 3 1 1 0 7 ∷ listed_from 8 2 2 1 6 ∷ listed_from 9 1 1 1 5 ∷
     listed_from 10 0 0 0 2 ∷ listed_from 11 1 1 1 3 ∷ listed_from 12 0 0 0 2 ∷ listed_from 13 0 0 0 2 ∷ listed_from 14 0 0 0 2 ∷
     listed_from_none 15 0 2 ∷ listed_from_none 16 0 2 ∷ listed_from 17 1 1 0 1 ∷ listed_from 18 0 0 0 2 ∷ listed_from 19 0 0 0 3 ∷
-    listed_from 20 0 0 0 3 ∷ listed_from 21 0 0 0 1 ∷ listed_from 22 0 0 0 1 ∷ listed_from_none 32 0 2 ∷ listed_from 36 0 0 0 0 ∷ []
+    listed_from 20 0 0 0 3 ∷ listed_from 21 0 0 0 1 ∷ listed_from 22 0 0 0 1 ∷ listed_from_none 32 0 2 ∷ listed_from 36 0 0 0 0 ∷
+    listed_from_none 42 0 1 ∷ []
 
 -- from it each listing lists what it is to list
 pub all-listed : (listing : Listing) → filter_map (listed_as listing) rows ≡ listed listing

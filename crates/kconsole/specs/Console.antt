@@ -1,32 +1,42 @@
--- What a command line says, by what was found for each of its names.
-use Rattle.std.specs.Prelude.{◌≡◌, ◌≤◌, ◌<◌, ◌^◌, ℕ, ℤ, pos, Bool, List, length, string_bytes, codes, Option, Some, None, Result, Ok}
+-- What a command line says, by the words.
+use Rattle.std.specs.Prelude.{◌≡◌, ◌≤◌, ◌<◌, ◌^◌, ◌++◌, ℕ, ℤ, pos, Bool, true, false, List, length, string_bytes, codes, Some, None, Ok}
 use Rattle.std.specs.Str.Parse.{ParsesUnsigned}
-use Rattle.clap.specs.Matches.{first_value}
-use Rattle.clap.specs.declared.parser.matches.Found.{Found}
+use Rattle.clap.specs.Words.{Row, Text, first_of, one_of, subcommand_of}
+use Rattle.kconsole.specs.Usage.{console}
 use Rattle.kconsole.specs.declared.console.ConsoleLine.{ConsoleLine}
 use Rattle.kconsole.specs.declared.console.Task.{Task}
 use Rattle.kconsole.specs.declared.console.Task.TheVariants as tasks
 
--- a text that was found
-abbrev pub IsTextOf : Found → List ℕ → List ℕ → Type 0
-IsTextOf found name text = first_value found name ≡ Some text
+-- the text that was found for a name
+abbrev pub IsTextOf : List Row → Text → Text → Type 0
+IsTextOf rows name text = first_of name rows ≡ Some text
 
--- a number whose decimal digits were found
-abbrev pub IsNumberOf : Found → List ℕ → ℕ → Type 0
-IsNumberOf found name n = (text : List ℕ) × IsTextOf found name text × ParsesUnsigned {E = ℕ} 64 10 text (Ok n)
+-- the number whose decimal digits were found for a name
+abbrev pub IsNumberOf : List Row → Text → ℕ → Type 0
+IsNumberOf rows name n = (text : Text) × IsTextOf rows name text × ParsesUnsigned {E = ℕ} 64 10 text (Ok n)
 
--- a number that was found and is not negative, or nothing was
-abbrev pub IsIntOf : Found → List ℕ → ℤ → Type 0
-IsIntOf found name z = (n : ℕ) × (z ≡ pos n) × IsNumberOf found name n
+-- the same as a signed number, below a power of two
+abbrev pub IsIntOf : ℕ → List Row → Text → ℤ → Type 0
+IsIntOf bits rows name z = (n : ℕ) × (z ≡ pos n) × IsNumberOf rows name n × (n < 2 ^ bits)
 
--- what is asked for, as it was found, within its limits
-abbrev pub IsTaskOf : Found → Task → Type 0
-IsTaskOf found (tasks.Produce None) = first_value found (codes "create") ≡ None
-IsTaskOf found (tasks.Produce (Some create)) = (n : ℕ) × (create ≡ pos n) × IsNumberOf found (codes "create") n × (n < 2 ^ 31)
-IsTaskOf found (tasks.Consume from None follow) =
-    (n : ℕ) × (from ≡ pos n) × IsNumberOf found (codes "from") n × (first_value found (codes "max") ≡ None)
-IsTaskOf found (tasks.Consume from (Some max) follow) =
-    (n : ℕ) × (from ≡ pos n) × IsNumberOf found (codes "from") n × IsNumberOf found (codes "max") max × (max < 2 ^ 63)
+-- the host, and the port whose decimal digits stand behind the colon, that were found for the broker
+abbrev pub IsAddressOf : List Row → Text → ℕ → Type 0
+IsAddressOf rows host port = (digits : Text) × IsTextOf rows (codes "broker") (host ++ codes ":" ++ digits)
+    × ParsesUnsigned {E = ℕ} 16 10 digits (Ok port)
+
+-- whether a flag was found
+abbrev pub IsFlagOf : List Row → Text → Bool → Type 0
+IsFlagOf rows name is_on = (one_of name rows ≡ Some (codes "true") → is_on ≡ true)
+    × (one_of name rows ≡ Some (codes "false") → is_on ≡ false) × (one_of name rows ≡ None → is_on ≡ false)
+
+-- what a subcommand asks for, by what was found for its names
+abbrev pub IsTaskOf : Text → List Row → Task → Type 0
+IsTaskOf name rows (tasks.Produce None) = (name ≡ codes "produce") × (first_of (codes "create") rows ≡ None)
+IsTaskOf name rows (tasks.Produce (Some create)) = (name ≡ codes "produce") × IsIntOf 31 rows (codes "create") create
+IsTaskOf name rows (tasks.Consume from None follow) = (name ≡ codes "consume") × IsIntOf 63 rows (codes "from") from
+    × IsFlagOf rows (codes "follow") follow × (first_of (codes "max") rows ≡ None)
+IsTaskOf name rows (tasks.Consume from (Some max) follow) = (name ≡ codes "consume") × IsIntOf 63 rows (codes "from") from
+    × IsFlagOf rows (codes "follow") follow × IsNumberOf rows (codes "max") max × (max < 2 ^ 63)
 
 -- each number and text is within its limits
 pub record IsWithin (line : ConsoleLine) : Type 0 where
@@ -38,12 +48,18 @@ pub record IsWithin (line : ConsoleLine) : Type 0 where
   pub topic : length (string_bytes line.topic) ≤ 255
   pub retries : line.retries < 2 ^ 31
 
--- a line says what was found
-pub record IsLineOf (found : Found) (line : ConsoleLine) : Type 0 where
+-- a line says what was found for the names of a subcommand
+pub record IsLineOf (name : Text) (rows : List Row) (line : ConsoleLine) : Type 0 where
   pub within : IsWithin line
-  pub user : IsTextOf found (codes "user") (string_bytes line.login.user)
-  pub password : IsTextOf found (codes "password") (string_bytes line.login.password)
-  pub topic : IsTextOf found (codes "topic") (string_bytes line.topic)
-  pub partition : IsIntOf found (codes "partition") line.partition
-  pub retries : IsNumberOf found (codes "retries") line.retries
-  pub task : IsTaskOf found line.task
+  pub broker : IsAddressOf rows (string_bytes line.host) line.port
+  pub user : IsTextOf rows (codes "user") (string_bytes line.login.user)
+  pub password : IsTextOf rows (codes "password") (string_bytes line.login.password)
+  pub topic : IsTextOf rows (codes "topic") (string_bytes line.topic)
+  pub partition : IsIntOf 31 rows (codes "partition") line.partition
+  pub retries : IsNumberOf rows (codes "retries") line.retries
+  pub task : IsTaskOf name rows line.task
+
+-- a line says what the words say: the subcommand that they name, and what they have for each of its names
+abbrev pub IsReadOf : List Text → ConsoleLine → Type 0
+IsReadOf words line =
+    (name : Text) × (rows : List Row) × (subcommand_of console words ≡ Some (name, rows)) × IsLineOf name rows line

@@ -1,1 +1,2 @@
 pub mod Console
+pub mod Usage

@@ -1,8 +1,11 @@
 //! The command line of `kconsole`.
 
-ghost use Rattle.std.specs.Prelude.{◌≡◌, ◌≤◌, length, string_bytes, codes, IfOk, IfSome};
-ghost use Rattle.clap.specs.Matches.{found_of, first_value};
-ghost use Rattle.kconsole.specs.Console.{IsWithin, IsTextOf, IsNumberOf, IsLineOf, IsTaskOf};
+ghost use Rattle.std.specs.Prelude.{◌≡◌, ◌≤◌, ◌∷◌, [], length, codes, option_map, IfOk, IfSome};
+ghost use Rattle.clap.specs.Words.{Rule, app_of, found_of, first_of, rows_of};
+ghost use Rattle.clap.specs.Walk.{texts};
+ghost use Rattle.kconsole.specs.Usage.{IsArg, AddsRules, IsSubcommand, option, needed, flag, partition_rules};
+ghost use Rattle.kconsole.specs.Usage.{produce, consume, console};
+ghost use Rattle.kconsole.specs.Console.{IsWithin, IsTextOf, IsNumberOf, IsAddressOf, IsFlagOf, IsTaskOf, IsLineOf, IsReadOf};
 
 use clap::error::ErrorKind;
 use clap::{Arg, ArgAction, ArgMatches, Command};
@@ -78,12 +81,12 @@ impl From<clap::Error> for LineFault {
 impl ConsoleLine {
     /// Reads the words of a command line, the program's name first.
     pub fn read(alloc: Global, words: &[&str]) -> Result<ConsoleLine, LineFault>
-        ensures { IfOk result (λ line. IsWithin line) }
+        ensures within { IfOk result (λ line. IsWithin line) }
+        ensures words { IfOk result (λ line. IsReadOf (texts words.now) line) }
     {
         let matches = ConsoleLine::command(alloc)?.try_get_matches_from(words)?;
         match matches.subcommand() {
-            Some(("produce", found)) => line_of(alloc, found, produce_task(found)),
-            Some((_, found)) => line_of(alloc, found, consume_task(found)),
+            Some((name, found)) => line_of(alloc, name, found),
             // A subcommand is asked for: no other line is taken.
             None => Err(LineFault::Memory),
         }
@@ -101,28 +104,11 @@ impl ConsoleLine {
     }
 
     /// What `clap` reads a command line by.
-    fn command<'a>(alloc: Global) -> Result<Command<'a>, AllocError> {
-        let produce = Command::new(alloc, "produce").about(
-            "Sends the lines of standard input to a partition, each once and in order",
-        );
-        let create = text(
-            alloc,
-            "create",
-            "N",
-            "First creates the topic with N partitions",
-        );
-        let produce = partition_args(alloc, produce)?.arg(create)?;
-        let consume = Command::new(alloc, "consume").about("Prints the lines of a partition");
-        let from = text(alloc, "from", "N", "The offset of the first line").default_value("0");
-        let max = text(alloc, "max", "N", "Ends after N lines");
-        let follow = Arg::new(alloc, "follow")
-            .long("follow")
-            .help("Waits for more lines at the end")
-            .action(ArgAction::SetTrue);
-        let consume = partition_args(alloc, consume)?
-            .arg(from)?
-            .arg(max)?
-            .arg(follow)?;
+    fn command<'a>(alloc: Global) -> Result<Command<'a>, AllocError>
+        ensures { IfOk result (λ command. app_of command ≡ console) }
+    {
+        let produce = produce_command(alloc)?;
+        let consume = consume_command(alloc)?;
         Command::new(alloc, "kconsole")
             .about("Sends lines to a broker that speaks the Kafka protocol, and prints them")
             .version(VERSION)
@@ -132,8 +118,48 @@ impl ConsoleLine {
     }
 }
 
+/// What `clap` reads the words behind `produce` by.
+fn produce_command<'a>(alloc: Global) -> Result<Command<'a>, AllocError>
+    ensures { IfOk result (λ command. IsSubcommand command produce) }
+{
+    let command = Command::new(alloc, "produce").about(
+        "Sends the lines of standard input to a partition, each once and in order",
+    );
+    let create = text(
+        alloc,
+        "create",
+        "N",
+        "First creates the topic with N partitions",
+    );
+    with(partition_args(alloc, command)?, create)
+}
+
+/// What `clap` reads the words behind `consume` by.
+fn consume_command<'a>(alloc: Global) -> Result<Command<'a>, AllocError>
+    ensures { IfOk result (λ command. IsSubcommand command consume) }
+{
+    let command = Command::new(alloc, "consume").about("Prints the lines of a partition");
+    let from = text(alloc, "from", "N", "The offset of the first line").default_value("0");
+    let max = text(alloc, "max", "N", "Ends after N lines");
+    let command = with(partition_args(alloc, command)?, from)?;
+    with(with(command, max)?, follow_arg(alloc))
+}
+
+/// Whether it waits for more.
+fn follow_arg<'a>(alloc: Global) -> Arg<'a>
+    ensures { IsArg result (flag (codes "follow")) }
+{
+    Arg::new(alloc, "follow")
+        .long("follow")
+        .help("Waits for more lines at the end")
+        .action(ArgAction::SetTrue)
+}
+
 /// The arguments of both subcommands.
-fn partition_args<'a>(alloc: Global, command: Command<'a>) -> Result<Command<'a>, AllocError> {
+fn partition_args<'a>(alloc: Global, command: Command<'a>) -> Result<Command<'a>, AllocError>
+    ensures { IfOk result (λ new. AddsRules command.entry partition_rules new) }
+{
+    let topic = text(alloc, "topic", "TOPIC", "The topic").required(true);
     let partition = text(alloc, "partition", "N", "The partition").default_value("0");
     let retries = text(
         alloc,
@@ -141,17 +167,32 @@ fn partition_args<'a>(alloc: Global, command: Command<'a>) -> Result<Command<'a>
         "N",
         "How often a connection is tried again",
     );
-    command
-        .arg(text(alloc, "broker", "HOST:PORT", "The broker's address").required(true))?
-        .arg(text(alloc, "user", "USER", "The user").required(true))?
-        .arg(text(alloc, "password", "PASSWORD", "The password").required(true))?
-        .arg(text(alloc, "topic", "TOPIC", "The topic").required(true))?
-        .arg(partition)?
-        .arg(retries.default_value("3"))
+    let command = with(broker_args(alloc, command)?, topic)?;
+    with(with(command, partition)?, retries.default_value("3"))
+}
+
+/// The arguments that say of which broker, and as whom.
+fn broker_args<'a>(alloc: Global, command: Command<'a>) -> Result<Command<'a>, AllocError>
+    ensures { IfOk result (λ new. AddsRules command.entry
+        (needed (codes "broker") ∷ needed (codes "user") ∷ needed (codes "password") ∷ []) new) }
+{
+    let broker = text(alloc, "broker", "HOST:PORT", "The broker's address").required(true);
+    let user = text(alloc, "user", "USER", "The user").required(true);
+    let password = text(alloc, "password", "PASSWORD", "The password").required(true);
+    with(with(with(command, broker)?, user)?, password)
+}
+
+/// A command with one more argument, which is its own.
+fn with<'a>(command: Command<'a>, arg: Arg<'a>) -> Result<Command<'a>, AllocError>
+    ensures { (rule : Rule) → IsArg arg.entry rule → IfOk result (λ new. AddsRules command.entry (rule ∷ []) new) }
+{
+    command.arg(arg)
 }
 
 /// An argument with a value.
-fn text<'a>(alloc: Global, name: &'a str, value: &'a str, help: &'a str) -> Arg<'a> {
+fn text<'a>(alloc: Global, name: &'a str, value: &'a str, help: &'a str) -> Arg<'a>
+    ensures { IsArg result (option name.entry.now) }
+{
     Arg::new(alloc, name)
         .long(name)
         .value_name(value)
@@ -160,15 +201,10 @@ fn text<'a>(alloc: Global, name: &'a str, value: &'a str, help: &'a str) -> Arg<
 }
 
 /// The line of what `clap` found.
-fn line_of(
-    alloc: Global,
-    found: &ArgMatches<'_>,
-    task: Option<Task>,
-) -> Result<ConsoleLine, LineFault>
-    requires { IfSome task (λ t. IsTaskOf (found_of found.now) t) }
-    ensures { IfOk result (λ line. IsLineOf (found_of found.now) line) }
+fn line_of(alloc: Global, name: &str, found: &ArgMatches<'_>) -> Result<ConsoleLine, LineFault>
+    ensures { IfOk result (λ line. IsLineOf name.now (rows_of (found_of found.now)) line) }
 {
-    let Some(task) = task else {
+    let Some(task) = task_of(name, found) else {
         return Err(ConsoleLine::fault(alloc, "a number is not one, or too large"));
     };
     let (Some(user), Some(password), Some(topic)) = (
@@ -201,11 +237,23 @@ fn line_of(
     })
 }
 
+/// What a subcommand asks for, if its numbers are some.
+fn task_of(name: &str, found: &ArgMatches<'_>) -> Option<Task>
+    ensures { IfSome result (λ task. IsTaskOf name.now (rows_of (found_of found.now)) task) }
+{
+    match name {
+        "produce" => produce_task(found),
+        "consume" => consume_task(found),
+        // There is no other, and `clap` itself gives help.
+        _ => None,
+    }
+}
+
 /// What `produce` asks for, if its numbers are some.
 fn produce_task(found: &ArgMatches<'_>) -> Option<Task>
-    ensures { IfSome result (λ t. IsTaskOf (found_of found.now) t) }
+    ensures { IfSome result (λ task. IsTaskOf (codes "produce") (rows_of (found_of found.now)) task) }
 {
-    if found.get_str("create").is_none() {
+    if value(found, "create").is_none() {
         return Some(Task::Produce { create: None });
     }
     let create = number(found, "create", MAX_INT32)?;
@@ -216,11 +264,11 @@ fn produce_task(found: &ArgMatches<'_>) -> Option<Task>
 
 /// What `consume` asks for, if its numbers are some.
 fn consume_task(found: &ArgMatches<'_>) -> Option<Task>
-    ensures { IfSome result (λ t. IsTaskOf (found_of found.now) t) }
+    ensures { IfSome result (λ task. IsTaskOf (codes "consume") (rows_of (found_of found.now)) task) }
 {
     let from = number(found, "from", MAX_INT64)? as i64;
-    let follow = found.get_flag("follow");
-    if found.get_str("max").is_none() {
+    let follow = flag(found, "follow");
+    if value(found, "max").is_none() {
         return Some(Task::Consume {
             from,
             max: None,
@@ -237,10 +285,10 @@ fn consume_task(found: &ArgMatches<'_>) -> Option<Task>
 
 /// A text that was found, of at most 255 bytes.
 fn short_text<'a>(found: &ArgMatches<'a>, name: &str) -> Option<&'a str>
-    ensures found { IfSome result (λ text. IsTextOf (found_of found.now) name.now text.now) }
+    ensures found { IfSome result (λ text. IsTextOf (rows_of (found_of found.now)) name.now text.now) }
     ensures short { IfSome result (λ text. length text.now ≤ 255) }
 {
-    let text = found.get_str(name)?;
+    let text = value(found, name)?;
     if text.len() > MAX_TEXT_BYTES {
         return None;
     }
@@ -249,10 +297,10 @@ fn short_text<'a>(found: &ArgMatches<'a>, name: &str) -> Option<&'a str>
 
 /// A number that was found, in decimal digits and at most `most`.
 fn number(found: &ArgMatches<'_>, name: &str, most: u64) -> Option<u64>
-    ensures found { IfSome result (λ n. IsNumberOf (found_of found.now) name.now n) }
+    ensures found { IfSome result (λ n. IsNumberOf (rows_of (found_of found.now)) name.now n) }
     ensures within { IfSome result (λ n. n ≤ most) }
 {
-    let text = found.get_str(name)?;
+    let text = value(found, name)?;
     match u64::from_str_radix(text, 10) {
         Ok(n) if n <= most => Some(n),
         Ok(_) | Err(_) => None,
@@ -261,11 +309,12 @@ fn number(found: &ArgMatches<'_>, name: &str, most: u64) -> Option<u64>
 
 /// The host and the port of the broker that was found: they are split at the last colon.
 fn address<'a>(found: &ArgMatches<'a>) -> Option<(&'a str, u16)>
+    ensures found { IfSome result (λ a. IsAddressOf (rows_of (found_of found.now)) a.0.now a.1) }
     ensures some { IfSome result (λ a. 1 ≤ length a.0.now) }
     ensures short { IfSome result (λ a. length a.0.now ≤ 255) }
     ensures port { IfSome result (λ a. 1 ≤ a.1) }
 {
-    let text = found.get_str("broker")?;
+    let text = value(found, "broker")?;
     let (host, port) = text.rsplit_once(':')?;
     if host.is_empty() || host.len() > MAX_TEXT_BYTES {
         return None;
@@ -274,4 +323,18 @@ fn address<'a>(found: &ArgMatches<'a>) -> Option<(&'a str, u16)>
         Ok(0) | Err(_) => None,
         Ok(port) => Some((host, port)),
     }
+}
+
+/// The text that was found for a name, or its default.
+fn value<'a>(found: &ArgMatches<'a>, name: &str) -> Option<&'a str>
+    ensures { option_map (λ text. text.now) result ≡ first_of name.now (rows_of (found_of found.now)) }
+{
+    found.get_str(name)
+}
+
+/// Whether a flag was found.
+fn flag(found: &ArgMatches<'_>, name: &str) -> bool
+    ensures { IsFlagOf (rows_of (found_of found.now)) name.now result }
+{
+    found.get_flag(name)
 }

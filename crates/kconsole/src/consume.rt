@@ -1,11 +1,14 @@
 //! `kconsole consume`: prints the lines of a partition.
 
+ghost use Rattle.std.specs.Prelude.{◌≡◌, string_bytes, IfOk};
+ghost use Rattle.kb_client.specs.Consumer.{fresh};
 ghost use Rattle.kconsole.specs.Console.{IsWithin};
 
 use crate::console::ConsoleLine;
 use crate::fault::Fault;
 use crate::link::Link;
 use kb_client::ConsumerCore;
+use std::alloc::{AllocError, Global};
 use std::io;
 use std::io::Write;
 
@@ -26,6 +29,33 @@ pub fn consume(
     requires { IsWithin line }
 {
     let alloc = rt.alloc();
+    let (mut core, mut link) = begin(alloc, line, from, max, follow)?;
+    let mut buffer = vec![in alloc; 0; BUFFER_BYTES]?;
+    for _ in 0..TURNS {
+        if core.finished() {
+            return Ok(());
+        }
+        turn(rt, &mut core, &mut link, &mut buffer)?;
+    }
+    Err(Fault::Read)
+}
+
+/// A consumer of the line's partition as the line's user, and the way to the line's broker.
+fn begin(
+    alloc: Global,
+    line: ConsoleLine,
+    from: i64,
+    max: Option<u64>,
+    follow: bool,
+) -> Result<(ConsumerCore, Link), AllocError>
+    requires { IsWithin line }
+    ensures { IfOk result (λ made. made.0 ≡ fresh (record {
+      user = string_bytes line.login.user;
+      password = string_bytes line.login.password;
+      topic = string_bytes line.topic;
+      partition = line.partition;
+    }) from max follow) }
+{
     let ConsoleLine {
         host,
         port,
@@ -35,16 +65,9 @@ pub fn consume(
         retries,
         task: _,
     } = line;
-    let mut link = Link::new(alloc, &host, port, retries)?;
-    let mut core = ConsumerCore::new(alloc, login, topic, partition, from, max, follow);
-    let mut buffer = vec![in alloc; 0; BUFFER_BYTES]?;
-    for _ in 0..TURNS {
-        if core.finished() {
-            return Ok(());
-        }
-        turn(rt, &mut core, &mut link, &mut buffer)?;
-    }
-    Err(Fault::Read)
+    let link = Link::new(alloc, &host, port, retries)?;
+    let core = ConsumerCore::new(alloc, login, topic, partition, from, max, follow);
+    Ok((core, link))
 }
 
 /// Sends a request, or waits for a piece of its reply and prints the lines that it completes.

@@ -1,6 +1,7 @@
 //! `kconsole produce`: sends the lines of standard input to a partition.
 
-ghost use Rattle.std.specs.Prelude.{◌≤◌, ◌^◌};
+ghost use Rattle.std.specs.Prelude.{◌≡◌, ◌≤◌, ◌^◌, string_bytes, IfOk};
+ghost use Rattle.kb_client.specs.Producer.{fresh};
 ghost use Rattle.kconsole.specs.Console.{IsWithin};
 
 use crate::console::ConsoleLine;
@@ -9,6 +10,7 @@ use crate::link::Link;
 use crate::progress::Progress;
 use kb_client::{ClientFault, MAX_LINE_BYTES, ProducerCore};
 use kb_server_log::now;
+use std::alloc::{AllocError, Global};
 use std::io::Read;
 
 /// How often it asks or waits at most.
@@ -34,17 +36,7 @@ pub fn produce(rt: &HostRuntime, line: ConsoleLine, create: Option<i32>) -> Resu
     requires { IsWithin line }
 {
     let alloc = rt.alloc();
-    let ConsoleLine {
-        host,
-        port,
-        login,
-        topic,
-        partition,
-        retries,
-        task: _,
-    } = line;
-    let link = Link::new(alloc, &host, port, retries)?;
-    let core = ProducerCore::new(alloc, login, topic, partition, create);
+    let (core, link) = begin(alloc, line, create)?;
     let mut producer = Producer {
         core,
         link,
@@ -59,6 +51,34 @@ pub fn produce(rt: &HostRuntime, line: ConsoleLine, create: Option<i32>) -> Resu
         Ok(()) => Ok(()),
         Err(_) => Err(Fault::Write),
     }
+}
+
+/// A producer for the line's partition as the line's user, and the way to the line's broker.
+fn begin(
+    alloc: Global,
+    line: ConsoleLine,
+    create: Option<i32>,
+) -> Result<(ProducerCore, Link), AllocError>
+    requires { IsWithin line }
+    ensures { IfOk result (λ made. made.0 ≡ fresh (record {
+      user = string_bytes line.login.user;
+      password = string_bytes line.login.password;
+      topic = string_bytes line.topic;
+      partition = line.partition;
+    }) create) }
+{
+    let ConsoleLine {
+        host,
+        port,
+        login,
+        topic,
+        partition,
+        retries,
+        task: _,
+    } = line;
+    let link = Link::new(alloc, &host, port, retries)?;
+    let core = ProducerCore::new(alloc, login, topic, partition, create);
+    Ok((core, link))
 }
 
 impl Producer {

@@ -34,12 +34,13 @@ use Rattle.kb_isolation_spec.proofs.Quiet.{first-silent, own-turn}
 use Rattle.kb_isolation_spec.proofs.Turns.{free-unready, going-same, going-then, turned-same, turned-then, unready-weaken}
 use Rattle.kb_isolation_spec.proofs.Wakes.{turned-quiet, turned-served}
 use Rattle.kb_isolation_spec.specs.Stranded.{NoneStranded}
-use Rattle.kb_broker.specs.Hosts.{OnStore, is_honest, IsLater, IsReadyOn, NoneReady, StepsTo}
+use Rattle.kb_broker.specs.Hosts.{OnStore, is_honest, IsLater, IsLaterBy, IsReadyOn, NoneReady, StepsTo}
+use Rattle.kb_broker.specs.Truth.{Begins, SpeaksAt, SpeaksTruth}
 use Rattle.kb_broker.specs.Places.{numbers, waits_in, AreIdle, IsNext, IsScoped, IsMemberTurnAt, IsServedAt, IsTakenAt, IsTurnAt}
 use Rattle.kb_broker.specs.Parked.{deadline_at, deadline_in, until_of, AreAllOf, AreAnswered, IsKeyedAt, IsKeyedIn, IsOwnedAt, IsOwnedIn, IsQueueOf, IsAskedOnAt, IsPassedOn, IsWhose, IsLeftAmong, IsLeftBy, IsQuietAt, IsUnreadyAt, IsUnreadyIn, IsSoughtAt, IsSoughtIn, IsMinded, AreMinded, SameBut, IsServedFor, IsOwnTo, IsAllOf, IsLeftTo, IsReadyAmong, can_in, AreAmong}
 use Rattle.kb_broker.specs.declared.serving.Concerned.{Concerned}
 use Rattle.kb_broker.specs.declared.serving.Concerned.TheVariants as concerned
-use Rattle.kb_broker.proofs.Honest.{later-same, later-then, ready-of}
+use Rattle.kb_broker.proofs.Honest.{later-after, later-same, later-then, ready-of}
 use Rattle.kb_broker.proofs.Handled.{HasBegun, IsMoved, IsTaken, idle-none, moved-going, moved-held, moved-others, moved-step, moved-unready, put_with, unready-over, waked-still, scoped-turned, served-for, served-taken}
 use Rattle.kb_broker.proofs.Parked.{IsCarried, among, among-same, among-settled, at-unready, carried-same, carried-turn, deadline-free, each-find, find-set, first-least, minded-all, queue-put, unready-at, waiting-on}
 
@@ -409,7 +410,7 @@ confined-these ns n a b c own first then k apart = then k apart ∙ first k (λ 
 -- what the tenants' own parts, and then looks, left of the broker on its store, before the turns
 pub record IsAwake {S : Type 0} (disk : S → Disk) (now : ℕ) (answered : Option (Vec ℕ Global)) (a s b : OnStore S) : Type 0 where
   pub ready : IsReadyOn disk a
-  pub first : IsLater disk a s
+  pub first : IsLaterBy disk (Begins (Moment now)) a s
   pub begun : HasBegun (is_honest disk s) now answered a.state s.state
   pub going : IsGoing s.state b.state
   pub later : IsLater disk s b
@@ -431,7 +432,7 @@ awake-among disk now answered a s b ns h same = among-settled ns s.state b.state
 -- what a moment leaves
 pub record IsMovedOn {S : Type 0} (disk : S → Disk) (now : ℕ) (a d : OnStore S) : Type 0 where
   pub ready : IsReadyOn disk d
-  pub later : IsLater disk a d
+  pub later : IsLaterBy disk (SpeaksAt (Moment now)) a d
   pub step : StepsTo disk (Moment now) a d
   pub clock : d.state.clock ≡ max a.state.clock now
   pub last : d.state.last ≡ a.state.last
@@ -444,7 +445,7 @@ pub moved-on : {S : Type 0} (disk : S → Disk) (now : ℕ) (answered : Option (
 moved-on disk now answered a s b d h going later turned settled =
     let H = is_honest disk s in
     let after = later-then disk s b d h.later later in
-    let whole = later-then disk a s d h.first after in
+    let whole = later-after disk (Begins (Moment now)) SpeaksTruth (SpeaksAt (Moment now)) a s d h.first after (λ begins spoken. record { begun = s.state; begins = begins; spoken = spoken }) in
     let gone = moved-going H now answered a.state s.state b.state h.ready.settled h.begun d.state h.going going in
     let moved : is_honest disk d → IsMoved H now answered a.state s.state b.state d.state = λ honest. record {
       ready = ready-of disk a h.ready (whole.honest honest);

@@ -8,11 +8,11 @@ use Rattle.kb_isolation_spec.proofs.Steps.{sound-opened, settled-opened, unready
 use Rattle.kb_isolation_spec.proofs.Taken.{sound-taken, settled-taken, unready-taken}
 use Rattle.kb_isolation_spec.specs.Stranded.{NoneStranded}
 use Rattle.kb_isolation_spec.proofs.Stranded.{stranded-closed, stranded-opened, stranded-taken, stranded-unopened}
-use Rattle.kb_broker.specs.Hosts.{OnStore, is_honest, IsLater, IsReadyOn, StepsTo}
-use Rattle.kb_broker.specs.Truth.{IsSilent}
-use Rattle.kb_broker.proofs.Honest.{later-is, later-silent}
+use Rattle.kb_broker.specs.Hosts.{OnStore, is_honest, IsLaterBy, IsReadyOn, StepsTo}
+use Rattle.kb_broker.specs.Truth.{SpeaksAt}
+use Rattle.kb_broker.proofs.Honest.{later-is, later-still}
 use Rattle.kb_broker.proofs.Once.{once-grows, once-loud}
-use Rattle.kb_broker.proofs.Truth.{silent_closed, silent_opened, silent_refused}
+use Rattle.kb_broker.proofs.Truth.{at_closed, at_opened}
 
 -- another state on the same store
 module _ {S : Type 0} (disk : S → Disk) (a c : OnStore S) (same : c.store ≡ a.store) where
@@ -63,17 +63,19 @@ drained-ready disk a c n ready h =
     ready-on disk a c (ap (λ (x : OnStore _). x.store) h) (taken a.state n) (ap (λ (x : OnStore _). x.state) h) ready (sound-taken a.state n ready.sound) (settled-taken a.state n ready.settled) (unready-taken a.state n)
 
 -- a connection that opens, or cannot be kept, or closes, leaves the store and the tenants' counts as they are
-pub connected-later : {S A E : Type 0} (disk : S → Disk) (r : Result A E) (a c : OnStore S) (n : ℕ) → c.store ≡ a.store → c.strays ≡ a.strays → c.by_store ≡ a.by_store → OnOk r (c.state ≡ opened a.state n) → OnErr r (IsRefused a.state c.state) → IsLater disk a c
-connected-later disk (Ok x) a c n same left shares ok err =
-    later-is disk a c same left shares (ap (λ (b : BrokerState). b.tenants) ok) (subst (IsSilent a.state) (sym ok) (silent_opened a.state n))
-connected-later disk (Err x) a c n same left shares ok err =
-    later-is disk a c same left shares (ap (λ (b : BrokerState). b.tenants) err.is) (silent_refused a.state c.state err)
+tenants-connected : {A E : Type 0} (r : Result A E) (a c : BrokerState) (n : ℕ) → OnOk r (c ≡ opened a n) → OnErr r (IsRefused a c) → c.tenants ≡ a.tenants
+tenants-connected (Ok x) a c n ok err = ap (λ (b : BrokerState). b.tenants) ok
+tenants-connected (Err x) a c n ok err = ap (λ (b : BrokerState). b.tenants) err.is
 
-pub disconnected-later : {S : Type 0} (disk : S → Disk) (a c : OnStore S) (n : ℕ) → c ≡ record a { state = closed a.state n } → IsLater disk a c
+pub connected-later : {S A E : Type 0} (disk : S → Disk) (r : Result A E) (a c : OnStore S) (n : ℕ) → c.store ≡ a.store → c.strays ≡ a.strays → c.by_store ≡ a.by_store → OnOk r (c.state ≡ opened a.state n) → OnErr r (IsRefused a.state c.state) → IsLaterBy disk (SpeaksAt (Opens n)) a c
+connected-later disk r a c n same left shares ok err =
+    later-is disk (SpeaksAt (Opens n)) a c same left shares (tenants-connected r a.state c.state n ok err) (at_opened r a.state c.state n ok err)
+
+pub disconnected-later : {S : Type 0} (disk : S → Disk) (a c : OnStore S) (n : ℕ) → c ≡ record a { state = closed a.state n } → IsLaterBy disk (SpeaksAt (Closes n)) a c
 disconnected-later disk a c n h =
     let grows = (left-step a c n h).grows in
-    later-silent disk a c (ap (λ (x : OnStore _). x.store) h) (ap (λ (x : OnStore _). x.strays) h) (ap (λ (x : OnStore _). x.by_store) h) grows.names grows.own
-    (subst (IsSilent a.state) (sym (ap (λ (x : OnStore _). x.state) h)) (silent_closed a.state n))
+    later-still disk (SpeaksAt (Closes n)) a c (ap (λ (x : OnStore _). x.store) h) (ap (λ (x : OnStore _). x.strays) h) (ap (λ (x : OnStore _). x.by_store) h) grows.names grows.own
+    (at_closed a.state c.state n (ap (λ (x : OnStore _). x.state) h))
 
 -- what a call leaves of the members that wait: the engine's own a is the one that clauses see, b
 pub connected-held : {S A E : Type 0} (r : Result A E) (a b c : OnStore S) (n : ℕ) → a ≡ b → OnOk r (c.state ≡ opened a.state n) → OnErr r (IsRefused a.state c.state) → NoneStranded b.state → NoneStranded c.state

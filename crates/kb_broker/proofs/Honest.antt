@@ -1,13 +1,15 @@
 -- What may be said where a store has told the truth.
 use Rattle.std.proofs.Common.{◌≡◌, ◌≤◌, ◌∙◌, ℕ, List, [], Option, Contains, refl, ap, sym, subst, arith, unwrap_or}
+use Rattle.std.specs.Prelude.{max}
 use Rattle.kb_store.specs.Disk.{Disk}
 use Rattle.kb_tenant_api.specs.Hosted.{TenantState, names_of, refusals_of}
 use Rattle.kb_tenants.proofs.Passed.{length_named}
 use Rattle.kb_tenants.proofs.Shares.{shares_rise, shares_same, shares_then}
-use Rattle.kb_isolation_spec.specs.Broker.{BrokerState, IsReady}
-use Rattle.kb_broker.specs.Hosts.{OnStore, is_honest, IsLater, IsLaterWith, IsReadyOn}
-use Rattle.kb_broker.specs.Truth.{IsSilent, SpeaksTruth}
-use Rattle.kb_broker.proofs.Truth.{silent_lines, speaks_same, speaks_silent, speaks_then}
+use Rattle.kb_isolation_spec.specs.Machine.{Happening, Comes, Moment}
+use Rattle.kb_isolation_spec.specs.Broker.{BrokerState, IsReady, IsUntaken}
+use Rattle.kb_broker.specs.Hosts.{OnStore, is_honest, IsLater, IsLaterBy, IsLaterWith, IsReadyOn}
+use Rattle.kb_broker.specs.Truth.{Begins, IsTrueMoment, SpeaksAt, SpeaksTruth}
+use Rattle.kb_broker.proofs.Truth.{at_then, at_untaken, speaks_same, speaks_then}
 
 -- a broker that is ready on its store is ready
 pub ready-of : {S : Type 0} (disk : S → Disk) (b : OnStore S) → IsReadyOn disk b → is_honest disk b → IsReady b.state
@@ -58,11 +60,11 @@ later-on disk s t x y ts us cs ds e f h names counts =
     (subst (λ o. IsLaterWith (disk s) (disk s) x o ts us cs ds) (sym f)
     (subst (λ ns. IsLaterWith (disk s) (disk s) x x ts us cs ns) (sym h) (later-counted (disk s) x ts us cs names counts)))
 
--- at the end of what the broker said meanwhile
-pub later-from : {S : Type 0} (disk : S → Disk) (a b : OnStore S)
-    → IsLaterWith (disk a.store) (disk b.store) a.strays b.strays a.state.tenants b.state.tenants a.by_store b.by_store → (is_honest disk b → SpeaksTruth a.state b.state)
-    → IsLater disk a b
-later-from disk a b h spoken = record {
+-- and it went there so
+pub later-from : {S : Type 0} (disk : S → Disk) (Goes : BrokerState → BrokerState → Type 0) (a b : OnStore S)
+    → IsLaterWith (disk a.store) (disk b.store) a.strays b.strays a.state.tenants b.state.tenants a.by_store b.by_store → (is_honest disk b → Goes a.state b.state)
+    → IsLaterBy disk Goes a b
+later-from disk Goes a b h spoken = record {
   honest = h.honest;
   failures = h.failures;
   many = h.many;
@@ -74,9 +76,9 @@ later-from disk a b h spoken = record {
 }
 
 -- of the store and the tenants alone
-pub later-with : {S : Type 0} (disk : S → Disk) (a b : OnStore S) → IsLater disk a b
+pub later-with : {S : Type 0} (disk : S → Disk) (Goes : BrokerState → BrokerState → Type 0) (a b : OnStore S) → IsLaterBy disk Goes a b
     → IsLaterWith (disk a.store) (disk b.store) a.strays b.strays a.state.tenants b.state.tenants a.by_store b.by_store
-later-with disk a b h = record {
+later-with disk Goes a b h = record {
   honest = h.honest;
   failures = h.failures;
   many = h.many;
@@ -87,38 +89,51 @@ later-with disk a b h = record {
 }
 
 pub later-same : {S : Type 0} (disk : S → Disk) (a : OnStore S) → IsLater disk a a
-later-same disk a = later-from disk a a (later-none (disk a.store) a.strays a.state.tenants a.by_store) (λ honest. speaks_same a.state a.state refl)
+later-same disk a = later-from disk SpeaksTruth a a (later-none (disk a.store) a.strays a.state.tenants a.by_store) (λ honest. speaks_same a.state a.state refl)
+
+-- a broker at a later moment, and then at a later one
+pub later-after : {S : Type 0} (disk : S → Disk) (P Q R : BrokerState → BrokerState → Type 0) (a b c : OnStore S) → IsLaterBy disk P a b → IsLaterBy disk Q b c
+    → (P a.state b.state → Q b.state c.state → R a.state c.state) → IsLaterBy disk R a c
+later-after disk P Q R a b c p q both = later-from disk R a c
+    (later-by (disk a.store) (disk b.store) (disk c.store) a.strays b.strays c.strays a.state.tenants b.state.tenants c.state.tenants a.by_store b.by_store c.by_store
+    (later-with disk P a b p) (later-with disk Q b c q))
+    (λ honest. both (p.spoken (q.honest honest)) (q.spoken honest))
 
 pub later-then : {S : Type 0} (disk : S → Disk) (a b c : OnStore S) → IsLater disk a b → IsLater disk b c → IsLater disk a c
-later-then disk a b c p q = later-from disk a c
-    (later-by (disk a.store) (disk b.store) (disk c.store) a.strays b.strays c.strays a.state.tenants b.state.tenants c.state.tenants a.by_store b.by_store c.by_store
-    (later-with disk a b p) (later-with disk b c q))
-    (λ honest. speaks_then a.state b.state c.state (p.spoken (q.honest honest)) (q.spoken honest))
+later-then disk a b c p q = later-after disk SpeaksTruth SpeaksTruth SpeaksTruth a b c p q (speaks_then a.state b.state c.state)
 
--- the store, the files that are left alone and the store's share are the same, no count is smaller, and nothing was said
-pub later-silent : {S : Type 0} (disk : S → Disk) (a b : OnStore S) → b.store ≡ a.store → b.strays ≡ a.strays → b.by_store ≡ a.by_store
+-- where nobody takes what came nothing changes
+pub later-untaken : {S : Type 0} (disk : S → Disk) (a : OnStore S) (n : ℕ) (piece : List ℕ) → IsUntaken n piece a.state → IsLaterBy disk (SpeaksAt (Comes n piece)) a a
+later-untaken disk a n piece untaken = later-from disk (SpeaksAt (Comes n piece)) a a (later-none (disk a.store) a.strays a.state.tenants a.by_store) (λ honest. at_untaken n piece a.state untaken)
+
+-- in an event
+pub later-at : {S : Type 0} (disk : S → Disk) (e : Happening) (a b c : OnStore S) → IsLaterBy disk (SpeaksAt e) a b → IsLater disk b c → IsLaterBy disk (SpeaksAt e) a c
+later-at disk e a b c p q = later-after disk (SpeaksAt e) SpeaksTruth (SpeaksAt e) a b c p q (at_then e a.state b.state c.state)
+
+-- the store, the files that are left alone and the store's share are the same, and no count is smaller
+pub later-still : {S : Type 0} (disk : S → Disk) (Goes : BrokerState → BrokerState → Type 0) (a b : OnStore S) → b.store ≡ a.store → b.strays ≡ a.strays → b.by_store ≡ a.by_store
     → names_of b.state.tenants ≡ names_of a.state.tenants → ((t : ℕ) → refusals_of a.state.tenants t ≤ refusals_of b.state.tenants t)
-    → IsSilent a.state b.state → IsLater disk a b
-later-silent disk a b store strays by_store names counts silent = later-from disk a b
+    → Goes a.state b.state → IsLaterBy disk Goes a b
+later-still disk Goes a b store strays by_store names counts goes = later-from disk Goes a b
     (later-on disk a.store b.store a.strays b.strays a.state.tenants b.state.tenants a.by_store b.by_store store strays by_store names counts)
-    (λ honest. speaks_silent a.state b.state silent)
+    (λ honest. goes)
 
 -- the same, where no count has changed
-pub later-is : {S : Type 0} (disk : S → Disk) (a b : OnStore S) → b.store ≡ a.store → b.strays ≡ a.strays → b.by_store ≡ a.by_store → b.state.tenants ≡ a.state.tenants
-    → IsSilent a.state b.state → IsLater disk a b
-later-is disk a b store strays by_store tenants silent = later-silent disk a b store strays by_store (ap names_of tenants)
-    (λ t. (let same = ap (λ (ts : List TenantState). refusals_of ts t) tenants in omega (arith, same))) silent
+pub later-is : {S : Type 0} (disk : S → Disk) (Goes : BrokerState → BrokerState → Type 0) (a b : OnStore S) → b.store ≡ a.store → b.strays ≡ a.strays → b.by_store ≡ a.by_store → b.state.tenants ≡ a.state.tenants
+    → Goes a.state b.state → IsLaterBy disk Goes a b
+later-is disk Goes a b store strays by_store tenants goes = later-still disk Goes a b store strays by_store (ap names_of tenants)
+    (λ t. (let same = ap (λ (ts : List TenantState). refusals_of ts t) tenants in omega (arith, same))) goes
 
 -- where a is what the broker's own fields are
-pub later-seen : {S : Type 0} (disk : S → Disk) (a b c : OnStore S) → a ≡ b → IsLater disk a c → IsLater disk b c
-later-seen disk a b c e h = subst (λ x. IsLater disk x c) e h
+pub later-seen : {S : Type 0} (disk : S → Disk) (Goes : BrokerState → BrokerState → Type 0) (a b c : OnStore S) → a ≡ b → IsLaterBy disk Goes a c → IsLaterBy disk Goes b c
+later-seen disk Goes a b c e h = subst (λ x. IsLaterBy disk Goes x c) e h
 
 -- once the clock is set
-pub later-clocked : {S : Type 0} (disk : S → Disk) (a : OnStore S) (clock : ℕ) (b : OnStore S)
-    → IsLater disk (record a { state = record a.state { clock = clock } }) b → IsLater disk a b
-later-clocked disk a clock b h =
-    let c : OnStore _ = record a { state = record a.state { clock = clock } } in
-    later-then disk a c b (later-is disk a c refl refl refl refl (silent_lines a.state c.state refl (λ t. refl))) h
+pub later-begun : {S : Type 0} (disk : S → Disk) (a : OnStore S) (clock now : ℕ) (b : OnStore S) → clock ≡ max a.state.clock now
+    → IsLaterBy disk IsTrueMoment (record a { state = record a.state { clock = clock } }) b → IsLaterBy disk (Begins (Moment now)) a b
+later-begun disk a clock now b e h = later-from disk (Begins (Moment now)) a b
+    (later-with disk IsTrueMoment (record a { state = record a.state { clock = clock } }) b h)
+    (λ honest. subst (λ n. IsTrueMoment (record a.state { clock = n }) b.state) e (h.spoken honest))
 
 pub state-is : {S : Type 0} (a b : OnStore S) → a ≡ b → a.state ≡ b.state
 state-is a b e = ap (λ (x : OnStore _). x.state) e

@@ -4,7 +4,6 @@ use Rattle.kb_tenant_state.specs.declared.topic_partition.TopicPartition.{TopicP
 use Rattle.kb_tenant.specs.declared.answer.Answer.{Answer as Plain}
 use Rattle.kb_tenant_api.specs.Hosted.{Kept, TenantState, kept_of}
 use Rattle.kb_tenant_api.specs.declared.answer.Answer.{Answer}
-use Rattle.kb_tenant_api.specs.declared.answer.Answer.TheVariants as any
 use Rattle.kb_isolation_spec.specs.declared.shut.Shut.TheVariants as causes
 use Rattle.kb_isolation_spec.specs.declared.head.Head.{Head}
 use Rattle.kb_isolation_spec.specs.Greeting.{Setup, greeted, for_tenant, node_of}
@@ -12,14 +11,19 @@ use Rattle.kb_isolation_spec.specs.Machine.{Line, after_turn}
 use Rattle.kb_isolation_spec.specs.Session.{Greeting, Stage, Greets, BoundTo, Session, shut_down}
 use Rattle.kb_isolation_spec.specs.Tenant.{Wait}
 use Rattle.kb_connection.specs.Fronts.{IsAsked, IsOwn}
+use Rattle.kb_connection.specs.TenantAnswers.{answered_again}
 use Rattle.kb_connection.specs.View.{with_session}
-use Rattle.kb_broker.specs.Places.{IsLookAnswer, IsPutOut, IsToldAgain, IsToldAt, IsToldTruth, IsTrueAnswer, IsUnasked, TellsAwaited, TellsMember}
+use Rattle.kb_broker.specs.Places.{IsDoneOrShut, IsLookAnswer, IsPutOut, IsToldAgain, IsToldAt, IsToldTruth, IsTrueAnswer, IsUnasked, TellsAwaited, TellsMember}
 
 -- 1. What is put out
 
 -- a connection that was shut has no answer, whichever was meant for it
-pub put-shut : (head : Head) (answer : Answer) (l m : Line) → m ≡ with_session l (shut_down causes.Memory l.session) → IsPutOut head answer l.session m.session
-put-shut head answer l m is = inr (ap (λ (x : Line). x.session) is)
+pub put-shut : (defined : Session) (l m : Line) → m ≡ with_session l (shut_down causes.Memory l.session) → IsDoneOrShut defined l.session m.session
+put-shut defined l m is = inr (ap (λ (x : Line). x.session) is)
+
+-- and any other has what is defined
+pub put-done : (defined : Session) (l m : Line) → m ≡ with_session l defined → IsDoneOrShut defined l.session m.session
+put-done defined l m is = inl (ap (λ (x : Line). x.session) is)
 
 -- 2. A request's answer
 
@@ -46,7 +50,7 @@ module _ (failed : Type 0) (full : ℕ → Type 0) (setup : Setup) (clock n t : 
   pub told-asked : (us : List TenantState) (s r : Session) (key version : ℤ) (head : Head) (body : List ℕ) (touched : List TopicPartition)
       (answer : Answer) → IsAsked setup s key version head body
       → IsTrueAnswer failed (full t) (node_of setup t) clock n key version head.correlation_id body (kept_of ts t) (kept_of us t) touched answer
-      → IsPutOut head answer s r → IsToldAt failed full setup clock n (BoundTo t None) ts us s r
+      → IsPutOut head version body answer s r → IsToldAt failed full setup clock n (BoundTo t None) ts us s r
   told-asked us s r key version head body touched answer asked is_true put_out = record {
     asked = λ key' version' head' body' asks.
         let both : Some (head, key, version, body) ≡ Some (head', key', version', body') = sym asked.asked ∙ asks.asked in
@@ -99,6 +103,6 @@ member-answered clock n t ts us w answer (inr (inr refused)) = λ members.
 -- what waited was told
 pub again-told : (failed : Type 0) (clock n t : ℕ) (ts : List TenantState) (st : Stage) (w : Wait) (s r : Session) (answer : Plain)
     → st ≡ BoundTo t (Some w) → TellsAwaited failed w.head.correlation_id clock (kept_of ts t) w.awaited answer
-    → TellsMember clock n (kept_of ts t) w answer → IsPutOut w.head (any.Plain answer) s r → IsToldAgain failed clock n st ts s r
+    → TellsMember clock n (kept_of ts t) w answer → IsDoneOrShut (answered_again w.head answer s) s r → IsToldAgain failed clock n st ts s r
 again-told failed clock n t ts st w s r answer waits told member put_out =
     subst (λ x. IsToldAgain failed clock n x ts s r) (sym waits) (inr (answer, (told, (member, put_out))))

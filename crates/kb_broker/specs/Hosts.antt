@@ -53,9 +53,8 @@ pub record OnStore (S : Type 0) : Type 0 where
 abbrev pub is_honest : {S : Type 0} → (S → Disk) → OnStore S → Type 0
 is_honest disk b = (disk b.store).honest
 
--- A broker at a later moment: the same of its store and its tenants; and what it said meanwhile to its tenants is the truth, whatever was
--- refused, unless the store lied.
-pub record IsLater {S : Type 0} (disk : S → Disk) (old new : OnStore S) : Type 0 where
+-- A broker at a later moment: the same of its store and its tenants; and unless the store lied it went there in such a way.
+pub record IsLaterBy {S : Type 0} (disk : S → Disk) (Goes : BrokerState → BrokerState → Type 0) (old new : OnStore S) : Type 0 where
   pub honest : is_honest disk new → is_honest disk old
   pub failures : (disk old.store).failures ≤ (disk new.store).failures
   pub many : length new.state.tenants ≡ length old.state.tenants
@@ -63,7 +62,11 @@ pub record IsLater {S : Type 0} (disk : S → Disk) (old new : OnStore S) : Type
   pub accounted : AreShared old.state.tenants new.state.tenants (disk old.store).failures (disk new.store).failures old.by_store new.by_store
   pub strays_are : new.strays ≡ old.strays
   pub left_alone : AreLeftAlone (unwrap_or old.strays []) (disk old.store) (disk new.store)
-  pub spoken : is_honest disk new → SpeaksTruth old.state new.state
+  pub spoken : is_honest disk new → Goes old.state new.state
+
+-- what it said meanwhile to its tenants is the truth, whatever was refused, while nothing came
+abbrev pub IsLater : {S : Type 0} → (S → Disk) → OnStore S → OnStore S → Type 0
+IsLater disk old new = IsLaterBy disk SpeaksTruth old new
 
 -- Where it is known which files are of no log, and nothing was ever refused to a tenant, what the tenants have is in the files of the
 -- store, unless it lied: opened again the files come to the same.

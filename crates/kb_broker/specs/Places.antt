@@ -1,12 +1,13 @@
 -- A connection's place in the broker, its turns there, and the count of a refusal.
 use Rattle.std.specs.Prelude.{◌≡◌, ◌≢◌, ℕ, ℤ, ◌<◌, ◌≤◌, List, [], ◌∷◌, length, take, map, get_or, Option, Some, None, Bool, true, false}
-use Rattle.std.specs.Prelude.{not, ◌||◌, ◌⊎◌, ◌++◌, ⊤}
+use Rattle.std.specs.Prelude.{not, ◌||◌, ◌⊎◌, ⊤}
 use Rattle.std.specs.List.{AllByRecursion}
 use Rattle.std.specs.declared.alloc.Global.{Global}
 use Rattle.std.specs.declared.vec.Vec.{Vec}
 use Rattle.kb_tenants.specs.Tenants.{AreQuietBut, IsTruthfulFor}
 use Rattle.kb_connection.specs.Fronts.{IsAsked, IsOwn}
-use Rattle.kb_connection.specs.TenantAnswers.{spoken}
+use Rattle.kb_connection.specs.TenantAnswers.{answered, answered_again}
+use Rattle.kb_connection.specs.View.{without_front}
 use Rattle.kb_tenant_state.specs.Counts.{IsCalm, counted_once}
 use Rattle.kb_tenant_state.specs.declared.topic_partition.TopicPartition.{TopicPartition}
 use Rattle.kb_tenant_api.specs.Hosted as hosted
@@ -18,7 +19,6 @@ use Rattle.kb_tenant.specs.declared.answer.Answer.{Answer}
 use Rattle.kb_tenant.specs.declared.answer.Answer.TheVariants as answers
 use Rattle.kb_tenant.specs.declared.node.Node.{Node}
 use Rattle.kb_tenant_api.specs.declared.answer.Answer.{Answer as AnyAnswer}
-use Rattle.kb_tenant_api.specs.declared.answer.Answer.TheVariants as any
 use Rattle.kb_tenant_api.specs.Serve.{served, AreGroupsAfter}
 use Rattle.kb_tenant_api.specs.Waiters.{AreServed}
 use Rattle.kb_isolation_spec.specs.declared.shut.Shut.TheVariants as causes
@@ -198,9 +198,10 @@ pub record IsOneMore (i : ℕ) (old new : BrokerState) : Type 0 where
 abbrev pub IsDoneOrShut : Session → Session → Session → Type 0
 IsDoneOrShut defined s r = (r ≡ defined) ⊎ (r ≡ shut_down causes.Memory s)
 
--- what an answer to the request of that head says stands behind the output of a connection; or the connection was shut
-abbrev pub IsPutOut : Head → AnyAnswer → Session → Session → Type 0
-IsPutOut head answer s r = (r.output ≡ s.output ++ spoken head answer) ⊎ (r ≡ shut_down causes.Memory s)
+-- The request of that head, version and body, which stood in front of a connection, was answered so: it is gone, what was answered stands
+-- behind the output, and the connection waits where the answer says so; or the connection was shut.
+abbrev pub IsPutOut : Head → ℤ → List ℕ → AnyAnswer → Session → Session → Type 0
+IsPutOut head version body answer s r = IsDoneOrShut (answered head version body answer (without_front s)) s r
 
 -- The answer to a request of a tenant, which had kept k and keeps l, is the truth of its topics; and its groups are those that the request
 -- makes, or those of before without the last replies, and then the connection is shut. Where groups are deleted some of these may be gone.
@@ -215,7 +216,7 @@ pub record IsToldTruth (failed full : Type 0) (node : Node) (clock n : ℕ) (key
   pub answer : AnyAnswer
   pub touched : List TopicPartition
   pub is_true : IsTrueAnswer failed full node clock n key version head.correlation_id body k l touched answer
-  pub put_out : IsPutOut head answer s r
+  pub put_out : IsPutOut head version body answer s r
 
 -- nothing was asked, as memory to read the request was refused: the tenant keeps what it kept, and the connection was shut
 abbrev pub IsUnasked : Kept → Kept → Session → Session → Type 0
@@ -239,11 +240,11 @@ IsToldAt failed full setup clock n (BoundTo tenant wait) old new s r =
 abbrev pub TellsMember : ℕ → ℕ → Kept → Wait → Answer → Type 0
 TellsMember clock n kept w a = is_members w.awaited ≡ true → IsAnswer w.head.correlation_id (ready kept clock n w) a ⊎ (a ≡ answers.Shut)
 
--- A look at what waits on the connection of number n, whatever was refused in it: it waits on; or what was put out has of each partition
+-- A look at what waits on the connection of number n, whatever was refused in it: it waits on; or what it was answered has of each partition
 -- what is defined, or the code of what refused it, and a member is told what its group told it.
 abbrev pub IsToldAgain : Type 0 → ℕ → ℕ → Stage → List TenantState → Session → Session → Type 0
 IsToldAgain failed clock n (Greets handshaken) old s r = r ≡ s
 IsToldAgain failed clock n (BoundTo tenant None) old s r = r ≡ s
 IsToldAgain failed clock n (BoundTo tenant (Some w)) old s r = (r ≡ s) ⊎ ((answer : Answer)
     × (TellsAwaited failed w.head.correlation_id clock (hosted.kept_of old tenant) w.awaited answer
-    × (TellsMember clock n (hosted.kept_of old tenant) w answer × IsPutOut w.head (any.Plain answer) s r)))
+    × (TellsMember clock n (hosted.kept_of old tenant) w answer × IsDoneOrShut (answered_again w.head answer s) s r)))

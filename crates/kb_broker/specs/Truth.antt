@@ -1,27 +1,32 @@
 -- What a broker says to its tenants, whatever memory and the store refused.
-use Rattle.std.specs.Prelude.{◌≡◌, ◌≤◌, ◌+◌, ◌^◌, ◌⊎◌, ℕ, List, [], ◌∷◌, Some, ⊤}
+use Rattle.std.specs.Prelude.{◌≡◌, ◌≤◌, ◌+◌, ◌^◌, ◌⊎◌, ℕ, List, [], ◌∷◌, Some, true, if◌then◌else◌, ⊤}
 use Rattle.kb_tenant_api.specs.Turns.{HavePassed}
 use Rattle.kb_tenant.specs.Told.{FailedBy}
-use Rattle.kb_isolation_spec.specs.Machine.{Line, find_line}
-use Rattle.kb_isolation_spec.specs.Broker.{BrokerState, kept_of}
-use Rattle.kb_isolation_spec.specs.Calls.{output_in}
+use Rattle.kb_isolation_spec.specs.Session.{Session, can, fed, overruns}
+use Rattle.kb_isolation_spec.specs.Machine.{Happening, Opens, Comes, Closes, Moment, Line, find_line}
+use Rattle.kb_isolation_spec.specs.Broker.{BrokerState, IsUntaken, kept_of}
+use Rattle.kb_isolation_spec.specs.Calls.{IsRefused, closed, left_by, moved, opened}
+use Rattle.kb_isolation_spec.specs.Told.{quieted_lines}
 use Rattle.kb_isolation_spec.specs.Turned.{SameOthers}
-use Rattle.kb_broker.specs.Places.{IsToldAgain, IsToldAt, IsTurnAt}
+use Rattle.kb_broker.specs.Places.{IsCountedAt, IsDoneOrShut, IsToldAgain, IsToldAt, IsTurnAt}
 
--- 1. What happens from one moment to the next
+-- 1. Steps while nothing comes
 
--- one connection, which is l, is m then; all others are as they were
+-- one connection, which is l, is m then; all others are as they were, and so is all else but the tenants
 pub record IsOfOne (old new : BrokerState) (l m : Line) : Type 0 where
   pub was : find_line l.number old.lines ≡ Some l.session
   pub is : find_line l.number new.lines ≡ Some m.session
   pub others : SameOthers l.number old new
+  pub rest : new ≡ record old { tenants = new.tenants; lines = new.lines }
 
--- A connection had a turn, of which at most what its own tenant keeps has changed, and its tenant's request in front was told the truth.
--- The numbers are of the store's failures before and after, of its next file, and of the commands that each catalog has recorded.
+-- A connection that can take a turn had one, of which at most what its own tenant keeps has changed, and its tenant's request in front was
+-- told the truth. The numbers are of the store's failures before and after, of its next file, and of the commands that each catalog has
+-- recorded.
 pub record IsTrueTurn (old new : BrokerState) : Type 0 where
   pub l : Line
   pub m : Line
   pub one : IsOfOne old new l m
+  pub able : can l.session ≡ true
   pub turn : IsTurnAt ⊤ l.session.stage old.tenants new.tenants
   pub failed : ℕ
   pub fails : ℕ
@@ -41,27 +46,57 @@ pub record IsTrueLook (old new : BrokerState) : Type 0 where
   pub next : ℕ
   pub told : IsToldAgain (FailedBy failed fails next) old.clock l.number l.session.stage old.tenants l.session m.session
 
--- the tenants had their own parts of a moment, and nothing was said
-pub record IsTrueMoment (old new : BrokerState) : Type 0 where
-  pub lines : new.lines ≡ old.lines
-  pub passed : HavePassed old.clock ⊤ old.tenants new.tenants
-
--- nothing was said, and no tenant's topics have changed; what stood on a connection may have been taken
-pub record IsSilent (old new : BrokerState) : Type 0 where
-  pub outputs : (k : ℕ) → (output_in (find_line k new.lines) ≡ output_in (find_line k old.lines))
-      ⊎ (output_in (find_line k new.lines) ≡ [])
-  pub topics : (t : ℕ) → (kept_of new t).world ≡ (kept_of old t).world
+-- a refusal was counted for which a connection had been shut: nothing was said
+pub record IsCountedShut (old new : BrokerState) : Type 0 where
+  pub n : ℕ
+  pub s : Session
+  pub here : find_line n old.lines ≡ Some s
+  pub shut : s.shut ≡ true
+  pub counted : IsCountedAt n s.stage old new
 
 abbrev pub IsTrueStep : BrokerState → BrokerState → Type 0
-IsTrueStep old new = IsTrueTurn old new ⊎ (IsTrueLook old new ⊎ (IsTrueMoment old new ⊎ IsSilent old new))
-
--- 2. From one moment to a later one
+IsTrueStep old new = IsTrueTurn old new ⊎ (IsTrueLook old new ⊎ IsCountedShut old new)
 
 abbrev pub LeadTo : BrokerState → List BrokerState → BrokerState → Type 0
 LeadTo old [] new = new ≡ old
 LeadTo old (b ∷ bs) new = IsTrueStep old b × LeadTo b bs new
 
--- by steps in each of which what is said is the truth
+-- by steps in each of which what is said is the truth, while nothing comes
 pub record SpeaksTruth (old new : BrokerState) : Type 0 where
   pub between : List BrokerState
   pub steps : LeadTo old between new
+
+-- 2. Events
+
+-- A piece came on the connection of that number: it stands behind the unread bytes, or where there is no room or no memory for it the
+-- connection was shut. A member of a group that waited on one that it overruns waits no longer.
+pub record IsPiece (n : ℕ) (piece : List ℕ) (old new : BrokerState) : Type 0 where
+  pub l : Line
+  pub m : Line
+  pub number : l.number ≡ n
+  pub one : IsOfOne old new l m
+  pub session : IsDoneOrShut (fed piece l.session) l.session m.session
+  pub tenants : new.tenants ≡ (if overruns piece l.session then left_by old.clock n l.session.stage old.tenants else old.tenants)
+
+-- the tenants had their own parts of a moment, and nothing was said
+pub record IsTrueMoment (old new : BrokerState) : Type 0 where
+  pub is : new ≡ record old { tenants = new.tenants }
+  pub passed : HavePassed old.clock ⊤ old.tenants new.tenants
+
+-- what an event brings, of which nothing is said yet
+abbrev pub Begins : Happening → BrokerState → BrokerState → Type 0
+Begins (Opens n) old new = (new ≡ opened old n) ⊎ IsRefused old new
+Begins (Comes n piece) old new = (IsUntaken n piece old × (new ≡ old)) ⊎ IsPiece n piece old new
+Begins (Closes n) old new = new ≡ closed old n
+Begins (Moment now) old new = IsTrueMoment (moved old now) new
+
+-- an event: first what it brings, and then steps of which each says the truth
+pub record SpeaksAt (e : Happening) (old new : BrokerState) : Type 0 where
+  pub begun : BrokerState
+  pub begins : Begins e old begun
+  pub spoken : SpeaksTruth begun new
+
+-- events, one after another; and in the end what stands on each connection is taken
+abbrev pub SpeaksThrough : List Happening → BrokerState → BrokerState → Type 0
+SpeaksThrough [] old new = new ≡ record old { lines = quieted_lines old.lines }
+SpeaksThrough (e ∷ es) old new = (next : BrokerState) × SpeaksAt e old next × SpeaksThrough es next new

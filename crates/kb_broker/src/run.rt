@@ -12,7 +12,8 @@ ghost use Rattle.kb_isolation_spec.specs.Isolation.{IsIsolated, AreAlike, own_ev
 ghost use Rattle.kb_isolation_spec.specs.Left.{LeavesWorlds};
 ghost use Rattle.kb_isolation_spec.specs.Alone.{HasToItself};
 ghost use Rattle.kb_isolation_spec.specs.Greetings.{greeted_alone};
-ghost use Rattle.kb_broker.specs.Hosts.{is_honest, IsInFiles, IsLater, IsReadyOn, StepsTo};
+ghost use Rattle.kb_broker.specs.Hosts.{is_honest, IsInFiles, IsLaterBy, IsReadyOn, StepsTo};
+ghost use Rattle.kb_broker.specs.Truth.{SpeaksAt, SpeaksThrough};
 ghost use Rattle.kb_broker.specs.Runs.{happening_of, happenings, sent_of, is_opening, connections_of, emptied, IsPassed, Passes};
 
 use crate::broker::Broker;
@@ -81,9 +82,9 @@ impl<S: Store, L: PartitionLog + Drop> Broker<S, L> {
         ensures history { IfOk result (λ written.
             (got : List Sent) × (map sent_of written.items ≡ by_number got)
             × Passes (is_honest S.disk self.new) (happenings events.now) self.old.state self.new.state got) }
-        // Whatever was refused, what is answered with no error is done, unless the store lied (`spoken`): the broker did only steps in each
-        // of which what it said to a tenant's request is the truth.
-        ensures later { IsLater S.disk self.old self.new }
+        // Whatever was refused, what is answered with no error is done, unless the store lied (`spoken`): in each event, in order, the
+        // broker did what the event brings, and then only steps in each of which what it said to a tenant's request is the truth.
+        ensures later { IfOk result (λ written. IsLaterBy S.disk (SpeaksThrough (happenings events.now)) self.old self.new) }
         ensures in_files { IsInFiles L.log S.disk self.new }
         ensures memory { OnErr result (self.new ≡ self.old) }
         ensures held { is_honest S.disk self.new → NoneStranded self.old.state → NoneStranded self.new.state }
@@ -107,7 +108,7 @@ impl<S: Store, L: PartitionLog + Drop> Broker<S, L> {
         requires room { vec_len written.old + length
             (connections_of (happening_of event.now ∷ []) self.old.state) ≤ vec_capacity written.old }
         ensures ready { IsReadyOn S.disk self.new }
-        ensures later { IsLater S.disk self.old self.new }
+        ensures later { IsLaterBy S.disk (SpeaksAt (happening_of event.now)) self.old self.new }
         ensures last { self.new.state.last ≤ last_after (happening_of event.now) self.old.state.last }
         ensures held { is_honest S.disk self.new → NoneStranded self.old.state → NoneStranded self.new.state }
         ensures passed { (ended : List Sent) × (map sent_of written.new.items ≡ map sent_of written.old.items ++ ended)

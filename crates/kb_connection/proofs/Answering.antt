@@ -1,5 +1,5 @@
 -- What a tenant's answer makes of its connection.
-use Rattle.std.proofs.Common.{◌≡◌, ◌<◌, ◌≤◌, ◌⊎◌, inl, inr, ℕ, ℤ, List, [], pos, length, ◌++◌, append-nil, length-append, Bool, true, false, if◌then◌else◌, Option, Some, None, refl, sym, ap}
+use Rattle.std.proofs.Common.{◌≡◌, ◌<◌, ◌≤◌, ◌⊎◌, inl, inr, ℕ, ℤ, List, [], pos, length, ◌++◌, length-append, Bool, true, false, if◌then◌else◌, Option, Some, None, refl, sym, ap}
 use Rattle.std.proofs.Common.{◌∙◌, subst, arith, nat_lt, Result, Ok, Err, OnOk, OnErr, Global}
 use Rattle.std.proofs.lemmas.Bool.Decides.{nat_tests}
 use Rattle.std.specs.declared.vec.Vec.{Vec}
@@ -24,8 +24,8 @@ use Rattle.kb_isolation_spec.specs.Machine.{Line, after_reaction, plainly, told}
 use Rattle.kb_isolation_spec.proofs.Owners.{stage-replied, stage-shut}
 use Rattle.kb_isolation_spec.proofs.RequestLimits.{limit-replied}
 use Rattle.kb_isolation_spec.proofs.Turns.{free-replied, free-without}
-use Rattle.kb_connection.specs.Fronts.{IsAsked, head_at, is_tenants_at}
-use Rattle.kb_connection.specs.TenantAnswers.{body_of, given, given_reply, is_quiet, parked, reply_to, spoken, spoken_reply}
+use Rattle.kb_connection.specs.Fronts.{IsAsked, asked_at, head_at, is_tenants_at}
+use Rattle.kb_connection.specs.TenantAnswers.{answered, answered_again, body_of, given, given_reply, is_quiet, parked}
 use Rattle.kb_connection.specs.View.{with_session, without_front}
 use Rattle.kb_connection.specs.declared.stage.FetchWait.{FetchWait}
 use Rattle.kb_connection.proofs.Fronts.{fewer-behind, head_asked}
@@ -72,21 +72,6 @@ long_is head body s h =
     rw long refl
 
 -- what a reply leaves of the connection
-output_replied : (head : Head) (body : List ℕ) (s : Session) → (replied head body s).output ≡ s.output ++ reply_to head body
-unfolding replied
-output_replied head body s = by (nat_lt 2147483647 (reply_size (throttled head body))) (framed head.correlation_id (throttled head body))
-  where
-    by : (t : Bool) (bytes : List ℕ) → (let x : Session = if t then shut_down (unanswerable head) s else record s { output = s.output ++ bytes } in x).output ≡ s.output ++ (if t then [] else bytes)
-    by true bytes = sym (append-nil s.output)
-    by false bytes = refl
-
-output_given : (head : Head) (reply : List ℕ) (s : Session) → (given_reply head reply s).output ≡ s.output ++ spoken_reply head reply
-output_given head reply s = by head.is_throttled
-  where
-    by : (t : Bool) → (let x : Session = if t then replied head (body_of reply) s else record s { output = s.output ++ reply } in x).output ≡ s.output ++ (if t then reply_to head (body_of reply) else reply)
-    by true = output_replied head (body_of reply) s
-    by false = refl
-
 unread_reply : (head : Head) (reply : List ℕ) (s : Session) → length (given_reply head reply s).unread ≤ length s.unread
 unread_reply head reply s = by head.is_throttled
   where
@@ -236,63 +221,89 @@ tells (Ok u) l m new tenant wait head reaction answer no_reply left awaits done 
     ∙ ap (with_session l) (told_is wait.head reaction answer l.session no_reply h)
 tells (Err fault) l m new tenant wait head reaction answer no_reply left awaits done waits h = tt
 
--- 6. What is put out
+-- 6. Whatever the answer is
 
--- nothing that an answer says is lost, and nothing else is put out
-spoken_is : (head : Head) (answer : Answer) (s : Session) → (given head answer s).output ≡ s.output ++ spoken head (any.Plain answer)
-spoken_is head (answers.Reply reply) s = output_given head reply.items s
-spoken_is head (answers.Wait deadline limit keys) s = sym (append-nil s.output)
-spoken_is head answers.NoReply s = sym (append-nil s.output)
-spoken_is head answers.Shut s = sym (append-nil s.output)
+-- to a request that stands in front, but for a wait
+abbrev PutsOut : {E : Type 0} → Head → Result (Unit {0}) E → Line → Line → ℤ → List ℕ → AnyAnswer → Type 0
+PutsOut head result l new version body answer = OnOk result (new ≡ with_session l (answered head version body answer (without_front l.session)))
 
--- what the answer says stands behind the output that a connection had
-abbrev PutsOut : {E : Type 0} → Head → Result (Unit {0}) E → Line → Line → AnyAnswer → Type 0
-PutsOut head result l new answer = OnOk result (new.session.output ≡ l.session.output ++ spoken head answer)
+given_answered : (head : Head) (version : ℤ) (body : List ℕ) (answer : Answer) (s : Session) → IsNoWait answer → given head answer s ≡ answered head version body (any.Plain answer) s
+given_answered head version body (answers.Reply reply) s no_wait = refl
+given_answered head version body (answers.Wait deadline limit keys) s no_wait = absurd (no_wait deadline limit keys refl)
+given_answered head version body answers.NoReply s no_wait = refl
+given_answered head version body answers.Shut s no_wait = refl
 
-puts : {E : Type 0} (result : Result (Unit {0}) E) (l m new : Line) (head : Head) (answer : Answer) → m.session.output ≡ l.session.output
-    → OnOk result (new ≡ with_session m (given head answer m.session)) → PutsOut head result l new (any.Plain answer)
-puts (Ok u) l m new head answer same done =
-    ap (λ (x : Line). x.session.output) done ∙ spoken_is head answer m.session ∙ ap (λ bytes. bytes ++ spoken head (any.Plain answer)) same
-puts (Err fault) l m new head answer same done = tt
+puts : {E : Type 0} (result : Result (Unit {0}) E) (l m new : Line) (head : Head) (version : ℤ) (body : List ℕ) (answer : Answer) → IsNoWait answer → m ≡ with_session l (without_front l.session)
+    → OnOk result (new ≡ with_session m (given head answer m.session)) → PutsOut head result l new version body (any.Plain answer)
+puts (Ok u) l m new head version body answer no_wait left done =
+    done ∙ ap (λ (x : Line). with_session x (given head answer x.session)) left
+    ∙ ap (with_session l) (given_answered head version body answer (without_front l.session) no_wait)
+puts (Err fault) l m new head version body answer no_wait left done = tt
 
 pub puts_given : {E : Type 0} (setup : Setup) (result : Result (Unit {0}) E) (l m new : Line) (key version : ℤ) (head first : Head) (body : List ℕ) (all : AnyAnswer) (answer : Answer)
-    → all ≡ any.Plain answer → m ≡ with_session l (without_front l.session)
+    → all ≡ any.Plain answer → IsNoWait answer → m ≡ with_session l (without_front l.session)
     → ((versions : List ApiVersion) → first ≡ head_at versions (in_front l.session))
     → OnOk result (new ≡ with_session m (given first answer m.session)) → IsAsked setup l.session key version head body
-    → OnOk result (new.session.output ≡ l.session.output ++ spoken head all)
-puts_given setup result l m new key version head first body all answer is left stands done asks =
-    subst (λ (x : Head). PutsOut x result l new all) (stands setup.versions ∙ head_asked setup l.session key version head body asks)
-    (subst (PutsOut first result l new) (sym is) (puts result l m new first answer (ap (λ (x : Line). x.session.output) left) done))
+    → OnOk result (new ≡ with_session l (answered head version body all (without_front l.session)))
+puts_given setup result l m new key version head first body all answer is no_wait left stands done asks =
+    subst (λ (x : Head). PutsOut x result l new version body all) (stands setup.versions ∙ head_asked setup l.session key version head body asks)
+    (subst (PutsOut first result l new version body) (sym is) (puts result l m new first version body answer no_wait left done))
 
-output_parked : (fetch : Option FetchWait) (asked : Option (Head × ℤ × ℤ × List ℕ)) (s : Session) → (parked fetch asked s).output ≡ s.output
-output_parked fetch None s = refl
-output_parked fetch (Some a) s = refl
+-- and where it is to wait for records, or for its group
+parked_asked : {E : Type 0} (result : Result (Unit {0}) E) (l new : Line) (fetch : Option FetchWait) (asked : Option (Head × ℤ × ℤ × List ℕ)) (key version : ℤ) (head : Head) (body : List ℕ)
+    → asked ≡ Some (head, key, version, body) → OnOk result (new ≡ with_session l (parked fetch asked (without_front l.session)))
+    → OnOk result (new ≡ with_session l (parked fetch (Some (head, key, version, body)) (without_front l.session)))
+parked_asked (Ok u) l new fetch asked key version head body is done = done ∙ ap (λ x. with_session l (parked fetch x (without_front l.session))) is
+parked_asked (Err fault) l new fetch asked key version head body is done = tt
 
-pub puts_parked : {E : Type 0} (result : Result (Unit {0}) E) (l new : Line) (fetch : Option FetchWait)
-    (asked : Option (Head × ℤ × ℤ × List ℕ)) (head : Head) (all : AnyAnswer) → spoken head all ≡ []
-    → OnOk result (new ≡ with_session l (parked fetch asked (without_front l.session)))
-    → OnOk result (new.session.output ≡ l.session.output ++ spoken head all)
-puts_parked (Ok u) l new fetch asked head all silent done =
-    ap (λ (x : Line). x.session.output) done ∙ output_parked fetch asked (without_front l.session)
-    ∙ sym (append-nil l.session.output) ∙ ap (λ bytes. l.session.output ++ bytes) (sym silent)
-puts_parked (Err fault) l new fetch asked head all silent done = tt
+pub puts_records : {E : Type 0} (setup : Setup) (result : Result (Unit {0}) E) (l new : Line) (key version : ℤ) (head : Head) (body : List ℕ) (deadline : ℕ) (limit : Option ℕ) (keys : Vec TopicPartition Global) (all : AnyAnswer)
+    → all ≡ any.Plain (answers.Wait deadline limit keys)
+    → OnOk result (new ≡ with_session l (parked (Some (record { deadline = deadline; limit = limit })) (asked_at setup.versions (in_front l.session)) (without_front l.session)))
+    → IsAsked setup l.session key version head body → OnOk result (new ≡ with_session l (answered head version body all (without_front l.session)))
+puts_records setup result l new key version head body deadline limit keys all is done asks =
+    subst (PutsOut head result l new version body) (sym is)
+    (parked_asked result l new (Some (record { deadline = deadline; limit = limit })) (asked_at setup.versions (in_front l.session)) key version head body asks.asked done)
+
+pub puts_group : {E : Type 0} (setup : Setup) (result : Result (Unit {0}) E) (l new : Line) (key version : ℤ) (head : Head) (body : List ℕ) (all : AnyAnswer) → all ≡ any.Rebalance
+    → OnOk result (new ≡ with_session l (parked None (asked_at setup.versions (in_front l.session)) (without_front l.session)))
+    → IsAsked setup l.session key version head body → OnOk result (new ≡ with_session l (answered head version body all (without_front l.session)))
+puts_group setup result l new key version head body all is done asks =
+    subst (PutsOut head result l new version body) (sym is)
+    (parked_asked result l new None (asked_at setup.versions (in_front l.session)) key version head body asks.asked done)
 
 -- to a request that waits: a reply, which ends the wait
-pub puts_ending : {E : Type 0} (result : Result (Unit {0}) E) (l m new : Line) (tenant : ℕ) (wait : Wait) (head : Head) (answer : Answer)
+again_reply : (head : Head) (answer : Answer) (reply : Vec ℕ Global) (s : Session) → answer ≡ answers.Reply reply → given head answer (record s { stage = without_wait s.stage }) ≡ answered_again head answer s
+again_reply head answer reply s is =
+    let Is : Answer → Type 0 = λ a. given head a (record s { stage = without_wait s.stage }) ≡ answered_again head a s in
+    subst Is (sym is) refl
+
+pub puts_ending : {E : Type 0} (result : Result (Unit {0}) E) (l m new : Line) (tenant : ℕ) (wait : Wait) (head : Head) (answer : Answer) (reply : Vec ℕ Global) → answer ≡ answers.Reply reply
     → m ≡ with_session l (record l.session { stage = without_wait l.session.stage })
     → ((t : ℕ) (w : Wait) → l.session.stage ≡ BoundTo t (Some w) → head ≡ w.head)
     → OnOk result (new ≡ with_session m (given head answer m.session)) → l.session.stage ≡ BoundTo tenant (Some wait)
-    → OnOk result (new.session.output ≡ l.session.output ++ spoken wait.head (any.Plain answer))
-puts_ending result l m new tenant wait head answer left awaits done waits =
-    subst (λ (x : Head). PutsOut x result l new (any.Plain answer)) (awaits tenant wait waits) (puts result l m new head answer (ap (λ (x : Line). x.session.output) left) done)
+    → OnOk result (new ≡ with_session l (answered_again wait.head answer l.session))
+puts_ending (Ok u) l m new tenant wait head answer reply is left awaits done waits =
+    done ∙ ap (λ (x : Line). with_session x (given head answer x.session)) left
+    ∙ ap (λ (x : Head). with_session l (given x answer (record l.session { stage = without_wait l.session.stage }))) (awaits tenant wait waits)
+    ∙ ap (with_session l) (again_reply wait.head answer reply l.session is)
+puts_ending (Err fault) l m new tenant wait head answer reply is left awaits done waits = tt
 
 -- and any other answer
-pub puts_told : {E : Type 0} (result : Result (Unit {0}) E) (l m new : Line) (tenant : ℕ) (wait : Wait) (head : Head) (answer : Answer) → m ≡ l
+again_other : (head : Head) (answer : Answer) (s : Session) → IsNoReply answer → given head answer s ≡ answered_again head answer s
+again_other head (answers.Reply reply) s no_reply = absurd (no_reply reply refl)
+again_other head (answers.Wait deadline limit keys) s no_reply = refl
+again_other head answers.NoReply s no_reply = refl
+again_other head answers.Shut s no_reply = refl
+
+pub puts_told : {E : Type 0} (result : Result (Unit {0}) E) (l m new : Line) (tenant : ℕ) (wait : Wait) (head : Head) (answer : Answer) → IsNoReply answer → m ≡ l
     → ((t : ℕ) (w : Wait) → l.session.stage ≡ BoundTo t (Some w) → head ≡ w.head)
     → OnOk result (new ≡ with_session m (given head answer m.session)) → l.session.stage ≡ BoundTo tenant (Some wait)
-    → OnOk result (new.session.output ≡ l.session.output ++ spoken wait.head (any.Plain answer))
-puts_told result l m new tenant wait head answer left awaits done waits =
-    subst (λ (x : Head). PutsOut x result l new (any.Plain answer)) (awaits tenant wait waits) (puts result l m new head answer (ap (λ (x : Line). x.session.output) left) done)
+    → OnOk result (new ≡ with_session l (answered_again wait.head answer l.session))
+puts_told (Ok u) l m new tenant wait head answer no_reply left awaits done waits =
+    done ∙ ap (λ (x : Line). with_session x (given head answer x.session)) left
+    ∙ ap (λ (x : Head). with_session l (given x answer l.session)) (awaits tenant wait waits)
+    ∙ ap (with_session l) (again_other wait.head answer l.session no_reply)
+puts_told (Err fault) l m new tenant wait head answer no_reply left awaits done waits = tt
 
 -- 7. What is left of the stage
 

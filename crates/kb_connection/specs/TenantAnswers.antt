@@ -1,13 +1,12 @@
 -- What a tenant's answer does to a connection.
-use Rattle.std.specs.Prelude.{ℕ, ℤ, List, [], ◌++◌, drop, nat_lt, if◌then◌else◌, Bool, true, false, Option, Some, None}
+use Rattle.std.specs.Prelude.{ℕ, ℤ, List, ◌++◌, drop, if◌then◌else◌, Bool, true, false, Option, Some, None}
 use Rattle.kb_tenant.specs.declared.answer.Answer.{Answer}
 use Rattle.kb_tenant.specs.declared.answer.Answer.TheVariants as answers
 use Rattle.kb_tenant_api.specs.declared.answer.Answer.{Answer as AnyAnswer}
 use Rattle.kb_tenant_api.specs.declared.answer.Answer.TheVariants as any
 use Rattle.kb_isolation_spec.specs.Tenant.{Awaited, Records, Group, Wait}
 use Rattle.kb_isolation_spec.specs.declared.head.Head.{Head}
-use Rattle.kb_tenant.specs.Replies.{framed, reply_size}
-use Rattle.kb_isolation_spec.specs.Session.{Session, shut_down, replied, throttled, unanswerable, waiting}
+use Rattle.kb_isolation_spec.specs.Session.{Session, shut_down, replied, unanswerable, waiting, without_wait}
 use Rattle.kb_connection.specs.declared.stage.FetchWait.{FetchWait}
 
 -- the body of a whole reply: what stands behind its size and its correlation id
@@ -24,23 +23,6 @@ given head (answers.Reply reply) s = given_reply head reply.items s
 given head (answers.Wait deadline limit keys) s = s
 given head answers.NoReply s = s
 given head answers.Shut s = shut_down (unanswerable head) s
-
--- the bytes of a reply with that body: none where its size does not fit an INT32
-abbrev pub reply_to : Head → List ℕ → List ℕ
-reply_to head body =
-    if nat_lt 2147483647 (reply_size (throttled head body)) then [] else framed head.correlation_id (throttled head body)
-
--- the bytes that a tenant's whole reply puts out
-abbrev pub spoken_reply : Head → List ℕ → List ℕ
-spoken_reply head reply = if head.is_throttled then reply_to head (body_of reply) else reply
-
--- the bytes that an answer to the request of that head puts out
-abbrev pub spoken : Head → AnyAnswer → List ℕ
-spoken head (any.Plain (answers.Reply reply)) = spoken_reply head reply.items
-spoken head (any.Plain (answers.Wait deadline limit keys)) = []
-spoken head (any.Plain answers.NoReply) = []
-spoken head (any.Plain answers.Shut) = []
-spoken head any.Rebalance = []
 
 -- it says nothing to a fetch that waits
 abbrev pub is_quiet : Answer → Bool
@@ -70,3 +52,19 @@ wait_for fetch asked = record { head = asked.0; awaited = awaited_by fetch asked
 abbrev pub parked : Option FetchWait → Option (Head × ℤ × ℤ × List ℕ) → Session → Session
 parked fetch None s = s
 parked fetch (Some asked) s = record s { stage = waiting (wait_for fetch asked) s.stage }
+
+-- the answer to a request of that head, version and body, which stood in front; s is the connection without the request
+abbrev pub answered : Head → ℤ → List ℕ → AnyAnswer → Session → Session
+answered head version body (any.Plain (answers.Reply reply)) s = given_reply head reply.items s
+answered head version body (any.Plain (answers.Wait deadline limit keys)) s =
+    record s { stage = waiting (record { head = head; awaited = Records version body deadline limit }) s.stage }
+answered head version body (any.Plain answers.NoReply) s = s
+answered head version body (any.Plain answers.Shut) s = shut_down (unanswerable head) s
+answered head version body any.Rebalance s = record s { stage = waiting (record { head = head; awaited = Group }) s.stage }
+
+-- the answer to the request of that head that waits on the connection: a reply ends the wait
+abbrev pub answered_again : Head → Answer → Session → Session
+answered_again head (answers.Reply reply) s = given_reply head reply.items (record s { stage = without_wait s.stage })
+answered_again head (answers.Wait deadline limit keys) s = s
+answered_again head answers.NoReply s = s
+answered_again head answers.Shut s = shut_down (unanswerable head) s

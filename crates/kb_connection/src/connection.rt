@@ -1,6 +1,6 @@
 //! One connection: its unread bytes, its untaken output, and how far it is.
 
-ghost use Rattle.std.specs.Prelude.{◌≡◌, ◌<◌, ◌≤◌, ◌^◌, ◌++◌, ℕ, ℤ, List, length, true, false, option_map, IfOk, IfSome, IfNone, OnOk};
+ghost use Rattle.std.specs.Prelude.{◌≡◌, ◌<◌, ◌≤◌, ◌^◌, ℕ, ℤ, List, length, true, false, option_map, IfOk, IfSome, IfNone, OnOk};
 ghost use Rattle.std.specs.Prelude.{OnErr, ◌⊎◌};
 ghost use Rattle.std.specs.Option.{is_some};
 ghost use Rattle.kb_tenant_api.specs.Hosted.{Kept};
@@ -15,8 +15,7 @@ ghost use Rattle.kb_isolation_spec.specs.Session.{has_member, is_free, can};
 ghost use Rattle.kb_isolation_spec.specs.Greeting.{Setup, bound, failed, for_tenant, greeted};
 ghost use Rattle.kb_isolation_spec.specs.Machine.{after_reaction, after_turn, told};
 ghost use Rattle.kb_isolation_spec.specs.Calls.{without_output};
-ghost use Rattle.kb_tenant_api.specs.declared.answer.Answer.TheVariants as any;
-ghost use Rattle.kb_connection.specs.TenantAnswers.{given, given_reply, is_quiet, is_wait, wait_for, parked, spoken};
+ghost use Rattle.kb_connection.specs.TenantAnswers.{answered, answered_again, given, given_reply, is_quiet, is_wait, wait_for, parked};
 ghost use Rattle.kb_connection.specs.Fronts.{IsOwn, IsAsked, is_tenants_at, asked_at, head_at};
 ghost use Rattle.kb_connection.specs.View.{greeting_of, speaks, stage_of, wait_of, with_session, without_front, IsLimited};
 ghost use Rattle.kb_connection.specs.Reactions.{reacted, IfReacts};
@@ -316,15 +315,15 @@ impl Connection {
 
     /// Leaves the tenant's request in front behind, and gives the tenant's answer to it. Where the answer is to wait, what it
     /// takes to answer the request is kept until `wake` ends the wait. Where memory is refused it is shut.
-    #[tactic(auto, using(crate::proofs::Answering::gives, crate::proofs::Answering::less_given, crate::proofs::Answering::less_parked, crate::proofs::Answering::free_given, crate::proofs::Answering::puts_given, crate::proofs::Answering::puts_parked, crate::proofs::Answering::same_limit_parked, crate::proofs::Answering::stage_kept))]
+    #[tactic(auto, using(crate::proofs::Answering::gives, crate::proofs::Answering::less_given, crate::proofs::Answering::less_parked, crate::proofs::Answering::free_given, crate::proofs::Answering::puts_given, crate::proofs::Answering::puts_records, crate::proofs::Answering::puts_group, crate::proofs::Answering::same_limit_parked, crate::proofs::Answering::stage_kept))]
     pub fn answer(&mut self, alloc: Global, setup: &Setup, answer: Answer) -> Result<(), AllocError>
         ensures ok { (key version : ℤ) (head : Head) (body : List ℕ) (reaction : Reacts)
             → IsAsked setup.now self.old.session key version head body → IsAnswer head.correlation_id reaction answer → OnOk result
             (self.new ≡ with_session self.old (after_reaction reaction head version body (without_front self.old.session))) }
         ensures err { OnErr result (self.new ≡ with_session self.old (shut_down causes.Memory self.old.session)) }
         // whatever the answer is, also where a refusal spoiled it
-        ensures output { (key version : ℤ) (head : Head) (body : List ℕ) → IsAsked setup.now self.old.session key version head body
-            → OnOk result (self.new.session.output ≡ self.old.session.output ++ spoken head answer) }
+        ensures answered { (key version : ℤ) (head : Head) (body : List ℕ) → IsAsked setup.now self.old.session key version head body
+            → OnOk result (self.new ≡ with_session self.old (answered head version body answer (without_front self.old.session))) }
         ensures number { self.new.number ≡ self.old.number }
         ensures stage { without_wait self.new.session.stage ≡ without_wait self.old.session.stage }
         ensures limit { self.new.session.limit ≡ self.old.session.limit }
@@ -358,8 +357,8 @@ impl Connection {
             → OnOk result (self.new ≡ with_session self.old (told reaction wait.head self.old.session)) }
         ensures err { OnErr result (self.new ≡ with_session self.old (shut_down causes.Memory self.old.session)) }
         // whatever the answer is, also where a refusal spoiled it
-        ensures output { (t : ℕ) (wait : Wait) → self.old.session.stage ≡ BoundTo t (Some wait)
-            → OnOk result (self.new.session.output ≡ self.old.session.output ++ spoken wait.head (any.Plain answer)) }
+        ensures answered { (t : ℕ) (wait : Wait) → self.old.session.stage ≡ BoundTo t (Some wait)
+            → OnOk result (self.new ≡ with_session self.old (answered_again wait.head answer self.old.session)) }
         ensures number { self.new.number ≡ self.old.number }
         ensures stage { without_wait self.new.session.stage ≡ without_wait self.old.session.stage }
         ensures limit { self.new.session.limit ≡ self.old.session.limit }

@@ -4,7 +4,7 @@ ghost use Rattle.std.specs.Prelude.{IfSome, IfNone, true, false, Some, None};
 ghost use Rattle.std.specs.Bool.{OnTrue};
 ghost use Rattle.std.specs.List.{position};
 ghost use Rattle.kb_isolation_spec.specs.Session.{can};
-ghost use Rattle.kb_isolation_spec.specs.Machine.{Line, first_able, work};
+ghost use Rattle.kb_isolation_spec.specs.Machine.{Comes, Line, first_able, work};
 ghost use Rattle.kb_isolation_spec.specs.Broker.{BrokerState, AreUnready, AnyWait, InRange, IsSound, Rising};
 ghost use Rattle.kb_isolation_spec.specs.Calls.{left_by, taken};
 ghost use Rattle.kb_isolation_spec.specs.declared.whom.Whom.TheVariants as whoms;
@@ -13,8 +13,8 @@ ghost use Rattle.kb_isolation_spec.specs.Machine.{find_line};
 ghost use Rattle.kb_isolation_spec.specs.Owners.{whose};
 ghost use Rattle.kb_connection.specs.View.{stage_of};
 ghost use Rattle.kb_tenant_api.specs.Turns.{HavePassed};
-ghost use Rattle.kb_broker.specs.Hosts.{is_honest, IsLater, NoneReady};
-ghost use Rattle.kb_broker.specs.Truth.{IsSilent};
+ghost use Rattle.kb_broker.specs.Hosts.{is_honest, IsLater, IsLaterBy, NoneReady};
+ghost use Rattle.kb_broker.specs.Truth.{IsTrueMoment, SpeaksAt};
 ghost use Rattle.kb_broker.specs.Places.{numbers, number_at, any_waits, AreIdle, IsNext, IsScoped, IsCountedAt, AreWaked};
 ghost use Rattle.kb_broker.specs.Places.{IsOneMore, Leaves};
 ghost use Rattle.kb_broker.specs.Parked.{can_in, AreAmong, AreMinded, AreWaitingOn, IsAllOf, IsConfined, IsReadyAmong, IsLeftTo, IsOwnTo};
@@ -41,7 +41,7 @@ impl<L: PartitionLog + Drop, S: Store> Engine<L, S> {
         requires settled { first_able self.old.state.lines ≡ None }
         requires within { i < length self.old.state.lines }
         ensures fed { IsFed (number_at i self.old.state) piece.now self.old.state self.new.state }
-        ensures silent { IsSilent self.old.state self.new.state }
+        ensures spoken { SpeaksAt (Comes (number_at i self.old.state) piece.now) self.old.state self.new.state }
         ensures store { self.new.store ≡ self.old.store }
         ensures strays { self.new.strays ≡ self.old.strays }
         ensures by_store { self.new.by_store ≡ self.old.by_store }
@@ -287,7 +287,7 @@ impl<L: PartitionLog + Drop, S: Store> Engine<L, S> {
         requires waiting { is_honest S.disk self.old → AreWaitingOn self.old.state }
         ensures passed { HavePassed self.old.state.clock (is_honest S.disk self.new) self.old.state.tenants self.new.state.tenants }
         ensures only_tenants { self.new.state ≡ record self.old.state { tenants = self.new.state.tenants } }
-        ensures later { IsLater S.disk self.old self.new }
+        ensures later { IsLaterBy S.disk IsTrueMoment self.old self.new }
         ensures leaves { is_honest S.disk self.new → Leaves result self.old.state.tenants self.new.state.tenants }
     {
         let answered = self.tenants.pass(alloc, self.clock);

@@ -1,4 +1,4 @@
-use Rattle.std.proofs.Common.{◌≡◌, inl, rules, subst, sym, ◌∙◌, true}
+use Rattle.std.proofs.Common.{◌≡◌, rules, subst, sym, ◌∙◌, true}
 use Rattle.kb_tenants.specs.Tenants.{numbers_in, shelf_is_honest}
 use Rattle.kb_tenant_api.specs.Turns.{IsTurn, IsMet}
 use Rattle.kb_tenant.specs.Replies as plain
@@ -8,11 +8,11 @@ use Rattle.kb_isolation_spec.specs.Tenant.{ready}
 use Rattle.kb_connection.specs.View.{wait_of}
 use Rattle.kb_broker.specs.Hosts.{tenants_in, IsLaterWith}
 use Rattle.kb_broker.specs.Places.{IsLookAnswer, TellsAwaited}
-use Rattle.kb_tenant_api.specs.declared.answer.Answer.TheVariants as any
 use Rattle.kb_broker.proofs.Handled.{from_err, from_ok}
 use Rattle.kb_broker.proofs.Honest.{later-by, later-counted, later-none}
 use Rattle.kb_broker.proofs.TenantTurns.{looked-ok, looked-err}
-use Rattle.kb_broker.proofs.PutOut.{again-told, member-answered, put-shut}
+use Rattle.kb_connection.specs.TenantAnswers.{answered_again}
+use Rattle.kb_broker.proofs.PutOut.{again-told, member-answered, put-done, put-shut}
 use Rattle.kb_tenants.specs.Counts.{store_counts}
 use Rattle.kb_tenants.proofs.Passed.{length_named}
 use Rattle.kb_tenants.proofs.Shares.{shares_kept}
@@ -76,7 +76,8 @@ returns-else-is_err-clause-told g c = λ honest.
     let answers = subst (λ k. IsLookAnswer t a.clock k ts us w answer) c.number-number.ensures (asked.answers honest) in
     again-told failed a.clock n t ts a.connection.now.session.stage w a.connection.now.session c.wake.new.self.session answer
     c.in-Some.ensures.some (asked.told honest) (member-answered a.clock n t ts us w answer answers)
-    (inl (from_ok c.wake.result c.is_err.result _ c.is_err.ensures.value c.if-is_err.false (c.wake.ensures.output t w c.in-Some.ensures.some)))
+    (put-done (answered_again w.head answer a.connection.now.session) a.connection.now c.wake.new.self
+    (from_ok c.wake.result c.is_err.result _ c.is_err.ensures.value c.if-is_err.false (c.wake.ensures.answered t w c.in-Some.ensures.some)))
 
 pub returns-then-is_err-clause-told : goal.returns-then-is_err-clause-told
 returns-then-is_err-clause-told g c = λ honest.
@@ -101,7 +102,7 @@ returns-then-is_err-clause-told g c = λ honest.
     c.in-Some.ensures.some
     (subst (λ shelf. Tells (FailedBy before (disk shelf.store).failures shelf.next)) (sym c.refuse.ensures.shelf)
     (asked.told honest_before))
-    (member-answered a.clock n t ts us w answer answers) (put-shut w.head (any.Plain answer) a.connection.now c.wake.new.self shut)
+    (member-answered a.clock n t ts us w answer answers) (put-shut (answered_again w.head answer a.connection.now.session) a.connection.now c.wake.new.self shut)
 
 pub returns-in_default-clause-later : goal.returns-in_default-clause-later
 returns-in_default-clause-later g c = later-none (g.S.Store.disk c.args.tenants.now.shelf.store) (numbers_in c.args.tenants.now.strays) (tenants_in g.L.PartitionLog.log g.S.Store.disk c.args.tenants.now) (store_counts c.args.tenants.now)

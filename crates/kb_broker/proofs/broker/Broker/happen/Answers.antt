@@ -5,7 +5,8 @@ use Rattle.kb_isolation_spec.specs.declared.shut.Shut.TheVariants as causes
 use Rattle.kb_isolation_spec.specs.Machine.{Sent, Comes}
 use Rattle.kb_isolation_spec.specs.Broker.{IsStep}
 use Rattle.kb_isolation_spec.specs.Calls.{IsRefused, opened}
-use Rattle.kb_broker.specs.Hosts.{is_honest, StepsTo}
+use Rattle.kb_broker.specs.Hosts.{is_honest, IsLaterBy, StepsTo}
+use Rattle.kb_broker.specs.Truth.{SpeaksAt}
 use Rattle.kb_broker.specs.Runs.{sent_of, unkept}
 use Rattle.kb_broker.specs.declared.run.Written.{Written}
 use Rattle.kb_broker.proofs.Happened.{connected-later, disconnected-later, disconnected-ready}
@@ -41,10 +42,20 @@ pub returns-in-Close-clause-ready : goal.returns-in-Close-clause-ready
 returns-in-Close-clause-ready g c = disconnected-ready g.S.Store.disk c.args.self.now c.close.new.self c.in-Close.number c.requires.ready c.close.ensures.state
 
 pub returns-then-is_err-clause-later : goal.returns-then-is_err-clause-later
-returns-then-is_err-clause-later g c = connected-later g.S.Store.disk c.connect.result c.args.self.now c.connect.new.self c.in-Open.number c.connect.ensures.store c.connect.ensures.strays c.connect.ensures.by_store c.connect.ensures.ok c.connect.ensures.err
+returns-then-is_err-clause-later g c = rw c.in-Open.is (connected-later g.S.Store.disk c.connect.result c.args.self.now c.connect.new.self c.in-Open.number c.connect.ensures.store c.connect.ensures.strays c.connect.ensures.by_store c.connect.ensures.ok c.connect.ensures.err)
 
 pub returns-else-is_err-clause-later : goal.returns-else-is_err-clause-later
-returns-else-is_err-clause-later g c = connected-later g.S.Store.disk c.connect.result c.args.self.now c.connect.new.self c.in-Open.number c.connect.ensures.store c.connect.ensures.strays c.connect.ensures.by_store c.connect.ensures.ok c.connect.ensures.err
+returns-else-is_err-clause-later g c = rw c.in-Open.is (connected-later g.S.Store.disk c.connect.result c.args.self.now c.connect.new.self c.in-Open.number c.connect.ensures.store c.connect.ensures.strays c.connect.ensures.by_store c.connect.ensures.ok c.connect.ensures.err)
 
 pub returns-in-Close-clause-later : goal.returns-in-Close-clause-later
-returns-in-Close-clause-later g c = disconnected-later g.S.Store.disk c.args.self.now c.close.new.self c.in-Close.number c.close.ensures.state
+returns-in-Close-clause-later g c = rw c.in-Close.is (disconnected-later g.S.Store.disk c.args.self.now c.close.new.self c.in-Close.number c.close.ensures.state)
+
+pub returns-in-In-clause-later : goal.returns-in-In-clause-later
+returns-in-In-clause-later g c =
+    let n = c.in-In.number in
+    let later : IsLaterBy g.S.Store.disk (SpeaksAt (Comes n c.in-In.piece.items)) c.args.self.now c.input.new.self =
+    subst (λ p. IsLaterBy g.S.Store.disk (SpeaksAt (Comes n p)) c.args.self.now c.input.new.self) c.deref.ensures.value c.input.ensures.later in
+    rw c.in-In.is later
+
+pub returns-in-At-clause-later : goal.returns-in-At-clause-later
+returns-in-At-clause-later g c = rw c.in-At.is c.moment.ensures.later

@@ -14,13 +14,12 @@ use Rattle.kb_isolation_spec.proofs.Owned.{owned-mine, run-after, run-first, uno
 use Rattle.kb_isolation_spec.specs.Stranded.{NoneStranded}
 use Rattle.kb_isolation_spec.proofs.Stranded.{stranded-emptied}
 use Rattle.kb_broker.specs.declared.run.Written.{Written}
-use Rattle.kb_broker.specs.Hosts.{is_honest, IsLater}
-use Rattle.kb_broker.specs.Truth.{IsSilent}
+use Rattle.kb_broker.specs.Hosts.{is_honest, IsLaterBy}
+use Rattle.kb_broker.specs.Truth.{SpeaksAt, SpeaksThrough}
 use Rattle.kb_broker.specs.Runs.{happening_of, happenings, sent_of, connections_of, Passes}
-use Rattle.kb_broker.proofs.Honest.{by_store-is, later-same, later-then, later-is, ready-of, state-is, store-is, strays-is}
+use Rattle.kb_broker.proofs.Honest.{by_store-is, later-after, later-is, ready-of, state-is, store-is, strays-is}
 use Rattle.kb_isolation_spec.proofs.Greetings.{unowned-greets}
 use Rattle.kb_broker.proofs.RunLast.{told-passes}
-use Rattle.kb_broker.proofs.Truth.{silent_emptied}
 use Rattle.kb_broker.proofs.RunHistory.{happenings-next, length-connections, connections-first, room-leads, grows-passes, run-passes, numbers-passes, rising-connections, continues-next}
 use Rattle.kb_broker.proofs.RunOrder.{IsOrdered, ordered, up-sorted, AreUp, numbered}
 use Rattle.kb_broker.proofs.broker.Broker.run.Given as given
@@ -34,7 +33,8 @@ loop-event-init g c =
     let sum = subst (λ o. SomeIff o (length c.connections-open.result.now + c.openings.result < 2 ^ 64) (length c.connections-open.result.now + c.openings.result)) c.in_ok-room.ensures.ok_part c.checked_add.ensures in
     record {
       ready = c.connections-open.ensures.ready;
-      later = later-same g.S.Store.disk c.args.self.now;
+      honest = λ h. h;
+      later = λ end h. h;
       held = λ honest held. held;
       rises = c.requires;
       room = omega (arith, lines, sum, c.openings.ensures, length-connections es b, c.in_ok-written.ensures.len, c.in_ok-written.ensures.capacity);
@@ -85,7 +85,9 @@ loop-event-preserved g c =
     sym (length-map vs.items sent_of) ∙ (ap length added ∙ (length-append (map sent_of ws.items) ended ∙ ap (λ n. n + length ended) (length-map ws.items sent_of))) in
     record {
       ready = c.happen.ensures.ready;
-      later = later-then disk c.args.self.now before after v.later c.happen.ensures.later;
+      honest = λ h. v.honest (c.happen.ensures.later.honest h);
+      later = rw add-one (λ end h. v.later end (subst (λ es. IsLaterBy disk (SpeaksThrough es) before end) (sym next)
+          (later-after disk (SpeaksAt e) (SpeaksThrough hs) (SpeaksThrough (e ∷ hs)) before after end c.happen.ensures.later h (λ first then. (after.state, first, then)))));
       held = λ honest held. c.happen.ensures.held honest (v.held (c.happen.ensures.later.honest honest) held);
       rises = rw add-one (run-after d.last b.last e hs c.happen.ensures.last (rw next at v.rises));
       room = rw add-one (omega (arith, v.room, ap (λ es. length (connections_of es b)) next, room-leads e hs b d ended passed.leads, longer, ws.ok.0, vs.ok.0, c.happen.ensures.capacity));
@@ -93,9 +95,9 @@ loop-event-preserved g c =
     }
 
 -- the last output is taken of the store as it is
-drained-later : (g : given.Over) (c : goal.After-sort_unstable_by_key g) → IsLater g.S.Store.disk c.loop-event.self c.drain.new.self
-drained-later g c = later-is g.S.Store.disk c.loop-event.self c.drain.new.self (store-is _ _ c.drain.ensures.state) (strays-is _ _ c.drain.ensures.state) (by_store-is _ _ c.drain.ensures.state) (ap (λ (x : BrokerState). x.tenants) (state-is _ _ c.drain.ensures.state))
-    (subst (IsSilent c.loop-event.self.state) (sym (state-is _ _ c.drain.ensures.state)) (silent_emptied c.loop-event.self.state))
+drained-later : (g : given.Over) (c : goal.After-sort_unstable_by_key g) → IsLaterBy g.S.Store.disk (SpeaksThrough []) c.loop-event.self c.drain.new.self
+drained-later g c = later-is g.S.Store.disk (SpeaksThrough []) c.loop-event.self c.drain.new.self (store-is _ _ c.drain.ensures.state) (strays-is _ _ c.drain.ensures.state) (by_store-is _ _ c.drain.ensures.state) (ap (λ (x : BrokerState). x.tenants) (state-is _ _ c.drain.ensures.state))
+    (state-is _ _ c.drain.ensures.state)
 
 -- the whole history, and the order of its list
 whole : (g : given.Over) (c : goal.After-sort_unstable_by_key g) → Passes (is_honest g.S.Store.disk c.drain.new.self) (happenings c.args.events.now) c.args.self.now.state c.drain.new.self.state (map sent_of c.drain.new.written.items)
@@ -144,7 +146,7 @@ pub returns-clause-greeted : goal.returns-clause-greeted
 returns-clause-greeted g c = λ honest n h q.
     let disk = g.S.Store.disk in
     let ready = c.connections-open.ensures.ready in
-    let before = (later-then disk c.args.self.now c.loop-event.self c.drain.new.self c.loop-event.invariant.later (drained-later g c)).honest honest in
+    let before = c.loop-event.invariant.honest ((drained-later g c).honest honest) in
     returns-clause-unowned g c honest n h q ∙ unowned-greets n (happenings c.args.events.now) c.args.self.now.state (ready-of disk c.args.self.now ready before) c.requires h
 
 pub returns-clause-worlds : goal.returns-clause-worlds
@@ -167,7 +169,13 @@ pub returns-clause-history : goal.returns-clause-history
 returns-clause-history g c = (map sent_of c.drain.new.written.items, (in_order g c).ordered, whole g c)
 
 pub returns-clause-later : goal.returns-clause-later
-returns-clause-later g c = later-then g.S.Store.disk c.args.self.now c.loop-event.self c.drain.new.self c.loop-event.invariant.later (drained-later g c)
+returns-clause-later g c =
+    let disk = g.S.Store.disk in
+    let here = c.loop-event.self in
+    let end = c.drain.new.self in
+    let all = c.args.events.now in
+    let none : happenings (drop c.loop-event.event-index all) ≡ [] = ap happenings (drop_all c.loop-event.event-index all (omega arith)) in
+    c.loop-event.invariant.later end (subst (λ es. IsLaterBy disk (SpeaksThrough es) here end) (sym none) (drained-later g c))
 
 pub returns-in_err-written-clause-fetches : goal.returns-in_err-written-clause-fetches
 returns-in_err-written-clause-fetches g c =

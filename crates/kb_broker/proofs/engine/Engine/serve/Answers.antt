@@ -17,7 +17,7 @@ use Rattle.kb_broker.proofs.Going.{left-by, not-parked, queue-turn, refused-left
 use Rattle.kb_broker.proofs.Fields.{rising-inside}
 use Rattle.kb_broker.proofs.Heard.{heard-set, roomy}
 use Rattle.kb_broker.proofs.Honest.{later-by, later-from, later-on, state-is, store-is}
-use Rattle.kb_broker.proofs.Truth.{silent_counted, speaks_silent, speaks_then, true_turn}
+use Rattle.kb_broker.proofs.Truth.{find_put, speaks_counted, speaks_then, true_turn}
 use Rattle.kb_broker.proofs.RequestLimits.{limit-put}
 use Rattle.kb_broker.proofs.engine.Engine.serve.Given as given
 use Rattle.kb_broker.proofs.engine.Engine.serve.Goals as goal
@@ -85,7 +85,7 @@ turn-told : (g : given.Over) (old : g.row.S.Denot) (new : Tenants g.row.L.Denot 
     → SpeaksTruth b (put_with a i m us)
 turn-told g old new a b i l m here honest taken told =
     true_turn (shelf_is_honest g.S.Store.disk new) honest (g.S.Store.disk old).failures (g.S.Store.disk new.shelf.store).failures new.shelf.next (commands_of g.L.PartitionLog.log new) a b i l m (tenants_in g.L.PartitionLog.log g.S.Store.disk new)
-    here taken.next.sound taken.at taken.number taken.turn told
+    here taken.next.sound taken.at taken.number taken.able taken.turn told
 
 pub returns-in-Ok : goal.returns-in-Ok
 returns-in-Ok g c =
@@ -112,7 +112,7 @@ returns-in-Ok g c =
     let queue : IsQueueOf G q b.tenants b.lines = subst (λ (x : BrokerState). IsQueueOf G q x.tenants x.lines) here c.self.invariant.1 in
     record {
       continues = subst (λ (x : BrokerState). IsGoing b (put_with x i m us)) (sym here) (taken-going H b i l m us l.session.stage taken refl taken.turn is);
-      later = later-from disk c.args.self.now _ earlier (λ honest. turn-told g c.self.inside.tenants.shelf.store c.take_turn-taken.new.tenants _ b i l m here honest taken (t.told honest));
+      later = later-from disk SpeaksTruth c.args.self.now _ earlier (λ honest. turn-told g c.self.inside.tenants.shelf.store c.take_turn-taken.new.tenants _ b i l m here honest taken (t.told honest));
       served = λ honest scope still. subst (λ (x : BrokerState). IsServedFor who scope b (put_with x i m us)) (sym here) (served-by H honest G (t.later.honest honest) who scope b i l m us q still (c.requires.unready (earlier.honest honest)) taken is member c.in-Ok.ensures.tenant queue (left honest));
       remaining = λ honest. subst (λ (x : BrokerState). IsLeftTo who (put_with x i m us)) (sym here)
           (left-by H honest G (t.later.honest honest) who b i l m us q (c.requires.unready (earlier.honest honest)) taken c.in-Ok.ensures.tenant queue (left honest));
@@ -149,12 +149,12 @@ returns-in-Err g c =
     let same = later-on disk store c.refuse.new.self.store strays c.refuse.new.self.strays us end.tenants shares c.refuse.new.self.by_store c.refuse.ensures.store c.refuse.ensures.strays c.refuse.ensures.by_store (names-counted l.number l.session.stage (put_with b i m us) end counted) (counts-counted l.number l.session.stage (put_with b i m us) end counted) in
     record {
       continues = refused-taken H b end i l m us l.session.stage taken refl shut taken.turn counted;
-      later = later-from disk c.args.self.now c.refuse.new.self
+      later = later-from disk SpeaksTruth c.args.self.now c.refuse.new.self
           (later-by (disk c.args.self.now.store) (disk store) (disk c.refuse.new.self.store) c.args.self.now.strays strays c.refuse.new.self.strays b.tenants us end.tenants c.args.self.now.by_store shares c.refuse.new.self.by_store earlier same)
           (λ honest. speaks_then b (put_with b i m us) end
           (subst (λ (x : BrokerState). SpeaksTruth b (put_with x i m us)) here
           (turn-told g c.self.inside.tenants.shelf.store c.take_turn-taken.new.tenants _ b i l m here (same.honest honest) taken (t.told (same.honest honest))))
-          (speaks_silent (put_with b i m us) end (silent_counted l.number l.session.stage (put_with b i m us) end counted)));
+          (speaks_counted l.number l.session.stage l.session m.session (put_with b i m us) end (find_put b i l m us taken.next.sound taken.at taken.number) shut (sym (able-stage l.session taken.able)) counted));
       served = λ honest scope still. refused-for who l.session.stage scope b end all (served-refused H (same.honest honest) scope b end i l m us l.session.stage still taken refl shut taken.turn counted);
       remaining = λ honest. refused-left who l.session.stage end all;
       includes_itself = refused-own who l.session.stage _ all;

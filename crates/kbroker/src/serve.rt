@@ -168,7 +168,7 @@ fn serve_broker<S: Store + Drop, L: PartitionLog + Drop>(
 }
 
 /// Opens the broker that is served, to which nobody is connected. Members of a broker before are none of this one, no producer id of a
-/// batch is given out again, and no catalog has more commands than its snapshot.
+/// batch is given out again, and where there are no strays no catalog has more commands than its snapshot.
 fn open<S: PutsOff + Drop>(
     rt: &HostRuntime,
     start: Start<'_>,
@@ -183,8 +183,8 @@ fn open<S: PutsOff + Drop>(
     let limits = group_limits(rt.alloc(), start.settings)?;
     opened.broker.limit_groups(&limits);
     opened.broker.number_members_from(first_member(now(rt)));
-    shorten_catalogs(rt.alloc(), &mut opened.broker);
     skip_ids(rt, &mut opened.broker, folder, journal)?;
+    shorten_catalogs(rt.alloc(), &mut opened.broker, &opened.strays);
     if start.settings.sync != Sync::Never
         && let Err(fault) = settle(&mut opened.broker)
     {

@@ -1,13 +1,13 @@
 -- What a broker says from one moment to a later one.
 use Rattle.std.proofs.Common.{◌≡◌, ◌++◌, ℕ, List, [], ◌∷◌, set}
 use Rattle.std.proofs.Common.{Result, Ok, Err, OnOk, OnErr, inl, inr, refl, sym, ◌∙◌, ap, subst}
-use Rattle.std.specs.Prelude.{◌≤◌, ◌+◌, ◌^◌, ◌⊎◌, Some, true, ⊤}
+use Rattle.std.specs.Prelude.{◌≤◌, ◌+◌, ◌^◌, Some, ⊤}
 use Rattle.kb_tenant_api.specs.Hosted.{TenantState}
 use Rattle.kb_tenant_api.specs.Turns.{HavePassed}
 use Rattle.kb_tenant.specs.Told.{FailedBy}
 use Rattle.kb_isolation_spec.specs.declared.shut.Shut.TheVariants as causes
-use Rattle.kb_isolation_spec.specs.Session.{Stage, Greets, BoundTo, Session, can, fed, shut_down, without_wait}
-use Rattle.kb_isolation_spec.specs.Machine.{Happening, Opens, Comes, Closes, Line, find_line}
+use Rattle.kb_isolation_spec.specs.Session.{Stage, Greets, BoundTo, Session, fed, shut_down, without_wait}
+use Rattle.kb_isolation_spec.specs.Machine.{Happening, Opens, Comes, Closes, Line, find_line, first_able}
 use Rattle.kb_isolation_spec.specs.Broker.{BrokerState, IsSound, IsUntaken, kept_of}
 use Rattle.kb_isolation_spec.specs.Calls.{IsRefused, closed, opened}
 use Rattle.kb_isolation_spec.specs.declared.whom.Whom.{Whom}
@@ -15,7 +15,7 @@ use Rattle.kb_isolation_spec.proofs.Leaving.{left_fed}
 use Rattle.kb_isolation_spec.proofs.Sets.{IsAt, find-at, find-set_other, rising-set, set-at}
 use Rattle.kb_connection.specs.View.{with_session}
 use Rattle.kb_broker.specs.Places.{IsCountedAt, IsDoneOrShut, IsLookedAt, IsToldAgain, IsToldAt, IsTurnAt}
-use Rattle.kb_broker.specs.Truth.{Begins, IsCountedShut, IsOfOne, IsPiece, IsTrueMoment, IsTrueStep, LeadTo, SpeaksAt, SpeaksTruth}
+use Rattle.kb_broker.specs.Truth.{Begins, IsOfOne, IsTrueMoment, IsTrueStep, LeadTo, SpeaksAt, SpeaksTruth}
 use Rattle.kb_broker.proofs.Handled.{put_at, put_with}
 use Rattle.kb_broker.proofs.Looked.{looked-number, looked-waked}
 
@@ -117,16 +117,16 @@ turn_on H honest (BoundTo t w) ts us turn =
 
 -- where a is what the broker's own fields are
 pub true_turn : (H : Type 0) → H → (failed fails next : ℕ) (commands : ℕ → ℕ) (a b : BrokerState) (i : ℕ) (l m : Line)
-    (us : List TenantState) → a ≡ b → IsSound b → IsAt b.lines i l → m.number ≡ l.number → can l.session ≡ true
+    (us : List TenantState) → a ≡ b → IsSound b → IsAt b.lines i l → m.number ≡ l.number → first_able b.lines ≡ Some l
     → IsTurnAt H l.session.stage b.tenants us
     → IsToldAt (FailedBy failed fails next) (λ t. 2 ^ 63 ≤ commands t + 1) a.setup a.clock l.number l.session.stage a.tenants us
     l.session m.session
     → SpeaksTruth b (put_with a i m us)
-true_turn H honest failed fails next commands a b i l m us e sound at number able turn told = speaks_step b (put_with a i m us) (inl (record {
+true_turn H honest failed fails next commands a b i l m us e sound at number first turn told = speaks_step b (put_with a i m us) (inl (record {
   l = l;
   m = m;
   one = of_one a b i l m us e sound at number;
-  able = able;
+  first = first;
   turn = turn_on H honest l.session.stage b.tenants us turn;
   failed = failed;
   fails = fails;

@@ -2,8 +2,8 @@
 use Rattle.std.specs.Prelude.{◌≡◌, ◌≤◌, ◌+◌, ◌^◌, ◌⊎◌, ℕ, List, [], ◌∷◌, Some, true, if◌then◌else◌, ⊤}
 use Rattle.kb_tenant_api.specs.Turns.{HavePassed}
 use Rattle.kb_tenant.specs.Told.{FailedBy}
-use Rattle.kb_isolation_spec.specs.Session.{Session, can, fed, overruns}
-use Rattle.kb_isolation_spec.specs.Machine.{Happening, Opens, Comes, Closes, Moment, Line, find_line}
+use Rattle.kb_isolation_spec.specs.Session.{Session, fed, overruns}
+use Rattle.kb_isolation_spec.specs.Machine.{Happening, Opens, Comes, Closes, Moment, Line, find_line, first_able}
 use Rattle.kb_isolation_spec.specs.Broker.{BrokerState, IsUntaken, kept_of}
 use Rattle.kb_isolation_spec.specs.Calls.{IsRefused, closed, left_by, moved, opened}
 use Rattle.kb_isolation_spec.specs.Told.{quieted_lines}
@@ -19,14 +19,14 @@ pub record IsOfOne (old new : BrokerState) (l m : Line) : Type 0 where
   pub others : SameOthers l.number old new
   pub rest : new ≡ record old { tenants = new.tenants; lines = new.lines }
 
--- A connection that can take a turn had one, of which at most what its own tenant keeps has changed, and its tenant's request in front was
--- told the truth. The numbers are of the store's failures before and after, of its next file, and of the commands that each catalog has
--- recorded.
+-- The least-numbered connection that can take a turn had one, of which at most what its own tenant keeps has changed, and its tenant's
+-- request in front was told the truth. The numbers are of the store's failures before and after, of its next file, and of the commands
+-- that each catalog has recorded.
 pub record IsTrueTurn (old new : BrokerState) : Type 0 where
   pub l : Line
   pub m : Line
   pub one : IsOfOne old new l m
-  pub able : can l.session ≡ true
+  pub first : first_able old.lines ≡ Some l
   pub turn : IsTurnAt ⊤ l.session.stage old.tenants new.tenants
   pub failed : ℕ
   pub fails : ℕ

@@ -34,7 +34,7 @@ returns-then-is_empty-clause-later g c =
     later-untaken g.S.Store.disk c.args.self.now n piece (elim c.then-is_empty.branch [
       | then-is_empty-via-then-is_empty w ↦ inl (empty-is piece c.is_empty.result c.is_empty.ensures w.if-is_empty.true)
       | then-is_empty-via-else-is_empty+then-is_shut w ↦
-      inr (ap is_deaf (find-found b i n w.index.result.now c.requires.sound.rising (found _ b i n w.index.result.now (state-is _ _ c.self.view_is) e.within e.some w.index.ensures)) ∙ (sym w.is_shut.ensures ∙ w.if-is_shut.true))
+          inr (ap is_deaf (find-found b i n w.index.result.now c.requires.sound.rising (found _ b i n w.index.result.now (state-is _ _ c.self.view_is) e.within e.some w.index.ensures)) ∙ (sym w.is_shut.ensures ∙ w.if-is_shut.true))
     ])
 
 pub returns-then-is_empty-clause-step : goal.returns-then-is_empty-clause-step

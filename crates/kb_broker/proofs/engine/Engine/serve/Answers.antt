@@ -1,4 +1,4 @@
-use Rattle.std.proofs.Common.{◌≡◌, ◌<◌, ℕ, ◌∙◌, refl, ap, set, subst, sym}
+use Rattle.std.proofs.Common.{◌≡◌, ◌<◌, ℕ, Some, ◌∙◌, refl, ap, set, subst, sym}
 use Rattle.kb_isolation_spec.specs.Machine.{Line, work}
 use Rattle.kb_isolation_spec.specs.Broker.{BrokerState}
 use Rattle.kb_isolation_spec.specs.Turned.{IsGoing}
@@ -85,7 +85,7 @@ turn-told : (g : given.Over) (old : g.row.S.Denot) (new : Tenants g.row.L.Denot 
     → SpeaksTruth b (put_with a i m us)
 turn-told g old new a b i l m here honest taken told =
     true_turn (shelf_is_honest g.S.Store.disk new) honest (g.S.Store.disk old).failures (g.S.Store.disk new.shelf.store).failures new.shelf.next (commands_of g.L.PartitionLog.log new) a b i l m (tenants_in g.L.PartitionLog.log g.S.Store.disk new)
-    here taken.next.sound taken.at taken.number taken.able taken.turn told
+    here taken.next.sound taken.at taken.number (taken.next.first l ∙ ap Some (sym taken.at.here)) taken.turn told
 
 pub returns-in-Ok : goal.returns-in-Ok
 returns-in-Ok g c =

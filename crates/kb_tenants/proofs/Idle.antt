@@ -177,6 +177,16 @@ pub below_or_not : (u i : ℕ) → (u < i) ⊎ (i ≤ u)
 below_or_not u i = grind arith
 
 -- one more is looked at
+-- the sooner of two times is at most each of them
+pub sooner_first : (a b v : ℤ) → v ≡ int_min a b → v ≤ℤ a
+sooner_first a b v is = omega (arith, ints, clamps, is)
+
+pub sooner_second : (a b v clock : ℤ) → v ≡ int_min a b → clock ≤ℤ v → clock ≤ℤ b
+sooner_second a b v clock is le = omega (arith, ints, clamps, is, le)
+
+pub sooner_most : (a b v most : ℤ) → v ≡ int_min a b → a ≤ℤ most → v ≤ℤ most
+sooner_most a b v most is le = omega (arith, ints, clamps, is, le)
+
 pub idle_next : (i : ℕ) (until later : ℤ) (ts : List TenantState) → until ≤ℤ later → IsIdleBelow i later ts
     → ((clock : ℕ) → pos clock ≤ℤ until → passed clock (kept_of ts i) ≡ kept_of ts i) → IsIdleBelow (i + 1) until ts
 idle_next i until later ts sooner below here t clock lt le = ⊎_elim

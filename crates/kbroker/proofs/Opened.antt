@@ -1,13 +1,17 @@
 -- A broker that has just opened is at rest.
-use Rattle.std.proofs.Common.{◌≡◌, ◌==◌, ◌&&◌, true, List, [], ◌∷◌, refl, ap, sym, subst}
+use Rattle.std.proofs.Common.{◌≡◌, ◌==◌, ◌&&◌, ◌<◌, ℕ, true, List, [], ◌∷◌, length, refl, ap, sym, subst}
 use Rattle.std.specs.List.{AllByRecursion}
 use Rattle.std.proofs.lemmas.List.Elements.{recursion_from_All}
 use Rattle.kb_tenant_api.specs.Hosted.{TenantState}
 use Rattle.kb_tenant_api.specs.Turns.{all_calm}
-use Rattle.kb_isolation_spec.specs.Broker.{BrokerState}
+use Rattle.kb_isolation_spec.specs.Broker.{BrokerState, kept_of}
+use Rattle.kb_tenant_state.specs.Ids.{GivesFresh}
+use Rattle.kbroker.specs.Ids.{AllGiveFresh}
 use Rattle.kb_isolation_spec.specs.Calls.{is_calm}
 use Rattle.kb_settings.specs.declared.settings.Settings.{Settings}
 use Rattle.kb_broker.specs.declared.opening.Listing.{Listing}
+use Rattle.kb_store.specs.Disk.{Disk}
+use Rattle.kb_broker.specs.Hosts.{OnStore, is_honest}
 use Rattle.kb_broker.specs.Opening.{opening_over}
 use Rattle.kb_broker.specs.ScriptRun.{IsQuiet}
 use Rattle.kb_restart.specs.Restart.{have_nothing_refused}
@@ -27,3 +31,17 @@ quiet-opened listing s b is = subst IsQuiet (sym is) tt
 -- nobody is connected yet
 pub alone-opened : (listing : Listing) (s : Settings) (b : BrokerState) → b ≡ opening_over listing s b.tenants → b.lines ≡ []
 alone-opened listing s b is = ap (λ (x : BrokerState). x.lines) is
+
+-- the producer ids that a broker gives out are fresh, where its store is honest
+abbrev pub GivesFreshOn : {S : Type 0} → (S → Disk) → OnStore S → Type 0
+GivesFreshOn disk b = is_honest disk b → AllGiveFresh b.state
+
+-- they are so as long as each tenant keeps what it kept
+pub fresh_kept : {S : Type 0} (disk : S → Disk) (b d : OnStore S) → length d.state.tenants ≡ length b.state.tenants
+    → (is_honest disk d → is_honest disk b) → (is_honest disk d → (t : ℕ) → kept_of d.state t ≡ kept_of b.state t) → GivesFreshOn disk b → GivesFreshOn disk d
+fresh_kept disk b d count before same fresh honest t lt =
+    subst (λ k. GivesFresh k.world) (sym (same honest t)) (fresh (before honest) t (subst (λ n. t < n) count lt))
+
+-- and where it is as it was
+pub fresh_same : {S : Type 0} (disk : S → Disk) (b d : OnStore S) → (is_honest disk d → is_honest disk b × (d.state ≡ b.state)) → GivesFreshOn disk b → GivesFreshOn disk d
+fresh_same disk b d stays fresh honest = let was = stays honest in subst AllGiveFresh (sym was.1) (fresh was.0)

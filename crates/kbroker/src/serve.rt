@@ -167,8 +167,11 @@ fn serve_broker<S: Store + Drop, L: PartitionLog + Drop>(
     Ok((edge, served))
 }
 
-/// Opens the broker that is served, to which nobody is connected. Members of a broker before are none of this one, no producer id of a
-/// batch is given out again, and where there are no strays no catalog has more commands than its snapshot.
+/// Opens the broker that is served, to which nobody is connected. Members of a broker before are none of this one, and no producer id of a
+/// batch is given out again. What is said of files is of before catalogs were written anew.
+///
+/// Where the folder has files of no log no catalog is written anew: they may be a later part of one that was damaged, and a person has to
+/// see them before a later one takes their place.
 fn open<S: PutsOff + Drop>(
     rt: &HostRuntime,
     start: Start<'_>,
@@ -184,7 +187,9 @@ fn open<S: PutsOff + Drop>(
     opened.broker.limit_groups(&limits);
     opened.broker.number_members_from(first_member(now(rt)));
     skip_ids(rt, &mut opened.broker, folder, journal)?;
-    shorten_catalogs(rt.alloc(), &mut opened.broker, &opened.strays);
+    if opened.strays.is_empty() {
+        shorten_catalogs(rt.alloc(), &mut opened.broker);
+    }
     if start.settings.sync != Sync::Never
         && let Err(fault) = settle(&mut opened.broker)
     {

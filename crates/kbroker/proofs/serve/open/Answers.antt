@@ -1,2 +1,24 @@
-use Rattle.kbroker.proofs.Opened.{alone-opened}
+use Rattle.std.proofs.Common.{◌≡◌, subst, sym}
+use Rattle.kb_broker.specs.Hosts.{OnStore}
+use Rattle.kbroker.proofs.Opened.{alone-opened, fresh_kept, fresh_same, GivesFreshOn}
 use Rattle.kbroker.proofs.serve.open.Goals as goal
+use Rattle.kbroker.proofs.serve.open.Goals.{then-is_empty, else-is_empty, else-ne-via-else-ne, else-ne-via-then-ne+in-Ok-1}
+
+pub returns-2-clause-fresh : goal.returns-2-clause-fresh
+returns-2-clause-fresh g c =
+    let disk = g.S.Store.disk in
+    let P : OnStore g.row.S.Denot → Type 0 = GivesFreshOn disk in
+    let first = c.skip_ids.new.broker in
+    let opened = c.if-is_empty.opened.broker in
+    let shortened : P opened = elim c.if-is_empty.branch [
+      | then-is_empty w ↦
+          let new = w.shorten_catalogs.new.broker in
+          let e = w.shorten_catalogs.ensures in
+          subst P (sym (λ i. (w.opened-is i).broker)) (fresh_kept disk first new e.count e.honest e.stays c.in_ok-skip_ids.ensures.fresh)
+      | else-is_empty w ↦ subst P (sym (λ i. (w.opened-is i).broker)) c.in_ok-skip_ids.ensures.fresh
+    ] in
+    elim c.else-ne.branch [
+      | else-ne-via-else-ne w ↦ subst P (sym (λ i. (w.opened-is i).broker)) shortened
+      | else-ne-via-then-ne+in-Ok-1 w ↦
+          subst P (sym (λ i. (w.opened-is i).broker)) (fresh_same disk opened w.settle.new.broker w.settle.ensures.stays shortened)
+    ]

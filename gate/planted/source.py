@@ -144,14 +144,14 @@ def change(before: Dict[str, str], after: Dict[str, str]) -> Change:
 
 
 def is_of_laws(folder: str) -> bool:
-    """Whether a crate has definitions and laws alone: each of its functions has an empty body, and says what its contract says."""
+    """Whether a crate has definitions and laws: nine of ten of its functions have an empty body, and say what their contracts say."""
     bodies = []
     for path, _, names in os.walk(f"{folder}/src"):
         for name in (it for it in names if it.endswith(".rt")):
             with open(f"{path}/{name}", encoding="utf-8") as it:
                 text = it.read()
             bodies += [text[it.body : it.end].split() for it in functions_in(name, text).values()]
-    return bool(bodies) and all(it in (["{}"], ["{", "}"]) for it in bodies)
+    return bool(bodies) and 10 * sum(it in (["{}"], ["{", "}"]) for it in bodies) >= 9 * len(bodies)
 
 
 def branches_in(body: str) -> Counter:

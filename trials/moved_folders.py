@@ -194,6 +194,10 @@ class Place:
                     out[name] = it.read()
         return out
 
+    def records(self):
+        """Those of partitions: a start may write a catalog anew."""
+        return {name: it for name, it in self.files().items() if it[6:8] == b"\0\0"}
+
     def lives(self, rng, tenants, steps):
         """Lets tenants' clients do what they do, over some stops and kills; at last the broker is stopped."""
         now = int(time.time() * 1000)
@@ -354,11 +358,11 @@ class Move:
 def after(looks, seed, move, wanted, beside):
     """Looks at each folder once all came, and goes on in both."""
     for place in move.places:
-        files, came = place.files(), move.come(place)
+        records, came = place.records(), move.come(place)
         for tenant, now in seen(place, [*move.natives[place], *came]).items():
             looks.same(f"seed {seed}: what tenant {tenant} sees", wanted[tenant] if tenant in came else beside[place][tenant], now)
             looks.records += sum(len(it[2]) for what, it in now.items() if isinstance(what, tuple))
-        looks.see(f"seed {seed}: files after a start", place.files() == files)
+        looks.see(f"seed {seed}: files of records after a start", place.records() == records)
         move.source.start()
         place.start()
         for tenant in came:

@@ -78,7 +78,7 @@ module _ (a b : Scene Seen) (node : Node) (clock : ℕ) (request : Request) (tou
       → IfOk r (λ answer. IsSpared request.api_version a.state.world request.body.now b.state.world answer) → OnErr r (b.state.world ≡ a.state.world)
       → WhereHonest a b (IsToldOf a b node clock request touched (answered r))
   produce_told (Ok answer) is told shut spared = λ honest agree. produce_is answer is (told honest agree) shut
-  produce_told (Err fault) is told shut spared = λ honest agree. produce_is answers.Shut is (λ q read. tt) (inl spared)
+  produce_told (Err fault) is told shut spared = λ honest agree. produce_is answers.Shut is (λ q read. inl spared) (inl spared)
 
   fetch_is : (answer : Answer) → request.api_key ≡ FETCH
       → AnswersFetch (HasFailed a b) request.correlation_id request.api_version node.limits.fetch_bytes a.state.world clock

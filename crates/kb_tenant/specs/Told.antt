@@ -171,7 +171,8 @@ IsProduceTold failed limit p r q reply =
     AreServed (IsTopicTold failed limit (refusal_of r.transactional_id r.acks)) p r.topics q reply.topics
     × (reply.throttle_time_ms ≡ pos 0)
 
--- Its answer is that reply's bytes in a version of the API, or none where none is due.
+-- Its answer is that reply's bytes in a version of the API, or none where none is due. Where the connection is shut, nothing has changed, or
+-- the entries are so told.
 abbrev pub IsAcknowledged : Type 0 → Option ℕ → (id version : ℤ) → World → ProduceRequest → World → List TopicPartition → Answer → Type 0
 IsAcknowledged failed limit id version w r v touched (answers.Reply bytes) =
     (reply : ProduceReplyV5) × ((bytes.items ≡ framed id (produced_in version reply))
@@ -179,7 +180,8 @@ IsAcknowledged failed limit id version w r v touched (answers.Reply bytes) =
 IsAcknowledged failed limit id version w r v touched (answers.Wait deadline fetch keys) = ⊥
 IsAcknowledged failed limit id version w r v touched answers.NoReply =
     (reply : ProduceReplyV5) × IsProduceTold failed limit (progress w []) r (progress v touched) reply
-IsAcknowledged failed limit id version w r v touched answers.Shut = ⊤
+IsAcknowledged failed limit id version w r v touched answers.Shut =
+    (v ≡ w) ⊎ ((reply : ProduceReplyV5) × IsProduceTold failed limit (progress w []) r (progress v touched) reply)
 
 -- The same of a body, where it is a request of Produce.
 abbrev pub Acknowledges : Type 0 → Option ℕ → (id version : ℤ) → World → List ℕ → World → List TopicPartition → Answer → Type 0

@@ -202,20 +202,22 @@ fn open<S: PutsOff + Drop>(
     Ok((opened, held))
 }
 
-/// Makes what a start left last before anybody is served: else what is acknowledged next would stand behind what was dropped.
+/// Makes what a start left last before anybody is served: else what is acknowledged next would stand behind what was dropped. It ends
+/// once nothing is put off any more; so many commits that something still is are never made.
 fn settle<S: Store, L: PartitionLog + Drop>(broker: &mut Broker<S, L>) -> Result<(), StoreFault>
     requires { broker.old.state.lines ≡ [] }
     ensures alone { broker.new.state.lines ≡ [] }
     ensures stays { is_honest S.disk broker.new → is_honest S.disk broker.old × (broker.new.state ≡ broker.old.state) }
     ensures commands { broker.new.commands ≡ broker.old.commands }
+    ensures settled { OnOk result (S.settled broker.new.store) }
 {
     for _ in 0..TURNS {
         if broker.is_synced() {
-            break;
+            return Ok(());
         }
         broker.commit()?;
     }
-    Ok(())
+    Err(StoreFault::Device)
 }
 
 /// Turns an edge until the turns are used up, by a clock that follows the wall clock but not its jumps. An `Err` is that of a commit:

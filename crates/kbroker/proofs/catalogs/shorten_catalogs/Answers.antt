@@ -1,4 +1,4 @@
-use Rattle.std.proofs.Common.{◌≡◌, ◌≤◌, ◌<◌, ◌-◌, ◌+◌, ◌∙◌, ◌⊎◌, ⊎_elim, inl, inr, ℕ, ap, get_or, refl, sym, subst, arith}
+use Rattle.std.proofs.Common.{◌≡◌, ◌≤◌, ◌<◌, ◌-◌, ◌+◌, ◌∙◌, ◌⊎◌, ⊎_elim, inl, inr, ℕ, zero, suc, ap, get_or, refl, sym, subst, arith}
 use Rattle.kb_tenant_state.specs.Counts.{IsCalm}
 use Rattle.kb_tenant_state.specs.Steps.{calm_then}
 use Rattle.kb_tenants.specs.Renewal.{IsCountedOnce, snapshot_of}
@@ -8,7 +8,10 @@ use Rattle.kbroker.proofs.catalogs.shorten_catalogs.Goals as goal
 
 -- a place is another one, or this one
 other_or_here : (t place : ℕ) → (t ≡ place → ⊥) ⊎ (t ≡ place)
-other_or_here t place = grind arith
+other_or_here zero zero = inr refl
+other_or_here zero (suc place) = inl (λ same. omega (arith, same))
+other_or_here (suc t) zero = inl (λ same. omega (arith, same))
+other_or_here (suc t) (suc place) = ⊎_elim (λ (ne : t ≡ place → ⊥). inl (λ same. ne (omega (arith, same)))) (λ (here : t ≡ place). inr (ap suc here)) (other_or_here t place)
 
 pub loop-place-init : goal.loop-place-init
 loop-place-init g c = record {

@@ -84,8 +84,8 @@ pub fn listings_are_coherent()
 {}
 
 /// No run of a broker brings what a tenant has past its limits, whatever others do: the bytes of its batches, its topics, their
-/// partitions, and the offsets that its groups have committed. Each is at most the limit, or at most what it was before the run. The
-/// store is honest before it.
+/// partitions, the offsets that its groups have committed, and the bytes of their texts. Each is at most the limit, or at most what it
+/// was before the run. The store is honest before it.
 ///
 /// `moments`: so it is at each moment of the run of the tenant's machine. `worlds`: and so it is of what the tenant has on the broker
 /// behind a run in which nothing was refused to it, nor to a connection that is not bound. What is said of that run is what

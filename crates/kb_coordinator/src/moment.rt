@@ -1,5 +1,6 @@
 //! Moments, and connections that end.
-ghost use Rattle.std.specs.Prelude.{◌≡◌, ◌≤◌, ◌++◌, OnErr, OnOk, IfNone, IfSome, [], false, if◌then◌else◌, map, min, nat_eq, option_copied};
+ghost use Rattle.std.specs.Prelude.{◌≡◌, ◌≤◌, ◌++◌, OnErr, OnOk, IfNone, IfSome, [], false, true, if◌then◌else◌, map, min, nat_eq};
+ghost use Rattle.std.specs.Prelude.{option_copied};
 ghost use Rattle.std.specs.List.{All, flat_map};
 ghost use Rattle.kb_coordinator.specs.Groups.{AreInOrder};
 ghost use Rattle.kb_groups.specs.Moments as due;
@@ -191,6 +192,8 @@ impl Coordinator {
     pub fn pass(&mut self, clock: u64) -> Option<usize>
         requires { clock ≤ 4611686018427387904 }
         ensures none { IfNone result ((is_due clock self.old ≡ false) × (self.new ≡ self.old)) }
+        // Where nothing is due, nothing is refused either.
+        ensures due { IfSome result (λ refused. is_due clock self.old ≡ true) }
         ensures all { IfSome result (λ refused. refused ≡ 0 → self.new ≡ passed clock self.old) }
         ensures groups { IfSome result (λ refused. Ticks clock self.old.groups self.new.groups self.new.released refused) }
         ensures members { self.new.members ≡ self.old.members }

@@ -12,7 +12,7 @@ use std::alloc::{AllocError, Global};
 pub struct GroupLimits {
     /// At most so many groups: up to 1,000.
     pub groups: u32,
-    /// So many bytes of what they keep: 1,048,576 to 9,223,372,036,854,775,807.
+    /// So many bytes of what they keep: 1,048,576 to 9,223,372,036,854,775,807. The texts of committed offsets may have as many again.
     pub bytes: u64,
 }
 

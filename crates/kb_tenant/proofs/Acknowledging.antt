@@ -16,7 +16,6 @@ use Rattle.kb_store.specs.Disk.{Grew}
 use Rattle.kb_tenant_state.specs.Scene.{Scene, WhereHonest}
 use Rattle.kb_tenant_state.specs.Parts.{Seen}
 use Rattle.kb_tenant_state.specs.Steps.{IsStep}
-use Rattle.kb_tenant_state.specs.Told.{Failed}
 use Rattle.kb_tenant_state.specs.World.{World}
 use Rattle.kb_tenant_state.specs.declared.topic_partition.TopicPartition.{TopicPartition}
 use Rattle.kb_topics.specs.Known.{named}

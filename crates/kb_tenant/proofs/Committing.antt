@@ -1,5 +1,5 @@
 -- The steps of an OffsetCommit.
-use Rattle.std.proofs.Common.{◌≡◌, ◌∙◌, sym, ap, refl, inl, inr, ⊎_elim, ℕ, ℤ, pos, negsuc, Bool, Bor, true, false, List, ◌++◌, length, map, Option, Some, None, Result, Ok, Err}
+use Rattle.std.proofs.Common.{◌≡◌, ◌∙◌, sym, ap, refl, inl, inr, ⊎_elim, ℕ, ℤ, pos, negsuc, Bool, Bor, true, false, List, ◌++◌, length, Option, Some, None, Result, Ok, Err}
 use Rattle.std.specs.Int.{w32}
 use Rattle.std.specs.Option.{option_copied}
 use Rattle.std.specs.Prelude.{◌&&◌, ◌||◌, ◌+◌, is_some, nat_lt, not}

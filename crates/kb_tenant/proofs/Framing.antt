@@ -1,11 +1,11 @@
 -- The size of a reply, set when its body is there.
-use Rattle.std.proofs.Common.{◌≡◌, ◌∙◌, ◌+◌, ◌≤◌, ◌<◌, ◌^◌, ◌-◌, ◌++◌, Bool, true, false, ℕ, ℤ, List, length, min, drop, ap, refl, sym, subst, arith, if◌then◌else◌}
+use Rattle.std.proofs.Common.{◌≡◌, ◌∙◌, ◌+◌, ◌≤◌, ◌<◌, ◌-◌, ◌++◌, Bool, true, false, ℕ, ℤ, List, length, drop, ap, refl, arith, if◌then◌else◌}
 use Rattle.std.specs.Prelude.{Option, Some, None}
 use Rattle.std.proofs.lemmas.Bool.{ltb-false, le-ltb}
 use Rattle.std.specs.Int.{w32, to_be_bytes}
 use Rattle.kb_wire.specs.Codec.{int}
 use Rattle.kb_tenant.specs.Limits.{is_past}
-use Rattle.kb_tenant.specs.Replies.{Reaction, Replies, Shuts, IsAnswer, begun, framed, most_bytes, most_size, replies_within, reply_size}
+use Rattle.kb_tenant.specs.Replies.{Replies, Shuts, IsAnswer, begun, framed, most_bytes, most_size, replies_within, reply_size}
 use Rattle.kb_tenant.specs.declared.answer.Answer.TheVariants as answers
 
 pub sized : (id : ℤ) (body bytes : List ℕ) → bytes ≡ begun id ++ body → length bytes - 4 ≡ reply_size body

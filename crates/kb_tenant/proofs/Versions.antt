@@ -1,6 +1,6 @@
 -- A request of a version with the starts of logs fits, and is in range, without them too.
 use Rattle.std.proofs.Common.{◌≡◌, ◌∙◌, ◌<◌, ◌^◌, ap, sym, refl, [], subst, arith, cond, int_lt, ℕ, ℤ, pos, negsuc, Bool, true, false, List, Option, Some, None, Ok, Err, FitsSigned, w32}
-use Rattle.std.specs.Prelude.{Result, All, map, if◌then◌else◌}
+use Rattle.std.specs.Prelude.{Result, map, if◌then◌else◌}
 use Rattle.std.proofs.lemmas.List.Elements.{All-from_recursion}
 use Rattle.std.proofs.lemmas.Int.{ints}
 use Rattle.std.proofs.lemmas.List.{length-map}

@@ -7,7 +7,7 @@ use Rattle.std.specs.List.{flat_map, list_any}
 use Rattle.std.specs.Option.{option_map, option_and_then}
 use Rattle.std.specs.Ordering.{int_eq}
 use Rattle.std.specs.Str.{bytes_eq}
-use Rattle.kb_wire.specs.Codec.{count, int32, string, whole, ◌>>=◌}
+use Rattle.kb_wire.specs.Codec.{count, string, whole, ◌>>=◌}
 use Rattle.kb_wire.specs.ErrorCode.{code_of}
 use Rattle.kb_wire.specs.declared.error_code.ErrorCode.TheVariants as errors
 use Rattle.kb_wire.specs.declared.fault.WireFault.{WireFault}

@@ -28,7 +28,7 @@ use Rattle.kb_tenant.specs.Limits.{is_past}
 abbrev pub with_entries : {T : Type 0} → (T → ℕ) → List T → ℕ
 with_entries own ts = sum_by (λ t. own t + 1) ts
 
--- ---- by API: topics and partitions together
+-- ---- by API: topics and partitions together, or groups
 
 abbrev pub produce_entries : ProduceRequest → ℕ
 produce_entries r = with_entries (λ (t : ProduceTopic). length t.partitions) r.topics

@@ -1,6 +1,6 @@
 //! DescribeConfigs: the settings of topics and of the broker. Version 0 tells whether a value is the default, 1 and 2 where it comes
 //! from (Kafka protocol guide, "The Messages: DescribeConfigs"); any version but 0 is answered as 1.
-ghost use Rattle.std.specs.Prelude.{◌≡◌, ◌≤◌, ◌++◌, ◌∷◌, [], pos, All, IfOk, List, OnOk, length, map};
+ghost use Rattle.std.specs.Prelude.{◌≡◌, ◌≤◌, ◌++◌, ◌∷◌, [], pos, All, IfOk, OnOk, length, map};
 ghost use Rattle.std.specs.List.{flat_map, list_any};
 ghost use Rattle.std.specs.Str.{bytes_eq};
 ghost use Rattle.kb_api_data.specs.Layouts.{config_resource, describe_configs_request};

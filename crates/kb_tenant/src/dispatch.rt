@@ -2,7 +2,7 @@
 ghost use Rattle.std.specs.Prelude.{◌≡◌, ◌≤◌, ◌^◌, [], IfOk, OnErr};
 ghost use Rattle.kb_wire.specs.Codec.{string, whole};
 ghost use Rattle.kb_wire.specs.declared.api_key.TheConstants.{PRODUCE, DELETE_TOPICS, DELETE_RECORDS};
-ghost use Rattle.kb_api_data.specs.Layouts.{produce_request, metadata_request, create_topics_request};
+ghost use Rattle.kb_api_data.specs.Layouts.{produce_request};
 ghost use Rattle.kb_api_data.specs.Layouts.{delete_records_request, delete_topics_request, init_producer_id_request};
 ghost use Rattle.kb_store.specs.Disk.{Files};
 ghost use Rattle.kb_tenant_state.specs.Scene.{WhereHonest};

@@ -16,7 +16,7 @@ ghost use Rattle.kb_tenant.specs.OffsetCommit.{committed_entry, committed_topic,
 ghost use Rattle.kb_tenant.specs.Produce.{written_next};
 ghost use Rattle.kb_tenant.specs.Told.{CatalogFailed, IsCommitTold, IsCommitTopicTold, IsFaultOf, IsTold};
 ghost use Rattle.kb_tenant.specs.Turns.{in_turn, written_behind, AreServed};
-ghost use Rattle.kb_wire.specs.Codec.{int32, int64, string};
+ghost use Rattle.kb_wire.specs.Codec.{int32, int64};
 ghost use Rattle.kb_wire.specs.Reads.{ReadsWhole};
 ghost use Rattle.kb_store.specs.Disk.{Files, Table};
 ghost use Rattle.kb_tenant_state.specs.Parts.{scene, world_of, IsSound};

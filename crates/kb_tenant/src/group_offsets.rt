@@ -1,5 +1,5 @@
 //! Requests about the offsets of groups, from their bodies to their replies.
-ghost use Rattle.std.specs.Prelude.{◌≡◌, [], IfOk};
+ghost use Rattle.std.specs.Prelude.{[], IfOk};
 ghost use Rattle.kb_store.specs.Disk.{Files};
 ghost use Rattle.kb_tenant_state.specs.Scene.{WhereHonest};
 ghost use Rattle.kb_tenant.specs.Entries.{commit_entries, offset_fetch_entries, within};

@@ -116,9 +116,9 @@ pub fn commits_stay_ordered()
         → HasOrderedCommits (retain clock w place).0 }
 {}
 
-/// No request brings what a tenant has past its limits: the bytes of its batches, its topics, their partitions, and the offsets that its
-/// groups have committed are each at most the limit, or at most what they were. Retention makes none of them more: so it is whatever
-/// the limits are.
+/// No request brings what a tenant has past its limits: the bytes of its batches, its topics, their partitions, the offsets that its
+/// groups have committed, and the bytes of their texts are each at most the limit, or at most what they were. Retention makes none of
+/// them more: so it is whatever the limits are.
 pub fn limits_are_kept()
     ensures served { (node : Node) (w : World) (clock n : ℕ) (key version : ℤ) (body : List ℕ) → HasOrderedCommits w
         → AreLimitsKept node.limits w (plainly_served node w clock n key version body).world }

@@ -1,13 +1,12 @@
 -- A group that is deleted, and what a request of DeleteGroups comes to.
 use Rattle.std.proofs.Common.{◌≡◌, ◌∙◌, ◌⊎◌, ◌++◌, ◌<◌, ◌^◌, ⊎_elim, inl, inr, ℕ, ℤ, Bool, true, false, List, [], ◌∷◌, length, refl, sym, ap, subst, bytes_eq, if◌then◌else◌}
-use Rattle.std.specs.Prelude.{pos, Option, Some, None, Result, Ok, Err, is_some}
+use Rattle.std.specs.Prelude.{pos, Some, None, Result, Ok, Err, is_some}
 use Rattle.std.proofs.lemmas.Bool.{false≢true}
-use Rattle.kb_wire.specs.Codec.{array, count, int, int32, sized, counted, string, utf8}
+use Rattle.kb_wire.specs.Codec.{array, int, int32, sized, counted, string, utf8}
 use Rattle.kb_wire.specs.ErrorCode.{code_of}
 use Rattle.kb_wire.specs.declared.error_code.ErrorCode.TheVariants as codes
 use Rattle.kb_wire.specs.declared.fault.ReadFault.{ReadFault}
 use Rattle.kb_wire.specs.declared.fault.ReadFault.TheVariants as faults
-use Rattle.kb_wire.specs.declared.fault.WireFault.{WireFault}
 use Rattle.kb_api_group.specs.Layouts.{delete_groups_reply, delete_groups_request, deleted_group as deleted_group_codec}
 use Rattle.kb_api_group.specs.declared.delete_groups.DeletedGroup.{DeletedGroup}
 use Rattle.kb_api_group.specs.declared.delete_groups.DeleteGroupsRequest.{DeleteGroupsRequest}
@@ -15,7 +14,6 @@ use Rattle.kb_groups.specs.Calls as one
 use Rattle.kb_coordinator.specs.declared.groups.Entry.{Entry}
 use Rattle.kb_coordinator.specs.Calls.{deleted, has_members, is_there}
 use Rattle.kb_coordinator.specs.Groups.{Groups, found, silent, without}
-use Rattle.kb_topics.specs.CatalogFault.{code_of as fault_code}
 use Rattle.kb_topics.specs.Known.{has_committed}
 use Rattle.kb_topics.specs.declared.fault.CatalogFault.{CatalogFault}
 use Rattle.kb_topics.specs.declared.fault.CatalogFault.TheVariants as catalog
@@ -23,7 +21,7 @@ use Rattle.kb_tenant_state.specs.Calls.{delete_group, group_deleted_unless}
 use Rattle.kb_tenant_state.specs.Parts.{Seen}
 use Rattle.kb_tenant_state.specs.Scene.{Scene, WhereHonest}
 use Rattle.kb_tenant_state.specs.Steps.{IsStep}
-use Rattle.kb_tenant_state.specs.Told.{IsCatalogWant, IsDone, IsRefused}
+use Rattle.kb_tenant_state.specs.Told.{IsCatalogWant}
 use Rattle.kb_tenant_state.specs.World.{World}
 use Rattle.kb_tenant.specs.Told.{CatalogFailed, IsFaultOf, IsTold, IsWantCode}
 use Rattle.kb_tenant.specs.Turns.{in_turn, AreServed}

@@ -11,7 +11,6 @@ use Rattle.std.specs.List.{All, AllByRecursion, sum_by}
 use Rattle.std.proofs.lemmas.List.Sums.{sum_by-cons}
 use Rattle.kb_wire.specs.ErrorCode.{code_of}
 use Rattle.kb_wire.specs.declared.error_code.ErrorCode.TheVariants as codes
-use Rattle.kb_api_group.specs.declared.delete_groups.DeletedGroup.{DeletedGroup}
 use Rattle.kb_api_group.specs.declared.delete_groups.DeleteGroupsRequest.{DeleteGroupsRequest}
 use Rattle.kb_api_data.specs.declared.fetch.FetchRequest.{FetchRequest}
 use Rattle.kb_groups.specs.Calls as one
@@ -26,7 +25,7 @@ use Rattle.kb_tenant_state.specs.World.{World}
 use Rattle.kb_tenant_state.proofs.GroupDeleted.{group_counts}
 use Rattle.kb_tenant.specs.Batches.{HasSmallLogs, IsSmall}
 use Rattle.kb_tenant.specs.Fetch.{fetch_answer}
-use Rattle.kb_tenant.specs.LimitsKept.{HasOrderedCommits, IsOrdered}
+use Rattle.kb_tenant.specs.LimitsKept.{IsOrdered}
 use Rattle.kb_tenant.specs.Turns.{in_turn}
 use Rattle.kb_tenant.specs.Waiting.{HasOwnNames, StillWaits}
 use Rattle.kb_tenant.specs.declared.limits.DataLimits.{DataLimits}

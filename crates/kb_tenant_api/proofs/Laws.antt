@@ -9,7 +9,7 @@ use Rattle.kb_tenant_state.specs.World.{World}
 use Rattle.kb_tenant.specs.Batches.{HasSmallLogs, HoldsBatches}
 use Rattle.kb_tenant.specs.Fetch.{asked_fetch, fetch_answer, places_of}
 use Rattle.kb_tenant.specs.Replies as tenant_reaction
-use Rattle.kb_tenant.specs.Replies.{Replies, Silent}
+use Rattle.kb_tenant.specs.Replies.{Silent}
 use Rattle.kb_tenant.specs.Waiting.{AreApart, HasOwnNames, StillWaits}
 use Rattle.kb_tenant.specs.declared.node.Node.{Node}
 use Rattle.kb_tenant.proofs.Again.{committed_again, served_again as topics_again, served_names as topics_names}

@@ -1,7 +1,6 @@
 -- Members that wait, one request or moment after the other: each waits on, or is answered.
-use Rattle.std.proofs.Common.{ℤ, ◌≡◌, ◌∙◌, ◌≤◌, ◌+◌, ℕ, zero, suc, Bool, true, false, ◌&&◌, List, [], ◌∷◌, ◌++◌, map, length, Option, Some, None, nat_eq, nat_lt, bytes_eq, if◌then◌else◌, is_none, is_some, refl, sym, ap, subst, arith, slice_set, slice_get}
-use Rattle.std.specs.Prelude.{filter, not}
-use Rattle.std.specs.List.{flat_map, insert}
+use Rattle.std.proofs.Common.{ℤ, ◌≡◌, ◌≤◌, ◌+◌, ℕ, Bool, true, false, ◌&&◌, List, [], ◌∷◌, map, Option, Some, None, nat_eq, nat_lt, if◌then◌else◌, is_some, refl, ap, arith}
+use Rattle.std.specs.Prelude.{not}
 use Rattle.kb_groups.specs.declared.code.Code.{Code}
 use Rattle.kb_groups.specs.declared.code.Code.TheVariants.{Fine, RebalanceInProgress, UnknownMemberId}
 use Rattle.kb_groups.specs.declared.state.State.{State}
@@ -15,9 +14,9 @@ use Rattle.kb_groups.specs.declared.reply.Release.{Release}
 use Rattle.kb_groups.specs.declared.reply.Reply.{Reply}
 use Rattle.kb_groups.specs.declared.borrowed.Join.{Join}
 use Rattle.kb_groups.specs.declared.borrowed.SyncAssignment.{SyncAssignment}
-use Rattle.kb_groups.specs.Answers.{waiter_answered, refusal, answers, is_sync, place, placed, sync_refused, turned_away, waiter_of, waits_join, waits_on, waits_sync}
+use Rattle.kb_groups.specs.Answers.{waiter_answered, refusal, answers, place, placed, sync_refused, turned_away, waiter_of, waits_join, waits_on, waits_sync}
 use Rattle.kb_groups.specs.Members.{Roster, changed, each, has_none, keeping, member, put, without}
-use Rattle.kb_groups.specs.Rebalance.{Step, all_join, joined_reply, next_generation, completed, ended, ended_by, freed, is_joining, looked_at, next_leader, opened, opened_unless, sync_freed}
+use Rattle.kb_groups.specs.Rebalance.{Step, all_join, joined_reply, next_generation, ended, ended_by, freed, is_joining, looked_at, next_leader, opened, opened_unless, sync_freed}
 use Rattle.kb_groups.specs.Protocols.{chosen}
 use Rattle.kb_groups.specs.Bytes.{group_bytes, is_past, sync_if, sync_within}
 use Rattle.kb_groups.specs.Calls as one

@@ -26,9 +26,8 @@ use Rattle.kb_groups.specs.declared.code.Code.TheVariants as of
 use Rattle.kb_groups.specs.declared.borrowed.Join.{Join}
 use Rattle.kb_groups.specs.Calls as one
 use Rattle.kb_groups.specs.Moments.{tick}
-use Rattle.kb_groups.specs.Rebalance.{Step}
 use Rattle.kb_coordinator.specs.declared.groups.Entry.{Entry}
-use Rattle.kb_coordinator.specs.Calls.{after_heartbeat, after_join, after_may_commit, after_sync, at_moment, by_group, deleted, has_members, hung_up, is_accepted, is_due, is_there, join_code, joined_by, left, room, some_released, some_ticked, sync_answer, sync_in, ticked, Ticks}
+use Rattle.kb_coordinator.specs.Calls.{after_heartbeat, after_join, after_may_commit, after_sync, at_moment, by_group, deleted, has_members, hung_up, is_accepted, is_due, is_there, join_code, joined_by, room, some_released, some_ticked, sync_answer, sync_in, ticked, Ticks}
 use Rattle.kb_coordinator.specs.Groups as co
 use Rattle.kb_coordinator.specs.Groups.{Groups, first_above, found, silent}
 use Rattle.kb_coordinator.specs.Replies.{join_refusal}
@@ -37,20 +36,19 @@ use Rattle.kb_wire.specs.declared.error_code.ErrorCode.TheVariants as codes
 use Rattle.kb_topics.specs.Known.{has_committed}
 use Rattle.kb_tenant_state.specs.World.{World, new_world}
 use Rattle.kb_tenant.specs.OffsetCommit.{asked_commit}
-use Rattle.kb_tenant.specs.Replies.{Shuts}
 use Rattle.kb_tenant.specs.Entries.{commit_entries, delete_groups_entries, describe_groups_entries, within}
 use Rattle.kb_tenant.specs.Serve as tenant
 use Rattle.kb_tenant.specs.Turns.{in_turn}
 use Rattle.kb_tenant.specs.declared.limits.DataLimits.{DataLimits}
 use Rattle.kb_tenant.specs.declared.node.Node.{Node}
 use Rattle.kb_tenant_api.specs.Deletions.{all_deleted, deleted_entry, without_each, without_empty, AreFewer}
-use Rattle.kb_tenant_api.specs.Replies.{Reaction, Plain, Rebalances, replies}
+use Rattle.kb_tenant_api.specs.Replies.{Rebalances, replies}
 use Rattle.kb_tenant_api.specs.declared.answer.Answer.{Answer}
 use Rattle.kb_tenant_api.specs.declared.answer.Answer.TheVariants as answers
-use Rattle.kb_tenant_api.specs.Serve.{AreGroupsAfter, AreGroupsBy, Outcome, if_read, of_delete, of_describe, of_groups, of_heartbeat, of_join, of_leave, of_list, of_offset_commit, of_sync, of_topics, served, sync_reaction}
+use Rattle.kb_tenant_api.specs.Serve.{AreGroupsAfter, AreGroupsBy, Outcome, if_read, of_delete, of_describe, of_heartbeat, of_join, of_leave, of_list, of_offset_commit, of_sync, of_topics, served, sync_reaction}
 use Rattle.kb_tenant_api.specs.Turns.{PassGroups}
 use Rattle.kb_tenant_api.specs.Waiters.{AreServed, AreTicked, IsWaitTold, IsWaitToldBy, given, members_on, once, rebalances, replies_on, waiting, waiting_in}
-use Rattle.kb_tenant_api.proofs.Waiters.{all, dropped_none, dropped_waits, join_waits, leave_waits, tick_waits, touched_waits, within_waits}
+use Rattle.kb_tenant_api.proofs.Waiters.{dropped_none, dropped_waits, join_waits, leave_waits, tick_waits, touched_waits, within_waits}
 
 -- 1. One group among the others
 

@@ -1,12 +1,12 @@
 -- What a call that deletes all that a group committed makes of the catalog.
-use Rattle.std.proofs.Common.{◌≡◌, ◌∙◌, ℕ, zero, suc, Bool, true, false, cond, List, [], ◌∷◌, length, map, Option, Some, None, refl, sym, ap, subst}
+use Rattle.std.proofs.Common.{◌≡◌, ◌∙◌, ℕ, zero, suc, Bool, true, false, cond, List, [], ◌∷◌, map, Option, Some, None, refl, sym, ap}
 use Rattle.std.proofs.lemmas.List.{length-map}
-use Rattle.std.specs.Prelude.{pos, slice_get}
+use Rattle.std.specs.Prelude.{slice_get}
 use Rattle.std.specs.Option.{option_map, option_and_then}
 use Rattle.kb_topics.specs.declared.command.Command.TheVariants.{DeleteGroup}
 use Rattle.kb_topics.specs.Known.{Known, PartitionState, TopicState, has_committed, step, topic_at, without_commit, without_commits, without_group}
 use Rattle.kb_topics.proofs.Groups.{at_less, less, was_there}
-use Rattle.kb_tenant_state.specs.Parts.{recorded_start, start_said}
+use Rattle.kb_tenant_state.specs.Parts.{start_said}
 use Rattle.kb_tenant_state.specs.Tied.{counted, partition_count}
 use Rattle.kb_tenant_state.proofs.Starts.{SameStarts}
 use Rattle.kb_tenant_state.proofs.StillKept.{WereThere}

@@ -3,7 +3,7 @@
 //! An id is recorded before it is answered, and batches with it come later. But a loss of power may leave a batch and not the record, and
 //! an older catalog may be put beside newer files. Then the id would be given out again, and the first batches of its new producer would
 //! be taken for repeats of the former one's. So each such id is given out to nobody.
-ghost use Rattle.std.specs.Prelude.{◌≡◌, ◌≤◌, ◌<◌, ◌+◌, ◌-◌, ◌^◌, ℕ, Ok, fold, map, max};
+ghost use Rattle.std.specs.Prelude.{◌≡◌, ◌<◌, ◌+◌, ◌-◌, ◌^◌, ℕ, Ok, max};
 ghost use Rattle.kb_store.specs.Disk.{Files, Table};
 ghost use Rattle.kb_topics.specs.Catalog.{known};
 ghost use Rattle.kb_tenant_state.specs.Ids.{next_id_among, next_id_among_all, next_unused, skipped, Skips};

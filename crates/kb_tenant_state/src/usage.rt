@@ -1,4 +1,4 @@
-//! How much a tenant has: the bytes of its batches, its partitions, and the offsets that its groups have committed.
+//! How much a tenant has: the bytes of its batches, its partitions, and the offsets that its groups have committed, with their texts.
 ghost use Rattle.std.specs.Prelude.{◌≡◌, ◌≢◌, ◌<◌, ◌-◌, ◌+◌, ◌^◌, ℕ, Ok, Some, length, min, option_map, sum_by, IfOk};
 ghost use Rattle.std.specs.Option.{option_and_then};
 ghost use Rattle.kb_store.specs.Disk.{Files, Table};

@@ -1,5 +1,5 @@
 //! Room for a reply, whatever it is to answer.
-ghost use Rattle.std.specs.Prelude.{◌≡◌, ◌≤◌, ◌<◌, ◌*◌, ◌^◌, OnOk, OnErr, SomeIff};
+ghost use Rattle.std.specs.Prelude.{◌≡◌, ◌≤◌, ◌<◌, ◌*◌, ◌^◌, OnOk, SomeIff};
 ghost use Rattle.kb_api_data.specs.Layouts.{produce_request, produce_topic};
 ghost use Rattle.kb_tenant.specs.Room.{entry_length, length_due, reply_length as reply_length_of, topic_length as topic_length_of};
 

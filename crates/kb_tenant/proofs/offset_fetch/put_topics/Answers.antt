@@ -1,4 +1,4 @@
-use Rattle.std.proofs.Common.{◌∙◌, ap, map, subst, sym}
+use Rattle.std.proofs.Common.{◌∙◌, ap, subst, sym}
 use Rattle.std.specs.Prelude.{ℕ, List, Option, Some}
 use Rattle.std.proofs.lemmas.Result.{on_ok_weaker}
 use Rattle.kb_wire.specs.Codec.{array}

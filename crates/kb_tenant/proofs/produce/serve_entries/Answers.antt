@@ -1,4 +1,4 @@
-use Rattle.std.proofs.Common.{◌++◌, ◌∷◌, [], IsErr, Ok, refl, rules}
+use Rattle.std.proofs.Common.{◌++◌, ◌∷◌, [], IsErr, Ok, rules}
 use Rattle.kb_api_data.specs.declared.produce_v5.ProducePartitionReplyV5.{ProducePartitionReplyV5}
 use Rattle.kb_tenant_state.specs.Parts.{scene}
 use Rattle.kb_tenant.specs.Produce.{entry_written, progress, entry_served, where_due}

@@ -1,6 +1,5 @@
 use Rattle.std.proofs.Common.{rules, ◌≡◌, ◌∙◌, ◌++◌, sym, ap, refl, subst, Ok, of_z, to_z, w32}
 use Rattle.kb_api_group.specs.Layouts.{delete_groups_reply, delete_groups_request}
-use Rattle.kb_coordinator.specs.Groups.{silent}
 use Rattle.kb_tenant.specs.Entries.{delete_groups_entries, within}
 use Rattle.kb_tenant.specs.Replies.{begun}
 use Rattle.kb_tenant.specs.Told.{CatalogFailed}

@@ -1,10 +1,9 @@
-use Rattle.std.proofs.Common.{◌≡◌, ◌∙◌, ◌-◌, ◌^◌, ap, sym, subst, Ok, Result, ℕ, Bool}
+use Rattle.std.proofs.Common.{◌≡◌, ◌∙◌, ◌-◌, ◌^◌, ap, sym, subst, Ok, Result, ℕ}
 use Rattle.std.specs.Prelude.{min}
 use Rattle.kb_tenant_state.specs.Parts.{scene}
 use Rattle.kb_tenant_state.specs.Stored.{stored_in}
 use Rattle.kb_tenant_state.specs.Told.{IsWant, Tells}
 use Rattle.kb_tenant_state.specs.declared.fault.PartitionFault.{PartitionFault}
-use Rattle.kb_tenant.specs.Produce.{is_full}
 use Rattle.kb_tenant.proofs.Storing.{full_is}
 use Rattle.kb_tenant.proofs.Telling.{done_so}
 use Rattle.kb_tenant.proofs.produce.full.is_full.Goals as goal

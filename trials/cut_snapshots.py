@@ -5,7 +5,7 @@
 
 A broker makes topics, records and commits. A snapshot of its catalog is put beside the catalog, as a new generation, of which each batch in
 turn is zeros, or missing. Behind the first batch a hole takes nothing: the start goes on, tells of the snapshot and leaves it alone, and all
-is there, over three starts. Where a command stands behind the snapshot, where the catalog is not there any more, where the first batch is
+is there, over three starts, of which the second removes the snapshot. Where a command stands behind the snapshot, where the catalog is not there any more, where the first batch is
 gone that says how far the snapshot reaches, or where the generation with the hole is in use, the start is refused and nothing is changed.
 Before each start `kbroker check --data` has to say the same, and to change nothing. It prints what was wrong, and how many states of how
 many.

@@ -151,8 +151,8 @@ def expected(*more):
     return dict(sorted(out.items()))
 
 
-def serves(place, *flags):
-    """What is wrong over three starts, on the first two of which something is written."""
+def serves(place, *flags, behind=lambda number: ""):
+    """What is wrong over three starts, on the first two of which something is written, and behind each, where that is looked at."""
     made = []
     for number in range(3):
         client = place.start(*(flags if not number else ()))
@@ -164,6 +164,9 @@ def serves(place, *flags):
         client.create(made[-1], retention_ms=-1)
         client.produce(made[-1], batch(made[-1]))
         place.stop()
+        wrong = behind(number)
+        if wrong:
+            return wrong
     return ""
 
 
@@ -181,14 +184,23 @@ def refuses(place):
 
 
 def stays(snapshot):
-    """What is wrong with three starts beside a snapshot that is told of and left alone."""
+    """What is wrong with three starts beside a snapshot that the first one tells of and leaves alone. That one writes the catalog anew, as
+    a topic is gone, and so the second removes the snapshot."""
     kept = snapshot.place.read(snapshot.name)
-    wrong = serves(snapshot.place)
+
+    def behind(number):
+        if number:
+            return "the snapshot is not removed" if snapshot.has(snapshot.name) else ""
+        is_left = snapshot.has(snapshot.name) and snapshot.place.read(snapshot.name) == kept
+        return "" if is_left else "the snapshot is not left alone"
+
+    wrong = serves(snapshot.place, behind=behind)
     if wrong:
         return wrong
-    if snapshot.place.broker.log().count("snapshots that were not finished: 1\n") != 3:
-        return "it is not told at each start"
-    return "" if snapshot.has(snapshot.name) and snapshot.place.read(snapshot.name) == kept else "the snapshot is not left alone"
+    log = snapshot.place.broker.log()
+    if log.count("snapshots that were not finished: 1\n") != 1:
+        return "it is not told once"
+    return "" if log.count(f"dropped file {int(snapshot.name[:-4])} whole, ") == 1 else "its removal is not told"
 
 
 # ---- The states

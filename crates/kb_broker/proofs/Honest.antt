@@ -147,7 +147,10 @@ strays-is a b e = ap (λ (x : OnStore _). x.strays) e
 pub by_store-is : {S : Type 0} (a b : OnStore S) → a ≡ b → a.by_store ≡ b.by_store
 by_store-is a b e = ap (λ (x : OnStore _). x.by_store) e
 
+pub commands-are : {S : Type 0} (a b : OnStore S) → a ≡ b → a.commands ≡ b.commands
+commands-are a b e = ap (λ (x : OnStore _). x.commands) e
+
 -- another state on the same store
-pub stands-on : {S : Type 0} (b : OnStore S) (x y : BrokerState) (store : S) (strays : Option (List ℕ)) (by_store : List ℕ) → x ≡ y → store ≡ b.store → strays ≡ b.strays
-    → by_store ≡ b.by_store → (let a : OnStore S = record { state = x; store = store; strays = strays; by_store = by_store } in a) ≡ record b { state = y }
-stands-on b x y store strays by_store e f g h = λ i. record { state = e i; store = f i; strays = g i; by_store = h i }
+pub stands-on : {S : Type 0} (b : OnStore S) (x y : BrokerState) (store : S) (strays : Option (List ℕ)) (by_store commands : List ℕ) → x ≡ y → store ≡ b.store → strays ≡ b.strays
+    → by_store ≡ b.by_store → commands ≡ b.commands → (let a : OnStore S = record { state = x; store = store; strays = strays; by_store = by_store; commands = commands } in a) ≡ record b { state = y }
+stands-on b x y store strays by_store commands e f g h k = λ i. record { state = e i; store = f i; strays = g i; by_store = h i; commands = k i }

@@ -41,13 +41,14 @@ AreLater log disk old new = IsLaterWith (disk old.shelf.store) (disk new.shelf.s
 
 -- 2. The broker
 
--- a broker, the store on which it stands, the files there that are of no log and are left alone, where it is known which they are, and how
--- many refusals of each tenant were the store's, by place
+-- a broker, the store on which it stands, the files there that are of no log and are left alone, where it is known which they are; and by
+-- place how many refusals of each tenant were the store's, and how many commands the log of its catalog has recorded
 pub record OnStore (S : Type 0) : Type 0 where
   pub state : BrokerState
   pub store : S
   pub strays : Option (List ℕ)
   pub by_store : List ℕ
+  pub commands : List ℕ
 
 -- whether the store has told the truth so far
 abbrev pub is_honest : {S : Type 0} → (S → Disk) → OnStore S → Type 0

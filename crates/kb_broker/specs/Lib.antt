@@ -12,5 +12,6 @@ pub mod Places
 pub mod Runs
 pub mod Script
 pub mod ScriptRun
+pub mod Shortened
 pub mod Speakers
 pub mod Truth

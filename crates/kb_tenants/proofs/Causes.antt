@@ -17,14 +17,14 @@ use Rattle.kb_tenant_api.specs.Hosted.{TenantState, refusals_of}
 use Rattle.kb_tenant_api.specs.Turns.{IsAccounted}
 use Rattle.kb_tenants.specs.Counts.{AreCounted, HasEndedAtStore, IsCounted, IsCountedFor, counts_of, no_counts, risen, store_counts, store_total, with_store}
 use Rattle.kb_tenants.specs.Members.{renumbered}
-use Rattle.kb_tenants.specs.Tenants.{AreKept, hosted, state_of}
+use Rattle.kb_tenants.specs.Tenants.{AreKept, all_commands, hosted, state_of}
 use Rattle.kb_tenants.specs.declared.counts.Counts.{Counts}
 use Rattle.kb_tenants.specs.declared.tenants.Tenant.{Tenant}
 use Rattle.kb_tenants.specs.declared.tenants.Tenants.{Tenants}
 use Rattle.kb_tenants.proofs.Accounted.{accounted_same, accounted_then, below_or_ended}
 use Rattle.kb_tenants.proofs.Change.{IsChange}
 use Rattle.kb_tenants.proofs.Renewal.{accounted_timed}
-use Rattle.kb_tenants.proofs.Hosted.{accounted_called, accounted_counted, accounted_own, after, refusals_here, stands, step_called, there_after, turn_counted, turn_own}
+use Rattle.kb_tenants.proofs.Hosted.{accounted_called, accounted_counted, accounted_own, after, recorded, refusals_here, stands, step_called, there_after, turn_counted, turn_own}
 
 -- what is counted for the tenant at a place
 counts_here : {L : Type 0} (ts : List (Tenant L)) (t : ℕ) (x : Tenant L) → slice_get ts t ≡ Some x
@@ -53,6 +53,17 @@ pub stores_stay : {L S : Type 0} (log : L → Log) (disk : S → Disk) (old : Te
 stores_stay {L} log disk old t x gs lt read =
     map-set_same (λ (z : Tenant L). z.counts.by_store) old.tenants.items t (record x { groups = gs }) x
     (ap (λ (z : Tenant L). z.counts.by_store) (sym (get_or_from_slice_get old.tenants.items t x x (stands log disk old t x lt read))))
+
+-- ... and no log of a catalog has other commands by that
+pub commands_stay : {L S : Type 0} (log : L → Log) (disk : S → Disk) (old : Tenants L S) (t : ℕ) (x : Tenant L) (gs : Groups)
+    → t < length (hosted log disk old) → x ≡ get_or old.tenants.items t x → all_commands log (after old t x x.parts gs x.counts old.shelf) ≡ all_commands log old
+commands_stay {L} log disk old t x gs lt read =
+    map-set_same (recorded log) old.tenants.items t (record x { groups = gs }) x
+    (ap (recorded log) (sym (get_or_from_slice_get old.tenants.items t x x (stands log disk old t x lt read))))
+
+pub commands_numbered : {L : Type 0} (log : L → Log) (first : ℕ) (ts : List (Tenant L)) → map (recorded log) (map (renumbered first) ts) ≡ map (recorded log) ts
+commands_numbered log first [] = refl
+commands_numbered log first (x ∷ ts) = ap (λ ns. recorded log x ∷ ns) (commands_numbered log first ts)
 
 -- the groups of each are numbered from another number
 pub stores_numbered : {L : Type 0} (first : ℕ) (ts : List (Tenant L)) → map (λ (z : Tenant L). z.counts.by_store) (map (renumbered first) ts) ≡ map (λ (z : Tenant L). z.counts.by_store) ts

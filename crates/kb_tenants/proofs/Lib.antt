@@ -19,3 +19,4 @@ pub mod Small
 pub mod SmallLog
 pub mod Synced
 pub mod Tied
+pub mod Unseen

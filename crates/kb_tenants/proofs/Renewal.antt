@@ -1,31 +1,32 @@
 -- What a renewal of a catalog, and a look at it, leave of all tenants.
-use Rattle.std.proofs.Common.{◌≡◌, ◌∙◌, ◌⊎◌, ⊎_elim, inl, inr, ◌≤◌, ◌<◌, ◌+◌, ◌^◌, ◌&&◌, ℕ, zero, suc, Bool, true, false, cond, nat_le, nat_lt, List, [], ◌∷◌, Some, length, get_or, sym, ap, refl, subst, arith}
+use Rattle.std.proofs.Common.{◌≡◌, ◌∙◌, ◌⊎◌, ⊎_elim, inl, inr, ◌≤◌, ◌<◌, ◌+◌, ◌-◌, ◌^◌, ◌&&◌, ℕ, zero, suc, Bool, true, false, cond, nat_le, nat_lt, List, [], ◌∷◌, Some, length, get_or, sym, ap, refl, subst, arith}
 use Rattle.std.proofs.lemmas.Bool.Decides.{nat_tests}
 use Rattle.std.specs.Prelude.{map, max, min, slice_get, string_bytes}
 use Rattle.std.specs.Vec.{with_item}
 use Rattle.std.proofs.Math.Seq.{map-set_same}
+use Rattle.std.proofs.lemmas.List.{map-set, get_or-set_other}
 use Rattle.kb_store.specs.Disk.{Disk}
 use Rattle.kb_log.specs.OnShelf.{Log, IsLawfulLog}
 use Rattle.kb_log.specs.Shelf.{Shelved}
 use Rattle.kb_topics.specs.declared.fault.CatalogFault.{CatalogFault}
-use Rattle.std.specs.Prelude.{Result, Ok, Err}
+use Rattle.std.specs.Prelude.{OnErr, Result, Ok, Err}
 use Rattle.kb_snapshot.specs.Renewal.{IsRenewal, Renews}
 use Rattle.kb_snapshot.specs.Snapshot as snapshots
-use Rattle.kb_tenant_state.specs.Counts.{END, IsCalm}
-use Rattle.kb_tenant_state.specs.Parts.{Seen, meta, raised, scene}
+use Rattle.kb_tenant_state.specs.Counts.{END, IsCalm, counted_by, counted_once}
+use Rattle.kb_tenant_state.specs.Parts.{Seen, meta, raised, refused, scene}
 use Rattle.kb_tenant_state.specs.Scene.{Scene}
 use Rattle.kb_tenant_state.specs.Steps.{calm_then}
 use Rattle.kb_tenant_state.specs.declared.parts.Parts.{Parts}
 use Rattle.kb_tenant_state.proofs.Put.{get_put}
 use Rattle.kb_tenant_api.specs.Hosted.{kept_of, refusals_of}
 use Rattle.kb_tenant_api.specs.Turns.{IsAccounted, IsTurn}
-use Rattle.kb_tenants.specs.Renewal.{IsLookedAt, IsRenewedIfDue, MAX_SNAPSHOT, MIN_COMMANDS, is_due, limit, next_look, renew_at_of, snapshot_of}
-use Rattle.kb_tenants.specs.Tenants.{AreKept, AreSettled, AreSound, Agree, HaveNothingRefused, IsIdleUntil, IsLeftAlone, commands_of, hosted, parts_of, shelf_is_honest, state_of, strays_of}
+use Rattle.kb_tenants.specs.Renewal.{IsLookedAt, IsRenewedIfDue, IsShortenedFor, MAX_SNAPSHOT, MIN_COMMANDS, is_due, limit, next_look, renew_at_of, snapshot_of}
+use Rattle.kb_tenants.specs.Tenants.{AreKept, AreSettled, AreSound, Agree, HaveNothingRefused, IsIdleUntil, IsLeftAlone, all_commands, commands_of, hosted, parts_of, shelf_is_honest, state_of, strays_of}
 use Rattle.kb_tenants.specs.declared.counts.Counts.{Counts}
 use Rattle.kb_tenants.specs.declared.tenants.Tenant.{Tenant}
 use Rattle.kb_tenants.specs.declared.tenants.Tenants.{Tenants}
 use Rattle.kb_tenants.proofs.Change.{IsChange}
-use Rattle.kb_tenants.proofs.Hosted.{after, calm_from, commands_called, kept_here, recorded, stands, was_called}
+use Rattle.kb_tenants.proofs.Hosted.{after, calm_from, commands_called, commands_here, kept_here, recorded, refusals_here, stands, step_called, there_after, was_called}
 use Rattle.kb_tenants.proofs.Others.{put_here}
 
 -- ---- counts
@@ -59,6 +60,14 @@ look_clipped commands len lt = by (nat_lt (limit (min len END)) commands) (nat_l
 pub renewed : {a b : Scene Seen} → IsRenewal a b → IsChange a b
 renewed r = record { frame = r.frame; named = r.named; grows = r.grows; settles = r.settles }
 
+-- one refusal, and what the store refused meanwhile
+counted_more : (before after m refused : ℕ) → refused ≡ m → after ≡ max (counted_once before) (min (before + m) END) → after ≡ counted_by (max 1 refused) before
+counted_more before after m refused same is = by (nat_lt before END) refl is
+  where
+    by : (b : Bool) → nat_lt before END ≡ b → after ≡ max (cond b (before + 1) before) (min (before + m) END) → after ≡ max before (min (before + max 1 refused) END)
+    by true e h = let lt : before < END = grind (arith, nat_tests, e) in omega (arith, lt, h, same)
+    by false e h = let le : END ≤ before = grind (arith, nat_tests, e) in omega (arith, le, h, same)
+
 -- where nothing was refused the log has the commands of the snapshot
 renewed_commands : (a b : Scene Seen) (r : Result (Unit {0}) CatalogFault) → Renews a b r → IsCalm a.state.refusals b.state.refusals
     → b.state.commands ≡ length (snapshots.snapshot_of b.state.world.known)
@@ -84,6 +93,45 @@ module _ {L S : Type 0} (log : L → Log) (disk : S → Disk) (law : (l : L) →
       ∙ renewed_commands (scene log disk x.parts old.shelf) (scene log disk mid shelf) r told first
       ∙ ap (λ k. length (snapshots.snapshot_of k)) renewal.known
       ∙ sym (ap snapshot_of (was_called log disk law old t x lt read kept mid p n x.groups cs shelf counted change))
+
+  -- whatever was refused, the log has the commands of the snapshot or those that it had
+  either_renewed : (r : Result (Unit {0}) CatalogFault) → Renews (scene log disk x.parts old.shelf) (scene log disk mid shelf) r → OnErr r (mid ≡ refused x.parts)
+      → ((meta log mid).end ≡ (meta log x.parts).end) ⊎ ((meta log mid).end ≡ length (snapshots.snapshot_of x.parts.catalog.known))
+  either_renewed (Ok u) told same = inr (told.commands ∙ ap (λ k. length (snapshots.snapshot_of k)) renewal.known)
+  either_renewed (Err f) told same = inl (ap (λ (v : Parts L). (meta log v).end) same)
+
+  -- what was counted before the store's refusals are
+  once_renewed : (r : Result (Unit {0}) CatalogFault) → Renews (scene log disk x.parts old.shelf) (scene log disk mid shelf) r
+      → (mid.refusals ≡ x.parts.refusals) ⊎ (mid.refusals ≡ counted_once x.parts.refusals)
+  once_renewed (Ok u) told = told.counted
+  once_renewed (Err f) told = inr told.counted
+
+  pub shortened_renewed : (r : Result (Unit {0}) CatalogFault) → Renews (scene log disk x.parts old.shelf) (scene log disk mid shelf) r → OnErr r (mid ≡ refused x.parts)
+      → (m : ℕ) → n ≡ min (x.parts.refusals + m) END → (disk shelf.store).failures ≡ (disk old.shelf.store).failures + m → IsShortenedFor log disk t old (after old t x p x.groups cs shelf)
+  shortened_renewed r told same m count sum =
+      let new = after old t x p x.groups cs shelf in
+      let change = renewed renewal in
+      let first = stands log disk old t x lt read in
+      let last = there_after log disk law old t x p x.groups cs shelf lt read kept (step_called log disk law old t x lt read kept mid p n x.groups cs shelf counted change) in
+      let snapshot : snapshot_of (kept_of (hosted log disk old) t) ≡ length (snapshots.snapshot_of x.parts.catalog.known) =
+          ap snapshot_of (was_called log disk law old t x lt read kept mid p n x.groups cs shelf counted change) in
+      let had = commands_here log old.tenants.items t x first in
+      let has = commands_called log disk law old t x lt read kept mid p n x.groups cs shelf counted change in
+      let was = refusals_here log (disk old.shelf.store).files old.tenants.items t x first in
+      let is = refusals_here log (disk shelf.store).files new.tenants.items t (record x { parts = p; counts = cs }) last in
+      let more = ap (λ (v : Parts L). v.refusals) counted in
+      record {
+        shorter = λ calm. let equal = commands_renewed r told calm in omega (arith, equal);
+        either = ⊎_elim (λ e. inl (has ∙ e ∙ sym had)) (λ e. inr (has ∙ e ∙ sym snapshot)) (either_renewed r told same);
+        counted = ⊎_elim
+            (λ e. inl (omega (arith, e, more, was, is, count, sum)))
+            (λ e. inr (counted_more (refusals_of (hosted log disk old) t) (refusals_of (hosted log disk new) t) m ((disk shelf.store).failures - (disk old.shelf.store).failures)
+                (omega (arith, sum)) (is ∙ more ∙ ap (λ k. max k n) e ∙ ap (max (counted_once x.parts.refusals)) count ∙ ap (λ k. max (counted_once k) (min (k + m) END)) (sym was))))
+            (once_renewed r told);
+        others = λ u ne.
+            ap (λ ns. get_or ns u 0) (map-set (recorded log) old.tenants.items t (record x { parts = p; counts = cs }))
+            ∙ get_or-set_other (map (recorded log) old.tenants.items) t u (meta log p).end 0 ne;
+      }
 
 -- ---- when a tenant is looked at next
 

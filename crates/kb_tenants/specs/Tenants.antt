@@ -63,9 +63,13 @@ shelf_is_honest disk ts = (disk ts.shelf.store).honest
 abbrev pub hosted : {L S : Type 0} → (L → Log) → (S → Disk) → Tenants L S → List TenantState
 hosted log disk ts = map (state_of log (disk ts.shelf.store).files) ts.tenants.items
 
--- how many commands the log of a tenant's catalog has recorded; 0 where there is no such tenant
+-- how many commands the log of each tenant's catalog has recorded, by place
+abbrev pub all_commands : {L S : Type 0} → (L → Log) → Tenants L S → List ℕ
+all_commands {L} log ts = map (λ (x : Tenant L). (meta log x.parts).end) ts.tenants.items
+
+-- how many that of the tenant at a place has; 0 where there is no such tenant
 abbrev pub commands_of : {L S : Type 0} → (L → Log) → Tenants L S → ℕ → ℕ
-commands_of {L} log ts t = get_or (map (λ (x : Tenant L). (meta log x.parts).end) ts.tenants.items) t 0
+commands_of log ts t = get_or (all_commands log ts) t 0
 
 -- that log has no room for one more command
 abbrev pub IsCatalogFull : {L S : Type 0} → (L → Log) → Tenants L S → ℕ → Type 0

@@ -4,4 +4,5 @@ pub mod Observed
 pub mod Pages
 pub mod Refusals
 pub mod Server
+pub mod Shortened
 pub mod Turned

@@ -10,7 +10,7 @@ use clap::{Arg, ArgAction, ArgMatches, Command};
 use kb_broker::{OpenFault, TenantView};
 use kb_node::{Listing, Settings, tenant_names};
 use kb_operator::{
-    FolderJournal, Held, Journal, OperatorFault, examine, find_deleted, write_report,
+    FolderJournal, Held, Journal, OperatorFault, examine, find_deleted, store_to_read, write_report,
 };
 use kb_restart::{Counts, FileLength, Restarted, file_lengths, open_broker};
 use kb_server_log::now;
@@ -245,6 +245,23 @@ fn files_left<S: PutsOff>(
         }
     }
     Ok(files)
+}
+
+/// What a broker that opened has, and what it leaves now of the files in its journal's folder.
+pub fn held_now<S: PutsOff + Drop>(
+    rt: &HostRuntime,
+    opened: &Restarted<S>,
+    folder: &FolderJournal,
+) -> Result<Held, Fault> {
+    let alloc = rt.alloc();
+    let mut store = store_to_read(rt, folder)?;
+    match file_lengths(alloc, &mut store) {
+        Ok(there) => {
+            let files = files_left(alloc, opened.broker.store(), &there, &[])?;
+            Ok(held(opened.counts, &files))
+        }
+        Err(fault) => Err(Fault::Operator(folder.of_store(alloc, fault))),
+    }
 }
 
 /// What a broker has that opened with those files.

@@ -1,19 +1,20 @@
 //! `kbroker serve`: serves sockets, and tells of it.
 
-ghost use Rattle.std.specs.Prelude.{◌≡◌, ◌≤◌, ◌<◌, ◌*◌, ◌-◌, ◌/◌, ◌^◌, max, min, length, List, [], IfErr, IfOk, OnOk, None, Some};
+ghost use Rattle.std.specs.Prelude.{◌≡◌, ◌≤◌, ◌<◌, ◌*◌, ◌-◌, ◌/◌, ◌^◌, max, min, true, length, List, [], IfErr, IfOk, OnOk, None, Some};
 ghost use Rattle.kb_server_log.specs.Guard.{clock_after};
 ghost use Rattle.kb_server_log.specs.declared.guard.Reading.{Reading};
 ghost use Rattle.kb_node.specs.Cores.{seen};
 ghost use Rattle.kb_node.specs.Moves.{IsTurn};
 ghost use Rattle.kb_broker.specs.Hosts.{is_honest};
 ghost use Rattle.kbroker.specs.Ids.{AllGiveFresh};
+ghost use Rattle.kbroker.specs.Shortened.{may_shorten, AreShort};
 ghost use Rattle.kbroker.specs.Turned.{AreTurned, IsServed};
 
-use crate::catalogs::shorten_catalogs;
+use crate::catalogs::{may_shorten, shorten_catalogs};
 use crate::ids::skip_ids;
 use crate::listening::{listen, tell_listening};
 use crate::monitoring::Monitoring;
-use crate::open::{Start, consent_of, open_on, with_consent};
+use crate::open::{Start, consent_of, held_now, open_on, with_consent};
 use crate::telling::tell_turn;
 use crate::{Fault, config};
 use clap::{Arg, ArgAction, ArgMatches, Command};
@@ -167,11 +168,11 @@ fn serve_broker<S: Store + Drop, L: PartitionLog + Drop>(
     Ok((edge, served))
 }
 
-/// Opens the broker that is served, to which nobody is connected. Members of a broker before are none of this one, and no producer id of a
-/// batch is given out again. What is said of files is of before catalogs were written anew.
+/// Opens the broker that is served, to which nobody is connected, and says what it has then. Members of a broker before are none of this
+/// one, and no producer id of a batch is given out again.
 ///
-/// Where the folder has files of no log no catalog is written anew: they may be a later part of one that was damaged, and a person has to
-/// see them before a later one takes their place.
+/// Each catalog to whose tenant nothing was refused is short then, whatever files are of no log: but with `--drop-damaged` no catalog is
+/// written anew beside such a file.
 fn open<S: PutsOff + Drop>(
     rt: &HostRuntime,
     start: Start<'_>,
@@ -181,13 +182,15 @@ fn open<S: PutsOff + Drop>(
 ) -> Result<(Restarted<S>, Held), Fault>
     ensures alone { IfOk result (λ both. both.0.broker.state.lines ≡ []) }
     ensures fresh { IfOk result (λ both. is_honest S.disk both.0.broker → AllGiveFresh both.0.broker.state) }
+    ensures short { IfOk result (λ both. is_honest S.disk both.0.broker
+        → may_shorten start.entry.consent both.0.strays.items ≡ true → AreShort both.0.broker) }
 {
-    let (mut opened, held) = open_on(rt, start, store, folder, journal)?;
+    let (mut opened, _) = open_on(rt, start, store, folder, journal)?;
     let limits = group_limits(rt.alloc(), start.settings)?;
     opened.broker.limit_groups(&limits);
     opened.broker.number_members_from(first_member(now(rt)));
     skip_ids(rt, &mut opened.broker, folder, journal)?;
-    if opened.strays.is_empty() {
+    if may_shorten(start.consent, &opened.strays) {
         shorten_catalogs(rt.alloc(), &mut opened.broker);
     }
     if start.settings.sync != Sync::Never
@@ -195,22 +198,26 @@ fn open<S: PutsOff + Drop>(
     {
         return Err(Fault::Operator(folder.of_store(rt.alloc(), fault)));
     }
+    let held = held_now(rt, &opened, folder)?;
     Ok((opened, held))
 }
 
-/// Makes what a start left last before anybody is served: else what is acknowledged next would stand behind what was dropped.
+/// Makes what a start left last before anybody is served: else what is acknowledged next would stand behind what was dropped. It ends
+/// once nothing is put off any more; so many commits that something still is are never made.
 fn settle<S: Store, L: PartitionLog + Drop>(broker: &mut Broker<S, L>) -> Result<(), StoreFault>
     requires { broker.old.state.lines ≡ [] }
     ensures alone { broker.new.state.lines ≡ [] }
     ensures stays { is_honest S.disk broker.new → is_honest S.disk broker.old × (broker.new.state ≡ broker.old.state) }
+    ensures commands { broker.new.commands ≡ broker.old.commands }
+    ensures settled { OnOk result (S.settled broker.new.store) }
 {
     for _ in 0..TURNS {
         if broker.is_synced() {
-            break;
+            return Ok(());
         }
         broker.commit()?;
     }
-    Ok(())
+    Err(StoreFault::Device)
 }
 
 /// Turns an edge until the turns are used up, by a clock that follows the wall clock but not its jumps. An `Err` is that of a commit:

@@ -74,6 +74,7 @@ impl<L: PartitionLog + Drop, S: Store> Engine<L, S> {
         ensures store { self.new.store ≡ self.old.store }
         ensures strays { self.new.strays ≡ self.old.strays }
         ensures by_store { self.new.by_store ≡ self.old.by_store }
+        ensures commands { self.new.commands ≡ self.old.commands }
     {
         let connection = &self.connections[i];
         if !connection.has_member() {

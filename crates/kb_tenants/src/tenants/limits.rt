@@ -3,7 +3,7 @@ ghost use Rattle.std.specs.Prelude.{◌≡◌, ◌<◌, ◌^◌};
 ghost use Rattle.kb_tenants.specs.Counts.{store_counts};
 ghost use Rattle.kb_tenants.specs.Limited.{limited_at};
 ghost use Rattle.kb_tenants.specs.Members.{HaveNoGroup};
-ghost use Rattle.kb_tenants.specs.Tenants.{AreKept, hosted};
+ghost use Rattle.kb_tenants.specs.Tenants.{AreKept, all_commands, hosted};
 
 use super::Tenants;
 use super::moment::next_retention_time;
@@ -21,6 +21,7 @@ impl<L: PartitionLog + Drop, S: Store> Tenants<L, S> {
         ensures state { hosted L.log S.disk self.new ≡ limited_at tenant limits (hosted L.log S.disk self.old) }
         ensures strays { self.new.strays ≡ self.old.strays }
         ensures counts { store_counts self.new ≡ store_counts self.old }
+        ensures commands { all_commands L.log self.new ≡ all_commands L.log self.old }
         ensures shelf { self.new.shelf ≡ self.old.shelf }
     {
         if tenant >= self.tenants.len() {

@@ -3,7 +3,7 @@ ghost use Rattle.std.specs.Prelude.{◌≡◌, ◌<◌, ◌≤◌, ◌^◌, map}
 ghost use Rattle.std.specs.List.{All};
 ghost use Rattle.kb_tenants.specs.Counts.{store_counts};
 ghost use Rattle.kb_tenants.specs.Members.{HasNoGroup, HaveNoGroup, numbered_from, renumbered};
-ghost use Rattle.kb_tenants.specs.Tenants.{AreKept, hosted, parts_of};
+ghost use Rattle.kb_tenants.specs.Tenants.{AreKept, all_commands, hosted, parts_of};
 
 use super::{Tenant, Tenants};
 use kb_log::PartitionLog;
@@ -33,6 +33,7 @@ impl<L: PartitionLog + Drop, S: Store> Tenants<L, S> {
         ensures parts { parts_of self.new.tenants.items ≡ parts_of self.old.tenants.items }
         ensures strays { self.new.strays ≡ self.old.strays }
         ensures counts { store_counts self.new ≡ store_counts self.old }
+        ensures commands { all_commands L.log self.new ≡ all_commands L.log self.old }
         ensures shelf { self.new.shelf ≡ self.old.shelf }
     {
         number_each(&mut self.tenants, first);

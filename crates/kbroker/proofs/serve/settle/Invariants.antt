@@ -7,4 +7,5 @@ abbrev pub invariant-loop : goal.invariant-loop
 invariant-loop g l = record {
   alone : l.broker.state.lines ≡ [];
   stays : is_honest g.S.Store.disk l.broker → is_honest g.S.Store.disk l.fn.broker × (l.broker.state ≡ l.fn.broker.state);
+  commands : l.broker.commands ≡ l.fn.broker.commands;
 }

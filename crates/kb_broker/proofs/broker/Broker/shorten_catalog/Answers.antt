@@ -5,6 +5,7 @@ use Rattle.kb_tenants.proofs.Passed.{length_named}
 use Rattle.kb_isolation_spec.specs.Broker.{BrokerState}
 use Rattle.kb_isolation_spec.specs.Stranded.{NoneStranded}
 use Rattle.kb_broker.specs.Hosts.{IsLaterWith, OnStore, is_honest}
+use Rattle.kb_broker.specs.Shortened.{IsShort, IsShortenedAt}
 use Rattle.kb_broker.proofs.Skipped.{skipped-held, skipped-ready}
 use Rattle.kb_broker.proofs.broker.Broker.shorten_catalog.Goals as goal
 
@@ -50,6 +51,14 @@ pub returns-clause-stays : goal.returns-clause-stays
 returns-clause-stays g c = λ honest t.
     let new = c.shorten_catalog.new.self in
     subst (λ (x : OnStore g.row.S.Denot). tenants.kept_of new.state.tenants t ≡ tenants.kept_of x.state.tenants t) c.self.view_is (c.shorten_catalog.ensures.stays honest t)
+
+pub returns-clause-shortened : goal.returns-clause-shortened
+returns-clause-shortened g c =
+    subst (λ (x : OnStore g.row.S.Denot). IsShortenedAt g.S.Store.disk c.args.place x c.shorten_catalog.new.self) c.self.view_is c.shorten_catalog.ensures.shortened
+
+pub returns-clause-short : goal.returns-clause-short
+returns-clause-short g c =
+    subst (λ (x : OnStore g.row.S.Denot). IsShort c.args.place x → c.shorten_catalog.new.self ≡ x) c.self.view_is c.shorten_catalog.ensures.short
 
 pub returns-clause-held : goal.returns-clause-held
 returns-clause-held g c = λ honest held.

@@ -14,7 +14,7 @@ use Rattle.kb_broker.specs.Speakers.{IsHeard}
 use Rattle.kb_broker.proofs.Fields.{carried-on, queue-closed, rising-inside}
 use Rattle.kb_broker.proofs.Handled.{at-inside}
 use Rattle.kb_broker.proofs.Heard.{heard-removed, roomy-removed}
-use Rattle.kb_broker.proofs.Honest.{by_store-is, state-is, store-is, strays-is, stands-on}
+use Rattle.kb_broker.proofs.Honest.{by_store-is, commands-are, state-is, store-is, strays-is, stands-on}
 use Rattle.kb_broker.proofs.RequestLimits.{limit-removed}
 use Rattle.kb_broker.proofs.engine.Engine.disconnect.Given as given
 use Rattle.kb_broker.proofs.engine.Engine.disconnect.Goals as goal
@@ -44,15 +44,15 @@ remove-requires g c =
 
 pub returns-in-Some-clause-state : goal.returns-in-Some-clause-state
 returns-in-Some-clause-state g c =
-    stands-on c.args.self.now _ _ _ _ _ (closed-found _ c.leave.new.self.state c.args.self.now.state c.in-Some.i c.args.number c.remove.result c.remove.new.self.items (state-is _ _ c.self.view_is) c.requires.rising (gone g c) c.remove.ensures.items) (store-is _ _ c.self.view_is ∙ c.leave.ensures.store) (strays-is _ _ c.self.view_is ∙ c.leave.ensures.strays)
-    (by_store-is _ _ c.self.view_is ∙ c.leave.ensures.by_store)
+    stands-on c.args.self.now _ _ _ _ _ _ (closed-found _ c.leave.new.self.state c.args.self.now.state c.in-Some.i c.args.number c.remove.result c.remove.new.self.items (state-is _ _ c.self.view_is) c.requires.rising (gone g c) c.remove.ensures.items) (store-is _ _ c.self.view_is ∙ c.leave.ensures.store) (strays-is _ _ c.self.view_is ∙ c.leave.ensures.strays)
+    (by_store-is _ _ c.self.view_is ∙ c.leave.ensures.by_store) (commands-are _ _ c.self.view_is ∙ c.leave.ensures.commands)
 
 pub returns-in-Some-clause-output : goal.returns-in-Some-clause-output
 returns-in-Some-clause-output g c =
     c.into_output.ensures ∙ sym (ap output_in (find-found c.args.self.now.state c.in-Some.i c.args.number c.remove.result c.requires.rising (gone g c).found))
 
 pub returns-in-None-clause-state : goal.returns-in-None-clause-state
-returns-in-None-clause-state g c = stands-on c.args.self.now _ _ _ _ _ (closed-none c.args.self.now.state c.args.number c.in-None.ensures.none) refl refl refl
+returns-in-None-clause-state g c = stands-on c.args.self.now _ _ _ _ _ _ (closed-none c.args.self.now.state c.args.number c.in-None.ensures.none) refl refl refl refl
 
 pub returns-in-None-clause-output : goal.returns-in-None-clause-output
 returns-in-None-clause-output g c = c.new.ensures.items ∙ sym (ap output_in (find-none c.args.number c.args.self.now.state.lines c.in-None.ensures.none))

@@ -26,5 +26,6 @@ invariant_of-self g c =
 
 pub returns : goal.returns
 returns g c =
-    limited-made c.args.tenant c.args.limits _ c.args.self.now _ _ _ _ c.self.view_is c.limit_groups.ensures.state
+    limited-made c.args.tenant c.args.limits _ c.args.self.now _ _ _ _ _ c.self.view_is c.limit_groups.ensures.state
     (ap (λ x. x.store) c.limit_groups.ensures.shelf) (ap numbers_in c.limit_groups.ensures.strays) c.limit_groups.ensures.counts
+    c.limit_groups.ensures.commands

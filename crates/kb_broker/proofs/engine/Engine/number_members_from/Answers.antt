@@ -25,5 +25,6 @@ invariant_of-self g c =
 
 pub returns : goal.returns
 returns g c =
-    numbered-made c.args.first _ c.args.self.now _ _ _ _ c.self.view_is c.number_members_from.ensures.hosted
+    numbered-made c.args.first _ c.args.self.now _ _ _ _ _ c.self.view_is c.number_members_from.ensures.hosted
     (ap (λ x. x.store) c.number_members_from.ensures.shelf) (ap numbers_in c.number_members_from.ensures.strays) c.number_members_from.ensures.counts
+    c.number_members_from.ensures.commands

@@ -9,7 +9,7 @@ use Rattle.kb_broker.proofs.Fields.{carried-on, rising-inside}
 use Rattle.kb_broker.proofs.Handled.{at-inside}
 use Rattle.kb_broker.proofs.Parked.{queue-kept}
 use Rattle.kb_broker.proofs.Heard.{heard-set, roomy}
-use Rattle.kb_broker.proofs.Honest.{by_store-is, state-is, store-is, strays-is, stands-on}
+use Rattle.kb_broker.proofs.Honest.{by_store-is, commands-are, state-is, store-is, strays-is, stands-on}
 use Rattle.kb_broker.proofs.RequestLimits.{limit-put}
 use Rattle.kb_broker.proofs.engine.Engine.take_output.Goals as goal
 
@@ -29,7 +29,7 @@ returns-in-Some-clause-state g c =
     let b = c.args.self.now.state in
     let i = c.in-Some.i in
     let l = c.index_mut-connection.result.now in
-    stands-on c.args.self.now _ _ _ _ _ (taken-found _ b i c.args.number l c.take_output-output.new.self (state-is _ _ c.self.view_is) c.requires (found _ b i c.args.number l (state-is _ _ c.self.view_is) c.in-Some.ensures.within c.in-Some.ensures.some c.index_mut-connection.ensures.value) c.take_output-output.ensures.state) (store-is _ _ c.self.view_is) (strays-is _ _ c.self.view_is) (by_store-is _ _ c.self.view_is)
+    stands-on c.args.self.now _ _ _ _ _ _ (taken-found _ b i c.args.number l c.take_output-output.new.self (state-is _ _ c.self.view_is) c.requires (found _ b i c.args.number l (state-is _ _ c.self.view_is) c.in-Some.ensures.within c.in-Some.ensures.some c.index_mut-connection.ensures.value) c.take_output-output.ensures.state) (store-is _ _ c.self.view_is) (strays-is _ _ c.self.view_is) (by_store-is _ _ c.self.view_is) (commands-are _ _ c.self.view_is)
 
 pub returns-in-Some-clause-output : goal.returns-in-Some-clause-output
 returns-in-Some-clause-output g c =
@@ -39,7 +39,7 @@ returns-in-Some-clause-output g c =
     c.take_output-output.ensures.output ∙ sym (ap output_in (find-found b i c.args.number l c.requires (found _ b i c.args.number l (state-is _ _ c.self.view_is) c.in-Some.ensures.within c.in-Some.ensures.some c.index_mut-connection.ensures.value)))
 
 pub returns-in-None-clause-state : goal.returns-in-None-clause-state
-returns-in-None-clause-state g c = stands-on c.args.self.now _ _ _ _ _ (taken-none c.args.self.now.state c.args.number c.in-None.ensures.none) refl refl refl
+returns-in-None-clause-state g c = stands-on c.args.self.now _ _ _ _ _ _ (taken-none c.args.self.now.state c.args.number c.in-None.ensures.none) refl refl refl refl
 
 pub returns-in-None-clause-output : goal.returns-in-None-clause-output
 returns-in-None-clause-output g c = c.new.ensures.items ∙ sym (ap output_in (find-none c.args.number c.args.self.now.state.lines c.in-None.ensures.none))

@@ -3,7 +3,8 @@ use Rattle.std.specs.List.{All}
 use Rattle.std.specs.Vec.{with_items}
 use Rattle.kb_tenants.specs.Members.{HasNoGroup}
 use Rattle.kb_tenants.specs.declared.tenants.Tenant.{Tenant}
-use Rattle.kb_tenants.proofs.Causes.{stores_numbered}
+use Rattle.kb_tenants.proofs.Hosted.{recorded}
+use Rattle.kb_tenants.proofs.Causes.{commands_numbered, stores_numbered}
 use Rattle.kb_tenants.proofs.Members.{hosted_numbered, items_numbered, kept_numbered, none_in, parts_numbered}
 use Rattle.kb_tenants.proofs.tenants.Tenants.number_members_from.Goals as goal
 
@@ -36,3 +37,9 @@ returns-clause-counts g c =
     let v = c.args.self.now.tenants in
     let is = items_numbered c.args.first v c.deref_mut.result.now c.number_each.new.tenants c.deref_mut.ensures.value c.number_each.ensures in
     ap (map (λ (z : Tenant g.row.L.Denot). z.counts.by_store)) is ∙ stores_numbered c.args.first v.items
+
+pub returns-clause-commands : goal.returns-clause-commands
+returns-clause-commands g c =
+    let v = c.args.self.now.tenants in
+    let is = items_numbered c.args.first v c.deref_mut.result.now c.number_each.new.tenants c.deref_mut.ensures.value c.number_each.ensures in
+    ap (map (recorded g.L.PartitionLog.log)) is ∙ commands_numbered g.L.PartitionLog.log c.args.first v.items

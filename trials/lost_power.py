@@ -105,9 +105,15 @@ def changed(before, after):
     return wrong
 
 
+def said(refusal):
+    """What a refused start says at last, in short."""
+    last = refusal.strip().rpartition("\n")[2]
+    return (last.partition("data has ")[2] or last).partition(". Nothing")[0]
+
+
 def is_by_need(state, refusal):
     """Whether the first start had to be refused: a whole batch stands behind a gap, and may be one that was synced."""
-    return state.way == "gaps" and " has damage: " in refusal and not refusal.startswith("after a kill")
+    return state.way == "gaps" and said(refusal).startswith("damage: ")
 
 
 def asked(program, room, more, *flags):
@@ -129,7 +135,7 @@ def judge(program, more, state):
             if is_by_need(state, refusal):
                 broker, clients = asked(program, room, more, "--drop-damaged")
             if clients is None:
-                return Outcome(state, ["--drop-damaged does not go on"] if is_by_need(state, refusal) else [], refusal)
+                return Outcome(state, [], broker.log())
             wrong, given = [], {}
             for tenant, client in clients.items():
                 found, number = look(client)
@@ -143,7 +149,7 @@ def judge(program, more, state):
             broker.stop()
             broker, clients = asked(program, room, more)
             if clients is None:
-                return Outcome(state, wrong, "after a kill: " + broker.log())
+                return Outcome(state, wrong, f"after a kill: {said(broker.log())}")
             for tenant, client in clients.items():
                 wrong += changed(given[tenant], look(client)[0])
             return Outcome(state, wrong, refusal)
@@ -225,12 +231,6 @@ class Round:
                 files = folder.left(way, self.chance)
                 states.append(State(way, files, bound, workers, Folder(files)))
         return [*states, State(WAYS[0], folder.left(WAYS[0], self.chance), bound, workers, folder)]
-
-
-def said(refusal):
-    """What a refused start says, in short."""
-    last = refusal.strip().splitlines()[-1]
-    return (last.partition("data has ")[2] or last).partition(". Nothing")[0]
 
 
 def tell(mode, outcomes, rounds):

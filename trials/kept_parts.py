@@ -5,8 +5,8 @@
 
 A broker fills a topic, in one file and in several. Then a bit is turned over, and a start is asked for, without and with --drop-damaged. What
 is dropped has to stand in the folder dropped-N, byte by byte, with the file's name and the place in its name; the log says where. A torn end
-is not kept. Where the copy cannot be made the start is refused, and nothing is changed; for that it needs gcc. It prints what was wrong, and
-how many states of how many.
+is not kept. Where the copy cannot be made the start is refused, and nothing is changed; for that it needs gcc. A file of a later version is
+refused, and kept whole with --accept-strays. It prints what was wrong, and how many states of how many.
 """
 
 import os
@@ -16,6 +16,7 @@ import tempfile
 
 from cut_snapshots import Checked
 from states_after_a_loss import Refused, give, values
+from wire import batch, castagnoli
 
 # Refuses to write into a folder of dropped parts, or to make one.
 REFUSES = r"""
@@ -198,7 +199,51 @@ def cannot_sync(place):
     return refused_at(place, "sync")
 
 
-STATES = [one_file, several_files, twice, torn, cannot_make, cannot_write, cannot_sync]
+def sets_aside(place, flag, name, whole, number):
+    """What is wrong with a start with a flag: a file has to stand in the folder of that number, whole, and the next start to go on."""
+    place.write(name, whole)
+    before = all_of(place)
+    place.start(flag).create(b"next%d" % number, retention_ms=-1)
+    log = place.broker.log()
+    place.stop()
+    now = all_of(place)
+    kept = {it: data for it, data in now.items() if it.startswith(f"dropped-{number}/")}
+    if list(kept.values()) != [whole] or name in now or before.keys() - now.keys() != {name}:
+        return f"{flag} leaves {sorted(now)}"
+    place.start()
+    place.stop()
+    return "" if f"dropped-{number}" in log else f"with {flag} it is not told where"
+
+
+def header_damaged(place):
+    """A header is damaged, in a file with a batch and in one without, which is left where it is."""
+    name, other = filled(place, 10)[0], f"{99:020}.seg"
+    damaged = flipped(place.read(name)[:60], 20)
+    place.write(other, damaged)
+    place.start()
+    place.stop()
+    if place.read(other) != damaged:
+        return "a file without a batch is changed"
+    place.write(other, damaged + batch(b"line"))
+    return is_refused(place) or sets_aside(place, "--drop-damaged", other, damaged + batch(b"line"), 1)
+
+
+def later_version(place):
+    """A file is of a later version, and another was before its header was damaged."""
+    filled(place, 10)
+    name, other = f"{98:020}.seg", f"{99:020}.seg"
+    front = b"KBSG\0\3" + bytes(range(150))
+    header = front + castagnoli(front).to_bytes(4, "big")
+    place.write(name, flipped(header, 20))
+    place.start()
+    place.stop()
+    whole = header + batch(b"line")
+    place.write(other, whole)
+    wrong = is_refused(place, with_text="1 files that the settings do not fit, 1 with a header of a later version.")
+    return wrong or sets_aside(place, "--accept-strays", other, whole, 1)
+
+
+STATES = [one_file, several_files, twice, torn, cannot_make, cannot_write, cannot_sync, header_damaged, later_version]
 
 
 def main(program):

@@ -10,8 +10,9 @@ asked for all. It is given more, killed and started once more. Each round begins
 left.
 
 With `sync = "always"` what was acknowledged has to be there, with "interval" what was acknowledged before all was last synced. No start
-may be refused, but for gaps: where a write is lost and a later one of the same file is not, what is left looks as damage does. With "never"
-what is lost is counted, and nothing is asked. Moments and losses go by the seed, but the system's own timing does not.
+may be refused, but for damage where there are gaps: where a write is lost and a later one of the same file is not, nothing tells what is
+left from damage. Such a start is made once more with --drop-damaged, and then the same has to be there. With "never" what is lost is
+counted, and nothing is asked. Moments and losses go by the seed, but the system's own timing does not.
 """
 
 import copy
@@ -104,9 +105,20 @@ def changed(before, after):
     return wrong
 
 
-def asked(program, room, more):
+def said(refusal):
+    """What a refused start says at last, in short."""
+    last = refusal.strip().rpartition("\n")[2]
+    return (last.partition("data has ")[2] or last).partition(". Nothing")[0]
+
+
+def is_by_need(state, refusal):
+    """Whether the first start had to be refused: a whole batch stands behind a gap, and may be one that was synced."""
+    return state.way == "gaps" and said(refusal).startswith("damage: ")
+
+
+def asked(program, room, more, *flags):
     """A broker on a folder and a client of each tenant, or none where the start is refused."""
-    broker = Broker(program, room, more)
+    broker = Broker(program, room, more, flags=flags)
     while not broker.listens():
         if broker.process.poll() is not None:
             return broker, None
@@ -118,7 +130,10 @@ def judge(program, more, state):
     with tempfile.TemporaryDirectory(dir=MEMORY) as room:
         fill(f"{room}/data", state.files)
         broker, clients = asked(program, room, more)
+        refusal = "" if clients else broker.log()
         try:
+            if is_by_need(state, refusal):
+                broker, clients = asked(program, room, more, "--drop-damaged")
             if clients is None:
                 return Outcome(state, [], broker.log())
             wrong, given = [], {}
@@ -134,10 +149,10 @@ def judge(program, more, state):
             broker.stop()
             broker, clients = asked(program, room, more)
             if clients is None:
-                return Outcome(state, wrong, "after a kill: " + broker.log())
+                return Outcome(state, wrong, f"after a kill: {said(broker.log())}")
             for tenant, client in clients.items():
                 wrong += changed(given[tenant], look(client)[0])
-            return Outcome(state, wrong, "")
+            return Outcome(state, wrong, refusal)
         finally:
             broker.stop()
 
@@ -218,24 +233,18 @@ class Round:
         return [*states, State(WAYS[0], folder.left(WAYS[0], self.chance), bound, workers, folder)]
 
 
-def said(refusal):
-    """What a refused start says, in short."""
-    last = refusal.strip().splitlines()[-1]
-    return (last.partition("data has ")[2] or last).partition(". Nothing")[0]
-
-
 def tell(mode, outcomes, rounds):
-    """Prints what became of the states of a mode, and answers how many lost something, or were refused without gaps."""
+    """Prints what became of the states of a mode, and answers how many lost something, or were refused without need."""
     lost = [it for it in outcomes if it.wrong]
     gaps = [it for it in outcomes if it.state.way == "gaps"]
-    refused = [it for it in outcomes if it.refusal and it.state.way != "gaps"]
+    refused = [it for it in outcomes if it.refusal and not is_by_need(it.state, it.refusal)]
     for it in lost[:6]:
         print(f"{mode}, {it.state.way}: {it.wrong[0]}")
     for it in refused[:6]:
         print(f"{mode}, {it.state.way}: refused: {said(it.refusal)}")
     told = sum(call.what == "told" for it in rounds for call in it.calls)
     print(f"{mode}: {len(lost)} of {len(outcomes)} states lost what was acknowledged, {len(refused)} starts refused, and "
-          f"{sum(bool(it.refusal) for it in gaps)} of {len(gaps)} with gaps; {sum(it.early for it in rounds)} of {told} replies before "
+          f"{sum(is_by_need(it.state, it.refusal) for it in gaps)} of {len(gaps)} for gaps; {sum(it.early for it in rounds)} of {told} replies before "
           f"a sync, the longest wait for it {max(it.risk for it in rounds) * 1000:.0f} ms")
     sys.stdout.flush()
     return len(lost) + len(refused)

@@ -3,12 +3,14 @@
 
     trials/states_after_a_loss.py KBROKER
 
-Nine states: a file or a command that came back, or is gone, though others are there that were written later. Of each all that was
+In nine of ten states a file or a command came back, or is gone, though others are there that were written later. All that was
 acknowledged has to be there, or the start is refused and says what would be lost. In the eighth the system refuses a write whose bytes
-are on the disk all the same; it needs gcc. It prints what a start did in each, and how many lost something without a word.
+are on the disk all the same; it needs gcc. In the tenth a file's first write was never synced: nothing of it was acknowledged, so the
+start has to go on. It prints what a start did in each, and how many lost something without a word, or were refused without need.
 """
 
 import os
+import random
 import struct
 import subprocess
 import sys
@@ -246,11 +248,28 @@ def start_ahead(place):
     return look(place, [])
 
 
-STATES = [creation_lost, one_of_two_back, one_back_and_no_start, cut_undone, opening_undone, half_deleted, one_back, refused_whole, start_ahead]
+def first_write_torn(place):
+    """The first write of a file was not synced: a part of it is there, of any length, and zeros or other bytes behind it."""
+    _, names = filled(place, 4)
+    place.stop()
+    data, chance = place.read(names[3]), random.Random(1)
+    place.drop(names[3])
+    number = int(names[3][:20])
+    for size in (*range(60), *range(60, len(data), 500)):
+        for rest in (b"", bytes(300), chance.randbytes(300)):
+            place.write(f"{number:020}.seg", data[:size] + rest)
+            number += 1
+    return look(place, range(3))
+
+
+STATES = [creation_lost, one_of_two_back, one_back_and_no_start, cut_undone, opening_undone, half_deleted, one_back, refused_whole, start_ahead,
+          first_write_torn]
+# In these no start may be refused: nothing was acknowledged of what is not there.
+GOES_ON = [first_write_torn]
 
 
 def outcome(program, more, state):
-    """What a start does on a state, and whether it loses something without a word."""
+    """What a start does on a state, and whether it loses something without a word, or is refused without need."""
     with tempfile.TemporaryDirectory() as room:
         place = Place(program, room, more)
         try:
@@ -259,7 +278,7 @@ def outcome(program, more, state):
         except Refused as refused:
             lines = [it for it in str(refused).splitlines() if " damage" in it or " do not fit" in it]
             said = lines[-1].partition("data has ")[2].partition(". Nothing")[0] if lines else f"without a reason: {refused}"
-            return f"refused: {said}", not lines
+            return f"refused: {said}", not lines or state in GOES_ON
         finally:
             place.stop()
 
@@ -274,7 +293,7 @@ def main(program):
         said, is_lost = outcome(program, more, state)
         lost += is_lost
         print(f"{number}. {state.__doc__}\n   {said}")
-    print(f"{lost} of {len(STATES)} states lost what was acknowledged without a word")
+    print(f"{lost} of {len(STATES)} states lost what was acknowledged without a word, or were refused without need")
     return 1 if lost else 0
 
 

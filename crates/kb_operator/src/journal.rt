@@ -163,8 +163,8 @@ impl Journal {
         }
     }
 
-    /// The files that an opening left aside: of tenants that no user names, a line each, of a first write that was cut short, and of
-    /// catalogs' snapshots that were not finished.
+    /// The files that an opening left aside: of tenants that no user names, a line each, of a first write that was cut short or whose
+    /// header cannot be read, and of catalogs' snapshots that were not finished.
     pub fn tell_strays(&mut self, alloc: Global, now: u64, strays: &StrayCounts) {
         if self.is_quiet {
             return;
@@ -178,6 +178,11 @@ impl Journal {
         if strays.short > 0 {
             let short = strays.short;
             let text = format!(in alloc; "stray files that are shorter than a header: {short}");
+            self.lines.tell(now, text);
+        }
+        if strays.unreadable > 0 {
+            let unreadable = strays.unreadable;
+            let text = format!(in alloc; "stray files whose header cannot be read: {unreadable}");
             self.lines.tell(now, text);
         }
         if strays.unfinished > 0 {

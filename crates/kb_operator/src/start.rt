@@ -13,7 +13,8 @@ use crate::report::dropped_texts;
 use kb_server_log::now;
 use kb_start::{
     Cause, Consent, KeepFault, Keeper, Loss, Opened, Surveyed, damage_text, files_in_way,
-    keep_dropped, keep_whole, loss_text, recorded_starts, stray_text, survey, why_refused,
+    keep_dropped, keep_whole, loss_text, recorded_starts, stray_text, survey, unreadable_files,
+    why_refused,
 };
 use kb_store::{Store, StoreFault};
 use std::alloc::{AllocError, Global};
@@ -22,9 +23,9 @@ use std::alloc::{AllocError, Global};
 const MOST_TOLD: usize = 20;
 
 /// Examines an opening of a journal's folder: where whole batches would be lost, or files are there that the settings do not fit, the
-/// start is refused, unless there is consent. Nothing was changed by then. What is dropped of damaged files is kept before that, and so
-/// is each file that does not fit, whole. The answer is the numbers of these: the start is to go on without them. What is dropped, set
-/// aside and left alone is told.
+/// start is refused, unless there is consent. Nothing was changed by then. What is dropped of damaged files is kept before that. So is each
+/// file that does not fit, whole, and each damaged one whose header cannot be read. The answer is the numbers of these: the start is to go
+/// on without them. What is dropped, set aside and left alone is told.
 pub fn examine(
     rt: &HostRuntime,
     opened: &Opened<'_>,
@@ -42,14 +43,16 @@ pub fn examine(
         tell_losses(alloc, folder.folder(), &surveyed.losses, journal.lines());
     }
     go_on(alloc, folder.folder(), consent, &surveyed)?;
-    let aside = match files_in_way(alloc, &mut store, opened) {
+    let mut aside = match files_in_way(alloc, &mut store, opened) {
         Ok(files) => files,
         Err(fault) => return Err(folder.of_store(alloc, fault)),
     };
+    let in_way = aside.len() as u64;
+    aside.extend_from_slice(&unreadable_files(alloc, &surveyed.losses)?)?;
     let kept = keep(rt, &mut store, opened, &surveyed.losses, &aside, folder)?;
     journal.tell_dropped(now(rt), dropped);
     if let Some((parts, path)) = kept {
-        journal.tell_kept(alloc, now(rt), parts, aside.len() as u64, &path);
+        journal.tell_kept(alloc, now(rt), parts, in_way, &path);
     }
     journal.tell_strays(alloc, now(rt), &surveyed.strays);
     Ok(aside)

@@ -1,16 +1,16 @@
-//! Files that are in the way of what is written from now on, which a start sets aside.
+//! Files that a start sets aside: those that are in the way of what is written from now on, and those that would refuse each start.
 
 ghost use Rattle.std.specs.Prelude.{◌≡◌, ◌++◌, ◌∷◌, [], true, if◌then◌else◌, IfOk};
 ghost use Rattle.std.specs.FinMap.{keys};
 ghost use Rattle.kb_store.specs.Disk.{HasCause, Keeps};
-ghost use Rattle.kb_start.specs.Aside.{in_way_among, is_in_way, whole_part, whole_parts};
+ghost use Rattle.kb_start.specs.Aside.{in_way_among, is_in_way, unreadable_among, whole_part, whole_parts};
 ghost use Rattle.kb_start.specs.Survey.{known_of, stray_at};
 
 use crate::kept::{KeepFault, Keeper};
-use crate::losses::Opened;
+use crate::losses::{Loss, Opened};
 use kb_store::{Store, StoreFault};
 use kb_survey::{Stray, bytes_among, stray_among};
-use std::alloc::Global;
+use std::alloc::{AllocError, Global};
 
 /// Those of an opening's files of no log that are in the way of what is written from now on: a topic that is made may get the number of
 /// one, and a later version may read one. The store is only read.
@@ -82,6 +82,20 @@ fn is_in_way(stray: Option<Stray>) -> bool
         Some(stray) => stray.is_unfit(),
         None => false,
     }
+}
+
+/// Of files that would lose whole batches those whose header cannot be read. No opening drops one, so each start would be refused for it
+/// again.
+pub fn unreadable_files(alloc: Global, losses: &[Loss]) -> Result<Vec<u64>, AllocError>
+    ensures { IfOk result (λ files. files.items ≡ unreadable_among losses.now) }
+{
+    let mut files = Vec::new(alloc);
+    for loss in losses {
+        if loss.header.is_none() {
+            files.push(loss.file)?;
+        }
+    }
+    Ok(files)
 }
 
 /// Keeps whole files, in their order. The store is only read.

@@ -4,6 +4,7 @@
 //! no log. [`why_refused`] judges that by what the operator agrees to ([`Consent`]). [`loss_text`], [`damage_text`] and [`stray_text`]
 //! tell it. What is dropped of damaged files goes to a [`Keeper`] first ([`keep_dropped`]).
 //! Files that are in the way of what is written from now on ([`files_in_way`]) go to one whole ([`keep_whole`]), where there is consent.
+//! So do damaged files whose header cannot be read ([`unreadable_files`]).
 //! [`deleted_files`] says which files are of deleted topics, and [`remove_files`] removes them.
 #![tactic(auto)]
 
@@ -17,7 +18,7 @@ mod starts;
 mod text;
 mod verdict;
 
-pub use aside::{files_in_way, keep_whole};
+pub use aside::{files_in_way, keep_whole, unreadable_files};
 pub use deleted::{CatalogOf, Deleted, deleted_files, remove_files};
 pub use kept::{KeepFault, Keeper, KeeperRefused, keep_dropped};
 pub use left::{Left, Total};

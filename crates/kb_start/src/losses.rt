@@ -37,6 +37,8 @@ pub struct StrayCounts {
     pub of_nobody: BTreeMap<String, u64>,
     /// Shorter than a header.
     pub short: u64,
+    /// With a header that cannot be read, of no version, and without a whole batch.
+    pub unreadable: u64,
     /// Of generations of catalogs that are not in use: their snapshots were not finished.
     pub unfinished: u64,
 }
@@ -89,6 +91,7 @@ pub fn survey<S: Store>(
             never_given_out: BTreeMap::new(alloc),
             of_nobody: BTreeMap::new(alloc),
             short: 0,
+            unreadable: 0,
             unfinished: 0,
         },
     };
@@ -332,7 +335,11 @@ fn add_stray<S: Store>(
     };
     let header = header_among(alloc, store, listed, file)?;
     if stray == Stray::Unreadable {
-        return add_loss(alloc, store, listed, opened, file, 0, &mut survey.losses);
+        let lost = survey.losses.len();
+        add_loss(alloc, store, listed, opened, file, 0, &mut survey.losses)?;
+        if survey.losses.len() > lost {
+            return Ok(());
+        }
     }
     if stray == Stray::Unfinished {
         let copied = copied_to(alloc, store, listed, used, file)?;
@@ -364,6 +371,10 @@ impl StrayCounts {
             (Stray::OfNobody, Some(header)) => count(alloc, &mut self.of_nobody, header.tenant()),
             (Stray::Short, _) => {
                 self.short = self.short.saturating_add(1);
+                Ok(())
+            }
+            (Stray::Unreadable, _) => {
+                self.unreadable = self.unreadable.saturating_add(1);
                 Ok(())
             }
             (Stray::Unfinished, _) => {

@@ -37,7 +37,7 @@ pub fn damage_text(alloc: Global, path: &str, losses: &[Loss]) -> Result<String,
     let Whole { batches, bytes } = lost(losses);
     format!(in alloc;
         "the folder {path} has damage: {files} files would lose {batches} whole batches ({bytes} bytes). {UNCHANGED} Copy the folder \
-        first; then start with --drop-damaged to go on without them."
+        first; then start with --drop-damaged to go on without them: they are kept in a folder of their own."
     )
 }
 

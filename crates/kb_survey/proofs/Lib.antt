@@ -1,4 +1,5 @@
 pub mod Changes
+pub mod Checksums
 pub mod Found
 pub mod Keys
 pub mod Listed

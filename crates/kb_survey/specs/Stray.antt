@@ -1,10 +1,11 @@
 -- Why a file is of no log, by what its first bytes say.
-use Rattle.std.specs.Prelude.{◌==◌, ◌&&◌, ℕ, Bool, true, false, nat_le, nat_lt, List, [], ◌∷◌, length, take, Option, Some, None, if◌then◌else◌}
+use Rattle.std.specs.Prelude.{◌-◌, ◌==◌, ◌&&◌, ℕ, Bool, true, false, nat_le, nat_lt, List, [], ◌∷◌, length, take, Option, Some, None, if◌then◌else◌}
 use Rattle.std.specs.Int.{w16, w32}
+use Rattle.std.specs.List.{list_any, range_with_len}
 use Rattle.std.specs.Str.{bytes_eq}
 use Rattle.kb_batch.specs.Batch.{is_natural, natural}
 use Rattle.kb_batch.specs.Header.{number_at}
-use Rattle.kb_segment.specs.Header.{Header, header_in}
+use Rattle.kb_segment.specs.Header.{Header, header_in, is_sealed}
 use Rattle.kb_survey.specs.declared.stray.Stray.{Stray}
 use Rattle.kb_survey.specs.declared.stray.Stray.TheVariants.{Short, Unreadable, LaterVersion}
 use Rattle.kb_survey.specs.declared.stray.Stray.TheVariants.{OfNobody, NeverGivenOut, Unfinished, OfNoTopic}
@@ -32,12 +33,20 @@ stray_by h (Some next) =
 abbrev pub stray_with : Header → List (List ℕ) → List ℕ → Stray
 stray_with h names nexts = stray_by h (next_of h.tenant names nexts)
 
--- six bytes begin a header of a version above 2
+-- a version above 2 stands behind the magic number
+abbrev pub is_above : List ℕ → Bool
+is_above s = (number_at w32 0 s == 1262637895) && nat_lt 2 (number_at w16 4 s)
+
+-- Some first bytes have their CRC-32C behind them: the first six, with magic number and version, or more.
+abbrev pub has_checksum : List ℕ → Bool
+has_checksum s = list_any (λ n. is_sealed n s) (range_with_len 6 (length s - 6))
+
+-- A header of a later version begins and ends as each does, and has at most 1,024 bytes. What stands in between is not known here.
 abbrev pub is_later : List ℕ → Bool
-is_later s = (number_at w32 0 s == 1262637895) && nat_lt 2 (number_at w16 4 s)
+is_later s = is_above s && has_checksum s
 
 abbrev pub unreadable : List ℕ → Stray
-unreadable s = if is_later (take 6 s) then LaterVersion else Unreadable
+unreadable s = if is_later (take 1024 s) then LaterVersion else Unreadable
 
 abbrev pub stray_read : List ℕ → Option Header → List (List ℕ) → List ℕ → Stray
 stray_read s None names nexts = unreadable s

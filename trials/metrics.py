@@ -22,6 +22,7 @@ from wire import Broker, Client, batch, free_port, struct, text
 TOKEN = "0123456789abcdefXYZ"
 ODD = b'quote " back \\ line\nend'
 TAG = b"<script>alert(1)</script>"
+FORGED = b'x"} 1\nkbroker_topics{tenant="a"} 9'
 APIS = {0: "Produce", 1: "Fetch", 2: "ListOffsets", 3: "Metadata", 8: "OffsetCommit", 11: "JoinGroup", 19: "CreateTopics"}
 
 
@@ -59,6 +60,23 @@ def produce_to(client, topic, partition, count):
         sent = batch(b"secret-record")
         body = struct.pack(">hhi", -1, 1, 5000) + struct.pack(">i", 1) + text(topic) + struct.pack(">ii", 1, partition)
         client.ask(0, 3, body + struct.pack(">i", len(sent)) + sent)
+
+
+def lines_of(port, tenant):
+    """The lines of the page of metrics whose first label is that tenant's."""
+    lines = page(port, "GET /metrics", token=TOKEN)[2].split(b"\n")
+    return [it for it in lines if it.partition(b"{")[2].startswith(b'tenant="' + tenant + b'"')]
+
+
+def beside(tried, port, bob):
+    """What is said of a tenant that does nothing stays as it is, whatever another does and whatever names it gives."""
+    quiet, busy = lines_of(port, b"a"), lines_of(port, b"b")
+    tried.is_so("topics of another", create(bob, b"more", 3), 0)
+    produce_to(bob, b"more", 0, 5)
+    tried.is_so("a group with a line for its name", commit_at(bob, FORGED, b"more", 0, 1, b""), 0)
+    time.sleep(0.2)
+    tried.is_so("lines of a tenant that does nothing", lines_of(port, b"a"), quiet)
+    tried.is_so("lines of the other", len(lines_of(port, b"b")) > len(busy), True)
 
 
 def told(tried, broker, port):
@@ -110,6 +128,7 @@ def told(tried, broker, port):
     got = samples(page(port, "GET /metrics", token=TOKEN)[2])
     tried.is_so("failed logins", value("kbroker_logins_failed_total"), 1)
     tried.is_so("connections then", value("kbroker_connections", tenant="a"), 1)
+    beside(tried, port, bob)
 
 
 class Counting(Client):

@@ -10,9 +10,13 @@ started with lower limits: nothing is dropped, and what grows is refused.
 
 Where kcat is installed, `kcat -P` sends 160 messages of 100,000 bytes to a tenant that may have 10,485,760, without idempotence and with it.
 Each message that does not fit has to fail at once, by the word for 44, and those before it are there. It goes on once the records are deleted.
-Another tenant's metrics stay as they are. It prints `N of M wrong`.
+Another tenant's metrics stay as they are.
+
+A start on a disk that has less than all tenants may store says so, where the system tells the size of the disk; one that has more says nothing. So
+does `check`. It prints `N of M wrong`.
 """
 
+import os
 import re
 import shutil
 import struct
@@ -49,6 +53,15 @@ STOCK = """metrics = "127.0.0.1:{port}"
 [[tenant]]
 name = "a"
 bytes = 10485760
+"""
+
+BOTH = """[[tenant]]
+name = "a"
+bytes = {0}
+
+[[tenant]]
+name = "b"
+bytes = {0}
 """
 
 VALUE = bytes(900_000)
@@ -239,6 +252,30 @@ def played(program, rounds):
     return wrong, count
 
 
+def disk_bytes(folder):
+    """The size of the device of a folder, where the system tells it."""
+    device = os.stat(folder).st_dev
+    try:
+        with open(f"/sys/dev/block/{os.major(device)}:{os.minor(device)}/size", encoding="ascii") as it:
+            return 512 * int(it.read())
+    except OSError:
+        return None
+
+
+def on_disk(program, each, wanted):
+    """Whether a start and a check say what they have to of the disk, where two tenants have so many bytes each."""
+    with tempfile.TemporaryDirectory() as room:
+        broker = Broker(program, room, more=BOTH.format(each))
+        listens = broker.listens()
+        broker.stop()
+        words = [os.path.abspath(program), "check", "--config", broker.settings]
+        checked = subprocess.run(words, stdout=subprocess.PIPE, check=True, text=True).stdout
+        size = disk_bytes(room)
+        line = f"the disk of {room}/data has {size} bytes, and tenants may store {2 * each}"
+        said = [line in it for it in (broker.log(), checked)]
+    return [0 if listens else 1, *(it != (wanted and size is not None) for it in said)]
+
+
 def main(program):
     """Whether each limit holds, and holds nobody else."""
     shown = free_port()
@@ -248,6 +285,8 @@ def main(program):
         wrong, count = wrong + more[0], count + more[1]
     else:
         print("there is no kcat here: its part is left out")
+    disks = on_disk(program, 1 << 62, True) + on_disk(program, 1 << 20, False)
+    wrong, count = wrong + sum(disks), count + len(disks)
     print(f"{wrong} of {count} wrong")
     return 1 if wrong else 0
 

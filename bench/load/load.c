@@ -1,10 +1,10 @@
 /* Puts a load on a server over the loopback, and prints a line for each figure: what, and its two numbers, between bars.
 
-       load PORT PID broker|echo [waits]
+       load PORT PID broker|echo [waits|brief]
 
    The server is `kbroker serve` with the user `ann`, or echo.c, which answers with as many bytes as it is asked for: then each
    request has the broker's size, and the size of the broker's reply in the place of its key and version. With `waits` there are
-   only the figures in which others wait. */
+   only the figures in which others wait. With `brief` there are a few figures, each of one run. */
 #include <arpa/inet.h>
 #include <netinet/tcp.h>
 #include <stdint.h>
@@ -17,11 +17,11 @@
 
 #include "batch.h"
 
-enum { RUNS = 3, IN_FLIGHT = 4, MESSAGES = 100, MOST = 1000, SAMPLES = 1 << 20 };
+enum { IN_FLIGHT = 4, MESSAGES = 100, MOST = 1000, SAMPLES = 1 << 20 };
 
 static const double SECONDS = 2, IDLE_SECONDS = 10;
 
-static int port, pid, echo;
+static int port, pid, echo, runs = 3;
 
 static int sockets[MOST];
 
@@ -186,7 +186,7 @@ static void throughput(int bytes) {
     int step = 1000000 / batch;
     fetch(&one, batch, 1, 1, 0);
     fetch(&many, batch, step, 1, 0);
-    for (int i = 0; i < RUNS; i++) {
+    for (int i = 0; i < runs; i++) {
         int batches = 0, fetched = 0;
         topic(1);
         double got[3] = {rate(&make, 0, 0, &batches)};
@@ -218,7 +218,7 @@ static void latency(const char *what, int connections, double pause) {
     double best[2] = {1e9, 1e9};
     struct timespec rest = {.tv_nsec = pause * 1e9};
     produce(&r, 1, 100);
-    for (int i = 0; i < RUNS; i++) {
+    for (int i = 0; i < runs; i++) {
         int n = 0;
         for (double end = now() + SECONDS; n < SAMPLES && now() < end; n++) {
             double start = now();
@@ -341,7 +341,7 @@ static void unread(void) {
 /* The percentage of a processor that the server takes while nobody asks. */
 static void idle(const char *what) {
     double best = 1e9;
-    for (int i = 0; i < RUNS; i++) {
+    for (int i = 0; i < runs; i++) {
         double before = used();
         sleep(IDLE_SECONDS);
         double got = (used() - before) / IDLE_SECONDS * 100;
@@ -353,11 +353,23 @@ static void idle(const char *what) {
 
 int main(int count, char **words) {
     if (count != 4 && count != 5)
-        fail("load PORT PID broker|echo [waits]");
+        fail("load PORT PID broker|echo [waits|brief]");
     port = atoi(words[1]);
     pid = atoi(words[2]);
     echo = !strcmp(words[3], "echo");
     prctl(PR_SET_TIMERSLACK, 1);
+    if (count == 5 && !strcmp(words[4], "brief")) {
+        runs = 1;
+        open_to(1);
+        throughput(100);
+        throughput(1000);
+        topic(1);
+        latency("1 connection", 1, 0);
+        open_to(100);
+        latency("100 connections, all in turn", 100, 0);
+        topic(0);
+        return 0;
+    }
     if (count == 5) {
         open_to(1);
         topic(1);

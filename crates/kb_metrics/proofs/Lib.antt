@@ -1,7 +1,12 @@
 pub mod Commits
 pub mod Groups
 pub mod Lags
+pub mod Lines
 pub mod Plain
 pub mod Reading
 pub mod Rising
+pub mod Said
+pub mod StatusRows
 pub mod Steps
+pub mod TenantLines
+pub mod Unlabelled

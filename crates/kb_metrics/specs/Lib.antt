@@ -10,3 +10,4 @@ pub mod Status
 pub mod Gauges
 pub mod Slots
 pub mod View
+pub mod Lines

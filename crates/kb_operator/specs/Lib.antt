@@ -1,4 +1,5 @@
 pub mod Bucket
+pub mod Device
 pub mod Others
 pub mod Settings
 pub mod Sums

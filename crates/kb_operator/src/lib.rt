@@ -1,9 +1,9 @@
 //! What a broker's program asks of its operator and tells him: the settings, the data folder, and lines on standard error.
 //!
 //! [`settings_of`] reads the settings of a file, or says what is wrong with it, and [`look_at_start`] looks at what the process may have
-//! open. [`hold`] takes the data folder, and [`store_in`] is the store of its files. A [`Journal`] tells what happens while it is
-//! open, and a [`FolderJournal`] what the system refuses to it, on [`Lines`] that wait for no reader. [`write_report`] tells what a
-//! start would find, and changes nothing.
+//! open. [`hold`] takes the data folder, [`tell_disk`] tells where its disk has too little, and [`store_in`] is the store of its files. A
+//! [`Journal`] tells what happens while it is open, and a [`FolderJournal`] what the system refuses to it, on [`Lines`] that wait for no
+//! reader. [`write_report`] tells what a start would find, and changes nothing.
 #![tactic(auto)]
 
 mod address;
@@ -11,6 +11,7 @@ mod bucket;
 mod changed;
 mod counts;
 mod deleted;
+mod disk;
 mod dropped;
 mod entries;
 mod fault;
@@ -33,6 +34,7 @@ pub use address::{address_text, addresses_text, listen_fault};
 pub use changed::last_change;
 pub use counts::{RefusalCounts, TenantRefusals};
 pub use deleted::find_deleted;
+pub use disk::{disk_text, tell_disk};
 pub use fault::OperatorFault;
 pub use folder::{
     DataStore, HeldFolder, hold, is_folder, look_into, store_in, store_to_read, store_to_serve,

@@ -7,7 +7,7 @@ use clap::{Arg, ArgAction, ArgMatches, Command};
 use kb_disk::disk_to_read;
 use kb_node::Listing;
 use kb_operator::{
-    FolderJournal, OperatorFault, data_folder, is_folder, look_into, settings_of,
+    FolderJournal, OperatorFault, data_folder, disk_text, is_folder, look_into, settings_of,
     settings_of_files, write_settings,
 };
 use kb_start::Consent;
@@ -54,7 +54,25 @@ fn check_settings(rt: &HostRuntime, path: &str) -> Result<(), Fault> {
     let Ok(mut writer) = BufWriter::new(alloc, io::writer(rt)) else {
         return Err(Fault::Operator(OperatorFault::Memory));
     };
-    Ok(write_settings(alloc, &settings, folder, &mut writer)?)
+    write_settings(alloc, &settings, folder, &mut writer)?;
+    write_disk(rt, &settings, folder, &mut writer)
+}
+
+/// Writes a line where the disk of a folder has less than all tenants may store together.
+fn write_disk<W: Write>(
+    rt: &HostRuntime,
+    settings: &Settings,
+    folder: &str,
+    writer: &mut W,
+) -> Result<(), Fault> {
+    let Some(text) = disk_text(rt, settings, folder)? else {
+        return Ok(());
+    };
+    let written = writeln!(writer, "{text}");
+    if written.is_err() || writer.flush().is_err() {
+        return Err(Fault::Operator(OperatorFault::Write));
+    }
+    Ok(())
 }
 
 /// Says what a start on a folder would find, and changes nothing. The tenants are those of the settings in a file, or else those that the
@@ -79,6 +97,7 @@ fn check_data(rt: &HostRuntime, path: &str, config: Option<&str>) -> Result<(), 
     let Ok(mut writer) = BufWriter::new(alloc, io::writer(rt)) else {
         return Err(Fault::Operator(OperatorFault::Memory));
     };
+    write_disk(rt, &settings, path, &mut writer)?;
     let reported = report_on(rt, start, disk, &folder, &mut writer);
     // What was written before a fault is handed on too.
     if writer.flush().is_err() {

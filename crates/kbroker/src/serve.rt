@@ -24,6 +24,7 @@ use kb_log::PartitionLog;
 use kb_node::{Edge, Listing, Settings, Store, Turn};
 use kb_operator::{
     FolderJournal, Held, Journal, Word, data_folder, hold, last_change, look_at_start, settings_of,
+    tell_disk,
 };
 use kb_restart::Restarted;
 use kb_server_log::{GuardedClock, Reading, now};
@@ -87,6 +88,9 @@ pub fn serve(rt: &HostRuntime, found: &ArgMatches<'_>) -> Result<(), Fault> {
     };
     let mut folder = FolderJournal::new(alloc, path, is_quiet)?;
     let held = hold(rt, path)?;
+    if !is_quiet {
+        tell_disk(rt, &settings, path, journal.lines());
+    }
     let served = serve_in(rt, start, changed, &mut folder, &mut journal);
     if served.is_err() {
         held.leave(rt);

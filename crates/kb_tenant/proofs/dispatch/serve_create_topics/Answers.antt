@@ -99,9 +99,9 @@ returns-clause-acknowledged g c = λ honest agree.
           let one : asked ≡ q = cc in
           subst (λ x. AreCreationsTold failed limits request.correlation_id version w x v c.finish-2.result) one (
             (λ made. replied_or_cut request.correlation_id (TellsCreations failed limits version w asked v) (AreCreationsCut failed limits w asked v)
-            out c.create_topics.new.sink.bytes (creations_in version reply) c.finish-2.result
-            (c.in_ok-sink.ensures ∙ ap begun id) (told.1.0 ∙ ap (λ x. out ++ creations_in x reply) same) (told.0, (refl, told.1.1)) cut
-            c.finish-2.ensures),
+                out c.create_topics.new.sink.bytes (creations_in version reply) c.finish-2.result
+                (c.in_ok-sink.ensures ∙ ap begun id) (told.1.0 ∙ ap (λ x. out ++ creations_in x reply) same) (told.0, (refl, told.1.1)) cut
+                c.finish-2.ensures),
             (λ checked. absurd (clash (sym checked ∙ c.if-asked.false))),
           ),
       subst (λ r. OnErr r (IsShutUnchanged w v c.finish-2.result)) (sym whole_read) tt,

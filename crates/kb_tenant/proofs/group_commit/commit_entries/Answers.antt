@@ -93,16 +93,16 @@ returns-in_err-write-clause-cut g c =
     let reply : CommitPartitionReply = record { partition = to_z w32 (of_z w32 e.partition); error_code = to_z w16 (of_z w16 c.commit_entry.result) } in
     let is : WhereHonest a d (AreFirstServed (IsCommitTold (CatalogFailed a d) c.args.limits c.args.refusal group c.args.topic) a.state.world
     entries d.state.world) = λ honest agree.
-        let both = honest_then a b d _ _ first second c.loop-entry.invariant.answers
-        (commit_told_so b d c.args.limits c.args.refusal group c.args.topic e reply.partition c.commit_entry.result reply.error_code second
-        (to_z-of_z w32 e.partition (search rules)) (to_z-of_z w16 c.commit_entry.result (record { sfits = c.commit_entry.type_inv })) c.commit_entry.ensures.told) honest agree in
-        let before = both.0 in (
-          i + 1,
-          (
-            before.0 ++ reply ∷ [],
-            served_next (IsCommitTold (CatalogFailed a d) c.args.limits c.args.refusal group c.args.topic) a.state.world b.state.world d.state.world entries i e before.0 reply c.loop-entry-test.true c.entry-item.is
-                (commits_before a b d c.args.limits c.args.refusal group second c.args.topic (take i entries) a.state.world b.state.world before.0 before.1.1)
-                (commit_behind a b d c.args.limits c.args.refusal group first c.args.topic b.state.world e d.state.world reply both.1),
-          ),
-        ) in
+    let both = honest_then a b d _ _ first second c.loop-entry.invariant.answers
+    (commit_told_so b d c.args.limits c.args.refusal group c.args.topic e reply.partition c.commit_entry.result reply.error_code second
+    (to_z-of_z w32 e.partition (search rules)) (to_z-of_z w16 c.commit_entry.result (record { sfits = c.commit_entry.type_inv })) c.commit_entry.ensures.told) honest agree in
+    let before = both.0 in (
+      i + 1,
+      (
+        before.0 ++ reply ∷ [],
+        served_next (IsCommitTold (CatalogFailed a d) c.args.limits c.args.refusal group c.args.topic) a.state.world b.state.world d.state.world entries i e before.0 reply c.loop-entry-test.true c.entry-item.is
+            (commits_before a b d c.args.limits c.args.refusal group second c.args.topic (take i entries) a.state.world b.state.world before.0 before.1.1)
+            (commit_behind a b d c.args.limits c.args.refusal group first c.args.topic b.state.world e d.state.world reply both.1),
+      ),
+    ) in
     on_err _ is

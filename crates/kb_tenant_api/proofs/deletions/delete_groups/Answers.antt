@@ -93,14 +93,14 @@ returns-in_err-delete_each-clause-cut g c =
     let shut = answers.Plain plain.Shut in
     let is : WhereHonest a b (AcknowledgesGroupDeletions failed c.args.limit request.correlation_id gs a.state.world request.body.now
     b.state.world new shut) = λ honest agree.
-        let cut = subst (λ (x : Groups). AreGroupDeletionsCut failed (a.state.world, x) asked end) c.silence.ensures
-        (c.in_err-delete_each.ensures.cut honest agree) in (
-          λ q read.
-              let both : Ok asked ≡ Ok q = sym c.in_ok-asked.ensures.spelled ∙ read in
-              let one : asked ≡ q = cc in
-              subst (λ x. AreGroupDeletionsCut failed start x end) one cut,
-          subst (λ r. OnErr r (AreGroupsLeft start end shut)) (sym c.in_ok-asked.ensures.exact) tt,
-        ) in
+    let cut = subst (λ (x : Groups). AreGroupDeletionsCut failed (a.state.world, x) asked end) c.silence.ensures
+    (c.in_err-delete_each.ensures.cut honest agree) in (
+      λ q read.
+          let both : Ok asked ≡ Ok q = sym c.in_ok-asked.ensures.spelled ∙ read in
+          let one : asked ≡ q = cc in
+          subst (λ x. AreGroupDeletionsCut failed start x end) one cut,
+      subst (λ r. OnErr r (AreGroupsLeft start end shut)) (sym c.in_ok-asked.ensures.exact) tt,
+    ) in
     on_err _ is
 
 pub returns-in_err-asked-clause-fewer : goal.returns-in_err-asked-clause-fewer

@@ -6,7 +6,7 @@ use Rattle.kb_tenant_api.specs.Hosted.{TenantState}
 use Rattle.kb_tenant_api.specs.Turns.{HavePassed}
 use Rattle.kb_tenant.specs.Told.{FailedBy}
 use Rattle.kb_isolation_spec.specs.declared.shut.Shut.TheVariants as causes
-use Rattle.kb_isolation_spec.specs.Session.{Stage, Greets, BoundTo, Session, fed, shut_down, without_wait}
+use Rattle.kb_isolation_spec.specs.Session.{Stage, Greets, BoundTo, fed, shut_down, without_wait}
 use Rattle.kb_isolation_spec.specs.Machine.{Happening, Opens, Comes, Closes, Line, find_line, first_able}
 use Rattle.kb_isolation_spec.specs.Broker.{BrokerState, IsSound, IsUntaken, kept_of}
 use Rattle.kb_isolation_spec.specs.Calls.{IsRefused, closed, opened}
@@ -14,8 +14,8 @@ use Rattle.kb_isolation_spec.specs.declared.whom.Whom.{Whom}
 use Rattle.kb_isolation_spec.proofs.Leaving.{left_fed}
 use Rattle.kb_isolation_spec.proofs.Sets.{IsAt, find-at, find-set_other, rising-set, set-at}
 use Rattle.kb_connection.specs.View.{with_session}
-use Rattle.kb_broker.specs.Places.{IsCountedAt, IsDoneOrShut, IsLookedAt, IsToldAgain, IsToldAt, IsTurnAt}
-use Rattle.kb_broker.specs.Truth.{Begins, IsOfOne, IsTrueMoment, IsTrueStep, LeadTo, SpeaksAt, SpeaksTruth}
+use Rattle.kb_broker.specs.Places.{IsCountedAt, IsLookedAt, IsToldAgain, IsToldAt, IsTurnAt}
+use Rattle.kb_broker.specs.Truth.{Begins, IsOfOne, IsBrought, IsTrueMoment, IsTrueStep, IsTrueTurn, LeadTo, SpeaksAt, SpeaksTruth}
 use Rattle.kb_broker.proofs.Handled.{put_at, put_with}
 use Rattle.kb_broker.proofs.Looked.{looked-number, looked-waked}
 
@@ -66,46 +66,42 @@ of_one a b i l m us e sound at number = subst (λ (x : BrokerState). IsOfOne b (
   rest = refl;
 })
 
--- that of a connection at a place, which a piece or a turn left
-pub find_put : (b : BrokerState) (i : ℕ) (l m : Line) (us : List TenantState) → IsSound b → IsAt b.lines i l → m.number ≡ l.number
-    → find_line l.number (put_with b i m us).lines ≡ Some m.session
-find_put b i l m us sound at number = (of_one b b i l m us refl sound at number).is
+-- what a piece left of the connection that it came on
+piece_brought : (b : BrokerState) (i : ℕ) (l m : Line) (piece : List ℕ) → IsSound b → IsAt b.lines i l → m.number ≡ l.number
+    → IsBrought l.number piece l m b (put_at (record b { tenants = left_fed piece b.clock l.number l.session b.tenants }) i m)
+piece_brought b i l m piece sound at number = record {
+  number = refl;
+  one = of_one b b i l m (left_fed piece b.clock l.number l.session b.tenants) refl sound at number;
+  tenants = refl;
+}
 
--- a refusal was counted for which it was shut
-pub speaks_counted : (n : ℕ) (st : Stage) (s r : Session) (b c : BrokerState) → find_line n b.lines ≡ Some r
-    → r ≡ shut_down causes.Memory s → st ≡ without_wait s.stage → IsCountedAt n st b c → SpeaksTruth b c
-speaks_counted n st s r b c here shut stage counted = speaks_step b c (inr (inr (record {
-  n = n;
-  s = r;
-  here = here;
-  shut = ap (λ (x : Session). x.shut) shut;
-  counted = subst (λ x. IsCountedAt n x b c) (stage ∙ sym (ap (λ (x : Session). x.stage) shut)) counted;
-})))
-
--- a piece came on it, also where it could not be kept
-pub at_piece : {A E : Type 0} (r : Result A E) (b : BrokerState) (i : ℕ) (l m : Line) (piece : List ℕ) → IsSound b → IsAt b.lines i l
-    → OnOk r (m ≡ with_session l (fed piece l.session)) → OnErr r (m ≡ with_session l (shut_down causes.Memory l.session))
+-- a piece came on it
+pub at_piece : (b : BrokerState) (i : ℕ) (l m : Line) (piece : List ℕ) → IsSound b → IsAt b.lines i l
+    → m ≡ with_session l (fed piece l.session)
     → SpeaksAt (Comes l.number piece) b (put_at (record b { tenants = left_fed piece b.clock l.number l.session b.tenants }) i m)
-at_piece r b i l m piece sound at ok err =
-    let us = left_fed piece b.clock l.number l.session b.tenants in
-    at_once (Comes l.number piece) b (put_with b i m us) (inr (record {
+at_piece b i l m piece sound at is =
+    at_once (Comes l.number piece) b (put_at (record b { tenants = left_fed piece b.clock l.number l.session b.tenants }) i m) (inr (inl (record {
       l = l;
       m = m;
-      number = refl;
-      one = of_one b b i l m us refl sound at (same r ok err);
-      session = session r ok err;
-      tenants = refl;
-    }))
-  where
-    same : {A E : Type 0} (r : Result A E) → OnOk r (m ≡ with_session l (fed piece l.session))
-        → OnErr r (m ≡ with_session l (shut_down causes.Memory l.session)) → m.number ≡ l.number
-    same (Ok x) ok err = ap (λ (x : Line). x.number) ok
-    same (Err x) ok err = ap (λ (x : Line). x.number) err
+      brought = piece_brought b i l m piece sound at (ap (λ (x : Line). x.number) is);
+      session = ap (λ (x : Line). x.session) is;
+    })))
 
-    session : {A E : Type 0} (r : Result A E) → OnOk r (m ≡ with_session l (fed piece l.session))
-        → OnErr r (m ≡ with_session l (shut_down causes.Memory l.session)) → IsDoneOrShut (fed piece l.session) l.session m.session
-    session (Ok x) ok err = inl (ap (λ (x : Line). x.session) ok)
-    session (Err x) ok err = inr (ap (λ (x : Line). x.session) err)
+-- one that could not be kept, for which it was shut, and then that was counted
+pub at_refused_piece : (b c : BrokerState) (i : ℕ) (l m : Line) (piece : List ℕ) (st : Stage) → IsSound b → IsAt b.lines i l
+    → m ≡ with_session l (shut_down causes.Memory l.session) → st ≡ without_wait l.session.stage
+    → IsCountedAt l.number st (put_at (record b { tenants = left_fed piece b.clock l.number l.session b.tenants }) i m) c
+    → SpeaksAt (Comes l.number piece) b c
+at_refused_piece b c i l m piece st sound at is stage counted =
+    let left = put_at (record b { tenants = left_fed piece b.clock l.number l.session b.tenants }) i m in
+    at_once (Comes l.number piece) b c (inr (inr (record {
+      l = l;
+      m = m;
+      left = left;
+      brought = piece_brought b i l m piece sound at (ap (λ (x : Line). x.number) is);
+      session = ap (λ (x : Line). x.session) is;
+      counted = subst (λ x. IsCountedAt l.number x left c) (stage ∙ sym (ap (λ (x : Line). x.session.stage) is)) counted;
+    })))
 
 -- 4. A turn, a look, or a tenant's own part of a moment
 
@@ -115,6 +111,25 @@ turn_on H honest (Greets h) ts us same = same
 turn_on H honest (BoundTo t w) ts us turn =
     record { names = turn.names; grows = turn.grows; counts = turn.counts; others = λ yes. turn.others honest }
 
+is_turn : (H : Type 0) → H → (failed fails next : ℕ) (commands : ℕ → ℕ) (b : BrokerState) (i : ℕ) (l m : Line)
+    (us : List TenantState) → IsSound b → IsAt b.lines i l → m.number ≡ l.number → first_able b.lines ≡ Some l
+    → IsTurnAt H l.session.stage b.tenants us
+    → IsToldAt (FailedBy failed fails next) (λ t. 2 ^ 63 ≤ commands t + 1) b.setup b.clock l.number l.session.stage b.tenants us
+    l.session m.session
+    → IsTrueTurn b (put_with b i m us)
+is_turn H honest failed fails next commands b i l m us sound at number first turn told = record {
+  l = l;
+  m = m;
+  one = of_one b b i l m us refl sound at number;
+  first = first;
+  turn = turn_on H honest l.session.stage b.tenants us turn;
+  failed = failed;
+  fails = fails;
+  next = next;
+  commands = commands;
+  told = told;
+}
+
 -- where a is what the broker's own fields are
 pub true_turn : (H : Type 0) → H → (failed fails next : ℕ) (commands : ℕ → ℕ) (a b : BrokerState) (i : ℕ) (l m : Line)
     (us : List TenantState) → a ≡ b → IsSound b → IsAt b.lines i l → m.number ≡ l.number → first_able b.lines ≡ Some l
@@ -122,19 +137,29 @@ pub true_turn : (H : Type 0) → H → (failed fails next : ℕ) (commands : ℕ
     → IsToldAt (FailedBy failed fails next) (λ t. 2 ^ 63 ≤ commands t + 1) a.setup a.clock l.number l.session.stage a.tenants us
     l.session m.session
     → SpeaksTruth b (put_with a i m us)
-true_turn H honest failed fails next commands a b i l m us e sound at number first turn told = speaks_step b (put_with a i m us) (inl (record {
-  l = l;
-  m = m;
-  one = of_one a b i l m us e sound at number;
-  first = first;
-  turn = turn_on H honest l.session.stage b.tenants us turn;
-  failed = failed;
-  fails = fails;
-  next = next;
-  commands = commands;
-  told = subst (λ (x : BrokerState). IsToldAt (FailedBy failed fails next) (λ t. 2 ^ 63 ≤ commands t + 1) x.setup x.clock l.number
-      l.session.stage x.tenants us l.session m.session) e told;
-}))
+true_turn H honest failed fails next commands a b i l m us e sound at number first turn told =
+    let here = subst (λ (x : BrokerState). IsToldAt (FailedBy failed fails next) (λ t. 2 ^ 63 ≤ commands t + 1) x.setup x.clock l.number
+    l.session.stage x.tenants us l.session m.session) e told in
+    subst (λ (x : BrokerState). SpeaksTruth b (put_with x i m us)) (sym e) (speaks_step b (put_with b i m us)
+    (inl (is_turn H honest failed fails next commands b i l m us sound at number first turn here)))
+
+-- so it is of one that shut its connection for want of memory, and then that was counted
+pub refused_turn : (H : Type 0) → H → (failed fails next : ℕ) (commands : ℕ → ℕ) (a b c : BrokerState) (i : ℕ) (l m : Line)
+    (us : List TenantState) → a ≡ b → IsSound b → IsAt b.lines i l → m.number ≡ l.number → first_able b.lines ≡ Some l
+    → IsTurnAt H l.session.stage b.tenants us
+    → IsToldAt (FailedBy failed fails next) (λ t. 2 ^ 63 ≤ commands t + 1) a.setup a.clock l.number l.session.stage a.tenants us
+    l.session m.session
+    → m.session ≡ shut_down causes.Memory l.session → IsCountedAt l.number l.session.stage (put_with b i m us) c
+    → SpeaksTruth b c
+refused_turn H honest failed fails next commands a b c i l m us e sound at number first turn told shut counted =
+    let here = subst (λ (x : BrokerState). IsToldAt (FailedBy failed fails next) (λ t. 2 ^ 63 ≤ commands t + 1) x.setup x.clock l.number
+    l.session.stage x.tenants us l.session m.session) e told in
+    speaks_step b c (inr (inr (record {
+      left = put_with b i m us;
+      turn = is_turn H honest failed fails next commands b i l m us sound at number first turn here;
+      shut = shut;
+      counted = counted;
+    })))
 
 pub true_look : (H : Type 0) → H → (failed fails next : ℕ) (whom : Whom) (a b : BrokerState) (i : ℕ) (l m : Line) (us : List TenantState)
     → a ≡ b → IsSound b → IsAt b.lines i l

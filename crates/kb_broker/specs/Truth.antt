@@ -1,14 +1,15 @@
 -- What a broker says to its tenants, whatever memory and the store refused.
-use Rattle.std.specs.Prelude.{◌≡◌, ◌≤◌, ◌+◌, ◌^◌, ◌⊎◌, ℕ, List, [], ◌∷◌, Some, true, if◌then◌else◌, ⊤}
+use Rattle.std.specs.Prelude.{◌≡◌, ◌≤◌, ◌+◌, ◌^◌, ◌⊎◌, ℕ, List, [], ◌∷◌, Some, if◌then◌else◌, ⊤}
 use Rattle.kb_tenant_api.specs.Turns.{HavePassed}
 use Rattle.kb_tenant.specs.Told.{FailedBy}
-use Rattle.kb_isolation_spec.specs.Session.{Session, fed, overruns}
+use Rattle.kb_isolation_spec.specs.Session.{fed, overruns, shut_down}
+use Rattle.kb_isolation_spec.specs.declared.shut.Shut.TheVariants as causes
 use Rattle.kb_isolation_spec.specs.Machine.{Happening, Opens, Comes, Closes, Moment, Line, find_line, first_able}
 use Rattle.kb_isolation_spec.specs.Broker.{BrokerState, IsUntaken, kept_of}
 use Rattle.kb_isolation_spec.specs.Calls.{IsRefused, closed, left_by, moved, opened}
 use Rattle.kb_isolation_spec.specs.Told.{quieted_lines}
 use Rattle.kb_isolation_spec.specs.Turned.{SameOthers}
-use Rattle.kb_broker.specs.Places.{IsCountedAt, IsDoneOrShut, IsToldAgain, IsToldAt, IsTurnAt}
+use Rattle.kb_broker.specs.Places.{IsCountedAt, IsToldAgain, IsToldAt, IsTurnAt}
 
 -- 1. Steps while nothing comes
 
@@ -46,16 +47,15 @@ pub record IsTrueLook (old new : BrokerState) : Type 0 where
   pub next : ℕ
   pub told : IsToldAgain (FailedBy failed fails next) old.clock l.number l.session.stage old.tenants l.session m.session
 
--- a refusal was counted for which a connection had been shut: nothing was said
-pub record IsCountedShut (old new : BrokerState) : Type 0 where
-  pub n : ℕ
-  pub s : Session
-  pub here : find_line n old.lines ≡ Some s
-  pub shut : s.shut ≡ true
-  pub counted : IsCountedAt n s.stage old new
+-- A turn shut its connection for want of memory, and then that was counted, once.
+pub record IsRefusedTurn (old new : BrokerState) : Type 0 where
+  pub left : BrokerState
+  pub turn : IsTrueTurn old left
+  pub shut : turn.m.session ≡ shut_down causes.Memory turn.l.session
+  pub counted : IsCountedAt turn.l.number turn.l.session.stage left new
 
 abbrev pub IsTrueStep : BrokerState → BrokerState → Type 0
-IsTrueStep old new = IsTrueTurn old new ⊎ (IsTrueLook old new ⊎ IsCountedShut old new)
+IsTrueStep old new = IsTrueTurn old new ⊎ (IsTrueLook old new ⊎ IsRefusedTurn old new)
 
 abbrev pub LeadTo : BrokerState → List BrokerState → BrokerState → Type 0
 LeadTo old [] new = new ≡ old
@@ -68,15 +68,27 @@ pub record SpeaksTruth (old new : BrokerState) : Type 0 where
 
 -- 2. Events
 
--- A piece came on the connection of that number: it stands behind the unread bytes, or where there is no room or no memory for it the
--- connection was shut. A member of a group that waited on one that it overruns waits no longer.
+-- A piece came on the connection l of that number, which is m then. A member of a group that waited on one that it overruns waits no longer.
+pub record IsBrought (n : ℕ) (piece : List ℕ) (l m : Line) (old new : BrokerState) : Type 0 where
+  pub number : l.number ≡ n
+  pub one : IsOfOne old new l m
+  pub tenants : new.tenants ≡ (if overruns piece l.session then left_by old.clock n l.session.stage old.tenants else old.tenants)
+
+-- It stands behind the unread bytes, or where there is no room for it the connection was shut.
 pub record IsPiece (n : ℕ) (piece : List ℕ) (old new : BrokerState) : Type 0 where
   pub l : Line
   pub m : Line
-  pub number : l.number ≡ n
-  pub one : IsOfOne old new l m
-  pub session : IsDoneOrShut (fed piece l.session) l.session m.session
-  pub tenants : new.tenants ≡ (if overruns piece l.session then left_by old.clock n l.session.stage old.tenants else old.tenants)
+  pub brought : IsBrought n piece l m old new
+  pub session : m.session ≡ fed piece l.session
+
+-- No memory was had for it: the connection was shut, and then that was counted, once.
+pub record IsRefusedPiece (n : ℕ) (piece : List ℕ) (old new : BrokerState) : Type 0 where
+  pub l : Line
+  pub m : Line
+  pub left : BrokerState
+  pub brought : IsBrought n piece l m old left
+  pub session : m.session ≡ shut_down causes.Memory l.session
+  pub counted : IsCountedAt n m.session.stage left new
 
 -- the tenants had their own parts of a moment, and nothing was said
 pub record IsTrueMoment (old new : BrokerState) : Type 0 where
@@ -86,7 +98,7 @@ pub record IsTrueMoment (old new : BrokerState) : Type 0 where
 -- what an event brings, of which nothing is said yet
 abbrev pub Begins : Happening → BrokerState → BrokerState → Type 0
 Begins (Opens n) old new = (new ≡ opened old n) ⊎ IsRefused old new
-Begins (Comes n piece) old new = (IsUntaken n piece old × (new ≡ old)) ⊎ IsPiece n piece old new
+Begins (Comes n piece) old new = (IsUntaken n piece old × (new ≡ old)) ⊎ (IsPiece n piece old new ⊎ IsRefusedPiece n piece old new)
 Begins (Closes n) old new = new ≡ closed old n
 Begins (Moment now) old new = IsTrueMoment (moved old now) new
 

@@ -1,5 +1,7 @@
 use Rattle.std.proofs.Common.{◌≡◌, ◌<◌, ℕ, Some, ◌∙◌, refl, ap, set, subst, sym}
+use Rattle.kb_isolation_spec.specs.declared.shut.Shut.TheVariants as causes
 use Rattle.kb_isolation_spec.specs.Machine.{Line, work}
+use Rattle.kb_isolation_spec.specs.Session.{shut_down}
 use Rattle.kb_isolation_spec.specs.Broker.{BrokerState}
 use Rattle.kb_isolation_spec.specs.Turned.{IsGoing}
 use Rattle.kb_connection.specs.View.{stage_of}
@@ -17,7 +19,7 @@ use Rattle.kb_broker.proofs.Going.{left-by, not-parked, queue-turn, refused-left
 use Rattle.kb_broker.proofs.Fields.{rising-inside}
 use Rattle.kb_broker.proofs.Heard.{heard-set, roomy}
 use Rattle.kb_broker.proofs.Honest.{later-by, later-from, later-on, state-is, store-is}
-use Rattle.kb_broker.proofs.Truth.{find_put, speaks_counted, speaks_then, true_turn}
+use Rattle.kb_broker.proofs.Truth.{refused_turn, true_turn}
 use Rattle.kb_broker.proofs.RequestLimits.{limit-put}
 use Rattle.kb_broker.proofs.engine.Engine.serve.Given as given
 use Rattle.kb_broker.proofs.engine.Engine.serve.Goals as goal
@@ -87,6 +89,16 @@ turn-told g old new a b i l m here honest taken told =
     true_turn (shelf_is_honest g.S.Store.disk new) honest (g.S.Store.disk old).failures (g.S.Store.disk new.shelf.store).failures new.shelf.next (commands_of g.L.PartitionLog.log new) a b i l m (tenants_in g.L.PartitionLog.log g.S.Store.disk new)
     here taken.next.sound taken.at taken.number (taken.next.first l ∙ ap Some (sym taken.at.here)) taken.turn told
 
+-- so it is of one that was refused, and then that was counted
+turn-refused : (g : given.Over) (old : g.row.S.Denot) (new : Tenants g.row.L.Denot g.row.S.Denot) (a b c : BrokerState) (i : ℕ) (l m : Line) → let us = tenants_in g.L.PartitionLog.log g.S.Store.disk new in
+    a ≡ b → shelf_is_honest g.S.Store.disk new → IsTaken (shelf_is_honest g.S.Store.disk new) b i l m us
+    → IsToldAt (FailedBy (g.S.Store.disk old).failures (g.S.Store.disk new.shelf.store).failures new.shelf.next) (IsCatalogFull g.L.PartitionLog.log new) a.setup a.clock l.number l.session.stage a.tenants us l.session m.session
+    → m.session ≡ shut_down causes.Memory l.session → IsCountedAt l.number l.session.stage (put_with b i m us) c
+    → SpeaksTruth b c
+turn-refused g old new a b c i l m here honest taken told shut counted =
+    refused_turn (shelf_is_honest g.S.Store.disk new) honest (g.S.Store.disk old).failures (g.S.Store.disk new.shelf.store).failures new.shelf.next (commands_of g.L.PartitionLog.log new) a b c i l m (tenants_in g.L.PartitionLog.log g.S.Store.disk new)
+    here taken.next.sound taken.at taken.number (taken.next.first l ∙ ap Some (sym taken.at.here)) taken.turn told shut counted
+
 pub returns-in-Ok : goal.returns-in-Ok
 returns-in-Ok g c =
     let disk = g.S.Store.disk in
@@ -151,10 +163,7 @@ returns-in-Err g c =
       continues = refused-taken H b end i l m us l.session.stage taken refl shut taken.turn counted;
       later = later-from disk SpeaksTruth c.args.self.now c.refuse.new.self
           (later-by (disk c.args.self.now.store) (disk store) (disk c.refuse.new.self.store) c.args.self.now.strays strays c.refuse.new.self.strays b.tenants us end.tenants c.args.self.now.by_store shares c.refuse.new.self.by_store earlier same)
-          (λ honest. speaks_then b (put_with b i m us) end
-          (subst (λ (x : BrokerState). SpeaksTruth b (put_with x i m us)) here
-          (turn-told g c.self.inside.tenants.shelf.store c.take_turn-taken.new.tenants _ b i l m here (same.honest honest) taken (t.told (same.honest honest))))
-          (speaks_counted l.number l.session.stage l.session m.session (put_with b i m us) end (find_put b i l m us taken.next.sound taken.at taken.number) shut (sym (able-stage l.session taken.able)) counted));
+          (λ honest. turn-refused g c.self.inside.tenants.shelf.store c.take_turn-taken.new.tenants _ b end i l m here (same.honest honest) taken (t.told (same.honest honest)) shut counted);
       served = λ honest scope still. refused-for who l.session.stage scope b end all (served-refused H (same.honest honest) scope b end i l m us l.session.stage still taken refl shut taken.turn counted);
       remaining = λ honest. refused-left who l.session.stage end all;
       includes_itself = refused-own who l.session.stage _ all;

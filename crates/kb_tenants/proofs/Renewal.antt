@@ -114,7 +114,7 @@ module _ {L S : Type 0} (log : L → Log) (disk : S → Disk) (law : (l : L) →
       let first = stands log disk old t x lt read in
       let last = there_after log disk law old t x p x.groups cs shelf lt read kept (step_called log disk law old t x lt read kept mid p n x.groups cs shelf counted change) in
       let snapshot : snapshot_of (kept_of (hosted log disk old) t) ≡ length (snapshots.snapshot_of x.parts.catalog.known) =
-          ap snapshot_of (was_called log disk law old t x lt read kept mid p n x.groups cs shelf counted change) in
+      ap snapshot_of (was_called log disk law old t x lt read kept mid p n x.groups cs shelf counted change) in
       let had = commands_here log old.tenants.items t x first in
       let has = commands_called log disk law old t x lt read kept mid p n x.groups cs shelf counted change in
       let was = refusals_here log (disk old.shelf.store).files old.tenants.items t x first in
@@ -126,7 +126,7 @@ module _ {L S : Type 0} (log : L → Log) (disk : S → Disk) (law : (l : L) →
         counted = ⊎_elim
             (λ e. inl (omega (arith, e, more, was, is, count, sum)))
             (λ e. inr (counted_more (refusals_of (hosted log disk old) t) (refusals_of (hosted log disk new) t) m ((disk shelf.store).failures - (disk old.shelf.store).failures)
-                (omega (arith, sum)) (is ∙ more ∙ ap (λ k. max k n) e ∙ ap (max (counted_once x.parts.refusals)) count ∙ ap (λ k. max (counted_once k) (min (k + m) END)) (sym was))))
+            (omega (arith, sum)) (is ∙ more ∙ ap (λ k. max k n) e ∙ ap (max (counted_once x.parts.refusals)) count ∙ ap (λ k. max (counted_once k) (min (k + m) END)) (sym was))))
             (once_renewed r told);
         others = λ u ne.
             ap (λ ns. get_or ns u 0) (map-set (recorded log) old.tenants.items t (record x { parts = p; counts = cs }))

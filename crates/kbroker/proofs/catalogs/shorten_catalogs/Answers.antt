@@ -50,7 +50,7 @@ loop-place-preserved g c =
           (⊎_elim
           (λ (ne : t ≡ place → ⊥). subst (λ n. n ≤ snapshot_of (kept_of mid.state t)) (sym (done.others t ne)) (before.short (now.later.honest honest) t (omega (arith, lt, ne)) calms.0))
           (λ (here : t ≡ place). subst (λ n. get_or new.commands n 0 ≤ snapshot_of (kept_of mid.state n)) (sym here)
-              (done.shorter (subst (λ n. IsCalm (refusals_of mid.state n) (refusals_of new.state n)) here calms.1)))
+          (done.shorter (subst (λ n. IsCalm (refusals_of mid.state n) (refusals_of new.state n)) here calms.1)))
           (other_or_here t place));
       either = λ honest t.
           let was = before.either (now.later.honest honest) t in
@@ -58,22 +58,26 @@ loop-place-preserved g c =
           ⊎_elim
           (λ (ne : t ≡ place → ⊥). ⊎_elim (λ e. inl (done.others t ne ∙ e)) (λ e. inr (done.others t ne ∙ e)) was)
           (λ (here : t ≡ place). ⊎_elim
-              (λ e. ⊎_elim (λ f. inl (e ∙ f)) (λ f. inr (e ∙ f)) was)
-              (λ e. inr (e ∙ kept))
-              (subst (λ n. (get_or new.commands n 0 ≡ get_or mid.commands n 0) ⊎ (get_or new.commands n 0 ≡ snapshot_of (kept_of mid.state n))) (sym here) done.either))
+          (λ e. ⊎_elim (λ f. inl (e ∙ f)) (λ f. inr (e ∙ f)) was)
+          (λ e. inr (e ∙ kept))
+          (subst (λ n. (get_or new.commands n 0 ≡ get_or mid.commands n 0) ⊎ (get_or new.commands n 0 ≡ snapshot_of (kept_of mid.state n))) (sym here) done.either))
           (other_or_here t place);
       grows = λ t. (let a = before.grows t in let b = now.later.counts t in omega (arith, a, b));
       failures = omega (arith, risen, more);
       counted = λ t. ⊎_elim
           (λ (ne : t ≡ place → ⊥).
-              let was = before.counted t in
-              let few = was.1.0 in
-              (was.0, (omega (arith, few, risen, more), subst (IsCountedOnce was.0 (refusals_of first.state t)) (sym (now.turn.counts t ne)) was.1.1)))
+          let was = before.counted t in
+          let few = was.1.0 in
+          (was.0, (omega (arith, few, risen, more), subst (IsCountedOnce was.0 (refusals_of first.state t)) (sym (now.turn.counts t ne)) was.1.1)))
           (λ (here : t ≡ place).
-              let refused = (disk new.store).failures - (disk mid.store).failures in
-              (refused, (omega (arith, risen, more),
-                subst (λ n. IsCountedOnce refused n (refusals_of new.state t)) (before.untouched t (omega (arith, here)))
-                (subst (λ n. IsCountedOnce refused (refusals_of mid.state n) (refusals_of new.state n)) (sym here) done.counted))))
+          let refused = (disk new.store).failures - (disk mid.store).failures in (
+            refused,
+            (
+              omega (arith, risen, more),
+              subst (λ n. IsCountedOnce refused n (refusals_of new.state t)) (before.untouched t (omega (arith, here)))
+                  (subst (λ n. IsCountedOnce refused (refusals_of mid.state n) (refusals_of new.state n)) (sym here) done.counted),
+            ),
+          ))
           (other_or_here t place);
       untouched = λ t le. now.turn.counts t (λ here. omega (arith, le, here)) ∙ before.untouched t (omega (arith, le));
     }

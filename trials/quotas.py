@@ -263,7 +263,7 @@ def disk_bytes(folder):
 
 
 def on_disk(program, each, wanted):
-    """Whether a start and a check say what they have to of the disk, where two tenants have so many bytes each."""
+    """What a start and a check say of the disk, where two tenants have so many bytes each: how much of it is wrong, and how much there is."""
     with tempfile.TemporaryDirectory() as room:
         broker = Broker(program, room, more=BOTH.format(each))
         listens = broker.listens()
@@ -272,8 +272,12 @@ def on_disk(program, each, wanted):
         checked = subprocess.run(words, stdout=subprocess.PIPE, check=True, text=True).stdout
         size = disk_bytes(room)
         line = f"the disk of {room}/data has {size} bytes, and tenants may store {2 * each}"
-        said = [line in it for it in (broker.log(), checked)]
-    return [0 if listens else 1, *(it != (wanted and size is not None) for it in said)]
+        is_due = wanted and size is not None
+        looks = [("listens", listens), ("serve", (line in broker.log()) == is_due), ("check", (line in checked) == is_due)]
+    for name, is_well in looks:
+        if not is_well:
+            print(f"wrong: {name} on a disk of {size} bytes, of {2 * each} that may be stored")
+    return sum(not it[1] for it in looks), len(looks)
 
 
 def main(program):
@@ -285,8 +289,9 @@ def main(program):
         wrong, count = wrong + more[0], count + more[1]
     else:
         print("there is no kcat here: its part is left out")
-    disks = on_disk(program, 1 << 62, True) + on_disk(program, 1 << 20, False)
-    wrong, count = wrong + sum(disks), count + len(disks)
+    for each, wanted in ((1 << 62, True), (1 << 20, False)):
+        more = on_disk(program, each, wanted)
+        wrong, count = wrong + more[0], count + more[1]
     print(f"{wrong} of {count} wrong")
     return 1 if wrong else 0
 

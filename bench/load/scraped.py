@@ -6,6 +6,9 @@
 It starts a broker with a tenant and puts the brief load of load.c on it twice as often as there are pairs, 10 where nothing is said. In one run of
 each pair a client asks for /metrics once a second. Which of the two comes first alternates. For each figure it prints the medians of both, the
 mean of the pairs' ratios, and the standard error of that mean: within two of these the ratio is known.
+
+At last it asks for 200 pages, one after the other, and prints what processors were at work for one of them. The broker serves in one loop, so a
+page each second takes so much of each second from all else.
 """
 
 import os
@@ -76,6 +79,20 @@ def pair(load, broker, metrics, is_scraped_first):
     return runs[False], runs[True], pages
 
 
+def at_work(broker):
+    """For how many milliseconds processors were at work for the broker."""
+    with open(f"/proc/{broker.process.pid}/schedstat", encoding="ascii") as it:
+        return int(it.read().split()[0]) / 1e6
+
+
+def page_cost(broker, metrics, count=200):
+    """The milliseconds of processors for a page."""
+    before = at_work(broker)
+    for _ in range(count):
+        assert page(metrics, "GET /metrics")[0] == 200
+    return (at_work(broker) - before) / count
+
+
 def show(pairs):
     """Prints a line for each figure."""
     print("what | without | with a scrape each second | ratio | its standard error")
@@ -96,9 +113,11 @@ def main(words):
         try:
             assert broker.listens(), broker.log()
             pairs = [pair(load, broker, metrics, place % 2 == 1) for place in range(count)]
+            cost = page_cost(broker, metrics)
         finally:
             broker.stop()
     show(pairs)
+    print(f"a page takes {cost:.2f} ms of the broker: {cost / 10:.3f} % of each second")
     print(f"{count} pairs, {sum(it[2] for it in pairs)} pages; 1, 5 and 15 minutes' load of the machine: {' '.join(f'{it:.1f}' for it in os.getloadavg())}")
 
 

@@ -10,6 +10,7 @@ use kb_operator::{
     FolderJournal, OperatorFault, data_folder, disk_text, is_folder, look_into, settings_of,
     settings_of_files, write_settings,
 };
+use kb_settings::Settings;
 use kb_start::Consent;
 use std::alloc::{AllocError, Global};
 use std::io;

@@ -8,6 +8,7 @@ use Rattle.kb_wire.specs.declared.fault.WireFault.TheVariants.{Bad}
 use Rattle.kb_wire.specs.Codec.{Codec, int32, string, count, whole, ◌⊗◌, ◌>>=◌}
 use Rattle.kb_api_group.specs.Frames.{Front, Whole, Partial, TooSmall, TooLarge}
 use Rattle.kb_api_data.specs.Layouts.{fetch_request_v5, fetch_partition_reply_v5}
+use Rattle.kb_api_data.specs.declared.fetch_v5.FetchRequestV5.{FetchRequestV5}
 use Rattle.kb_api_data.specs.declared.fetch_v5.FetchTopicV5.{FetchTopicV5}
 use Rattle.kb_api_data.specs.declared.fetch_v5.FetchPartitionReplyV5.{FetchPartitionReplyV5}
 use Rattle.kb_client.specs.declared.arrival.Arrival.{Arrival}
@@ -33,15 +34,18 @@ patience true = pos 500
 patience false = pos 0
 
 -- Fetch of one partition, as a client that is no replica
-abbrev pub fetch_text : ℤ → Target → ℤ → Bool → List ℕ
-fetch_text id t offset follow = request_text FETCH (pos 5) id (fetch_request_v5.written (record {
+abbrev pub fetch_request : Target → ℤ → Bool → FetchRequestV5
+fetch_request t offset follow = record {
   replica_id = negsuc 0;
   max_wait_ms = patience follow;
   min_bytes = pos 1;
   max_bytes = pos 1048576;
   isolation_level = pos 0;
   topics = fetch_topics t offset;
-}))
+}
+
+abbrev pub fetch_text : ℤ → Target → ℤ → Bool → List ℕ
+fetch_text id t offset follow = request_text FETCH (pos 5) id (fetch_request_v5.written (fetch_request t offset follow))
 
 -- Fetch of one partition: an array of one topic, which has an array of one partition
 abbrev pub one_fetched : Codec (ℤ × (ℕ × (List ℕ × (ℕ × FetchPartitionReplyV5))))

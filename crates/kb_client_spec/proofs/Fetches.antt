@@ -1,7 +1,7 @@
 -- What a broker reads in a fetch request, and a consumer in its reply.
 use Rattle.std.proofs.Common.{◌≡◌, ℕ, ◌+◌, ◌≤◌, Bool, true, false, List, [], ◌∷◌, ◌++◌, length, Some, None, Ok, refl, ap, arith, lit<}
 use Rattle.std.specs.Prelude.{ℤ, pos, negsuc, FitsSigned, IsUtf8}
-use Rattle.std.specs.Int.{w32, w64}
+use Rattle.std.specs.Int.{w16, w32, w64}
 use Rattle.std.proofs.lemmas.List.{length-append, append-nil}
 use Rattle.std.proofs.lemmas.List.Elements.{All-cons, All-nil}
 use Rattle.kb_wire.specs.Codec.{int, int8, int16, int32, int64, count, counted, nullable_counted, sized, nullable, octets, utf8, items, string, nullable_blob, array, nullable_array, whole, ◌⊗◌}
@@ -14,8 +14,8 @@ use Rattle.kb_api_data.specs.declared.fetch_v5.FetchTopicV5.{FetchTopicV5}
 use Rattle.kb_api_data.specs.declared.fetch_v5.FetchPartitionV5.{FetchPartitionV5}
 use Rattle.kb_api_data.specs.declared.fetch_v5.FetchPartitionReplyV5.{FetchPartitionReplyV5}
 use Rattle.kb_client.specs.Sent.{Target}
-use Rattle.kb_client.specs.Fetched.{fetch_topics, patience, one_fetched, fetched_partition}
-use Rattle.kb_client_spec.specs.Consuming.{Fetch, if_fetch, fetched_reply}
+use Rattle.kb_client.specs.Fetched.{fetch_request, fetch_topics, patience, one_fetched, fetched_partition}
+use Rattle.kb_client_spec.specs.Fetching.{Fetch, if_fetch, partition_reply, reply_body}
 use Rattle.kb_client_spec.proofs.Texts.{whole_spelled, whole_written, wrapped, wrapped_spelled, pair_len, int16_len, int32_len, int64_len, string_len, some_blob_len, one_len}
 
 -- ---- the request
@@ -91,6 +91,10 @@ ask_fits : (t : Target) (offset : ℤ) (follow : Bool) → length t.topic ≤ 25
 unfolding ask fetch_request_v5 int
 ask_fits t offset follow short = (tt, (tt, (tt, (tt, (tt, array_fits fetch_topic_v5 (fetch_topics t offset) (lit< tt) (All-cons fetch_topic_v5.Fits (asked_topic t offset) [] (topic_fits t offset short) (All-nil fetch_topic_v5.Fits)))))))
 
+pub fetch_read : (t : Target) (offset : ℤ) (follow : Bool) → length t.topic ≤ 255 → IsUtf8 t.topic → FitsSigned w32 t.partition → FitsSigned w64 offset → whole fetch_request_v5 (fetch_request_v5.written (fetch_request t offset follow)) ≡ Ok (fetch_request t offset follow)
+unfolding ask
+fetch_read t offset follow short text p o = whole_written fetch_request_v5 fetch_request_v5_lawful (ask t offset follow) (ask_ranged t offset follow text p o) (ask_fits t offset follow short)
+
 abbrev pub fetch_at : Target → ℤ → Fetch
 fetch_at t offset = record { topic = t.topic; index = t.partition; offset = offset }
 
@@ -103,11 +107,11 @@ fetch_asked t offset follow short text p o = ap if_fetch (whole_written fetch_re
 one_fetched_lawful : IsLawful one_fetched
 one_fetched_lawful = pair_lawful int32_lawful (pair_lawful (counted_lawful int32 int32_lawful) (pair_lawful string_lawful (pair_lawful (counted_lawful int32 int32_lawful) fetch_partition_reply_v5_lawful)))
 
-partition_text : ℤ → ℤ → ℤ → List ℕ → List ℕ
-partition_text index start end records = fetch_partition_reply_v5.written (record { partition = index; error_code = pos 0; high_watermark = end; last_stable_offset = end; log_start_offset = start; aborted_transactions = None; records = Some records })
+partition_text : ℤ → ℤ → ℤ → ℤ → List ℕ → List ℕ
+partition_text index code end start records = fetch_partition_reply_v5.written (partition_reply index code end start records)
 
-unfoldable pub partition_value : ℤ → ℤ → ℤ → List ℕ → FetchPartitionReplyV5
-partition_value index start end records = record { partition = index; error_code = pos 0; high_watermark = wrapped end; last_stable_offset = wrapped end; log_start_offset = wrapped start; aborted_transactions = None; records = Some records }
+unfoldable pub partition_value : ℤ → ℤ → ℤ → ℤ → List ℕ → FetchPartitionReplyV5
+partition_value index code end start records = record { partition = index; error_code = code; high_watermark = wrapped end; last_stable_offset = wrapped end; log_start_offset = wrapped start; aborted_transactions = None; records = Some records }
 
 none_spelled : (nullable_array aborted_transaction).Spells ((nullable_array aborted_transaction).written None) None
 unfolding int nullable nullable_counted
@@ -117,9 +121,9 @@ records_spelled : (records : List ℕ) → length records ≤ 1048588 → nullab
 unfolding nullable nullable_counted octets
 records_spelled records small = nullable_blob_lawful.again (Some records) (tt, tt) (nullable_blob_fits records (omega (arith, small)))
 
-zero16 : int16.Spells (int16.written (pos 0)) (pos 0)
+code_spelled : (code : ℤ) → FitsSigned w16 code → int16.Spells (int16.written code) code
 unfolding int
-zero16 = int16_lawful.again (pos 0) (record { sfits = lit< tt }) tt
+code_spelled code fits = int16_lawful.again code fits tt
 
 zero32 : int32.Spells (int32.written (pos 0)) (pos 0)
 unfolding int
@@ -129,22 +133,22 @@ index_spelled : (index : ℤ) → FitsSigned w32 index → int32.Spells (int32.w
 unfolding int
 index_spelled index fits = int32_lawful.again index fits tt
 
-partition_spelled : (index start end : ℤ) (records : List ℕ) → FitsSigned w32 index → length records ≤ 1048588 → fetch_partition_reply_v5.Spells (partition_text index start end records) (partition_value index start end records)
+partition_spelled : (index code end start : ℤ) (records : List ℕ) → FitsSigned w32 index → FitsSigned w16 code → length records ≤ 1048588 → fetch_partition_reply_v5.Spells (partition_text index code end start records) (partition_value index code end start records)
 unfolding fetch_partition_reply_v5 partition_text partition_value
-partition_spelled index start end records fits small =
+partition_spelled index code end start records fits coded small =
     let s = int64.written start in
     let e = int64.written end in
     let a = (nullable_array aborted_transaction).written None in
     let r = nullable_blob.written (Some records) in (
       int32.written index,
-      int16.written (pos 0) ++ (e ++ (e ++ (s ++ (a ++ r)))),
+      int16.written code ++ (e ++ (e ++ (s ++ (a ++ r)))),
       refl,
       index_spelled index fits,
       (
-        int16.written (pos 0),
+        int16.written code,
         e ++ (e ++ (s ++ (a ++ r))),
         refl,
-        zero16,
+        code_spelled code coded,
         (
           e,
           e ++ (s ++ (a ++ r)),
@@ -164,9 +168,12 @@ partition_spelled index start end records fits small =
 regrouped : (t c n d p : List ℕ) → t ++ (c ++ ((n ++ (d ++ (p ++ []))) ++ [])) ≡ t ++ (c ++ (n ++ (d ++ p)))
 regrouped t c n d p = simp append-nil
 
-fetched_reply_is : (f : Fetch) (start end : ℤ) (records : List ℕ) → fetched_reply f start end records ≡ int32.written (pos 0) ++ ((count w32).written 1 ++ (string.written f.topic ++ ((count w32).written 1 ++ partition_text f.index start end records)))
+abbrev pub replied : Fetch → ℤ → ℤ → ℤ → List ℕ → List ℕ
+replied f code end start records = reply_body f (partition_reply f.index code end start records)
+
+replied_is : (f : Fetch) (code end start : ℤ) (records : List ℕ) → replied f code end start records ≡ int32.written (pos 0) ++ ((count w32).written 1 ++ (string.written f.topic ++ ((count w32).written 1 ++ partition_text f.index code end start records)))
 unfolding fetch_reply_v5 fetch_topic_reply_v5 partition_text sized items
-fetched_reply_is f start end records = regrouped (int32.written (pos 0)) ((count w32).written 1) (string.written f.topic) ((count w32).written 1) (partition_text f.index start end records)
+replied_is f code end start records = regrouped (int32.written (pos 0)) ((count w32).written 1) (string.written f.topic) ((count w32).written 1) (partition_text f.index code end start records)
 
 one_spelled : (count w32).Spells ((count w32).written 1) 1
 unfolding int counted
@@ -176,15 +183,15 @@ topic_spelled : (name : List ℕ) → length name ≤ 255 → IsUtf8 name → st
 unfolding sized counted utf8
 topic_spelled name short text = string_lawful.again name (tt, text) (string_fits name (omega (arith, short)))
 
-fetched_spelled : (f : Fetch) (start end : ℤ) (records : List ℕ) → length f.topic ≤ 255 → IsUtf8 f.topic → FitsSigned w32 f.index → length records ≤ 1048588 → one_fetched.Spells (fetched_reply f start end records) (pos 0, (1, (f.topic, (1, partition_value f.index start end records))))
-fetched_spelled f start end records short text fits small =
+replied_spelled : (f : Fetch) (code end start : ℤ) (records : List ℕ) → length f.topic ≤ 255 → IsUtf8 f.topic → FitsSigned w32 f.index → FitsSigned w16 code → length records ≤ 1048588 → one_fetched.Spells (replied f code end start records) (pos 0, (1, (f.topic, (1, partition_value f.index code end start records))))
+replied_spelled f code end start records short text fits coded small =
     let t = int32.written (pos 0) in
     let c = (count w32).written 1 in
     let n = string.written f.topic in
-    let p = partition_text f.index start end records in (
+    let p = partition_text f.index code end start records in (
       t,
       c ++ (n ++ (c ++ p)),
-      fetched_reply_is f start end records,
+      replied_is f code end start records,
       zero32,
       (
         c,
@@ -196,32 +203,32 @@ fetched_spelled f start end records short text fits small =
           c ++ p,
           refl,
           topic_spelled f.topic short text,
-          (c, p, refl, one_spelled, partition_spelled f.index start end records fits small),
+          (c, p, refl, one_spelled, partition_spelled f.index code end start records fits coded small),
         ),
       ),
     )
 
-pub fetched_heard : (f : Fetch) (start end : ℤ) (records : List ℕ) → length f.topic ≤ 255 → IsUtf8 f.topic → FitsSigned w32 f.index → length records ≤ 1048588 → fetched_partition (fetched_reply f start end records) ≡ Ok (partition_value f.index start end records)
-fetched_heard f start end records short text fits small =
-    let read : whole one_fetched (fetched_reply f start end records) ≡ Ok (pos 0, (1, (f.topic, (1, partition_value f.index start end records)))) = whole_spelled one_fetched one_fetched_lawful (fetched_reply f start end records) (pos 0, (1, (f.topic, (1, partition_value f.index start end records)))) (fetched_spelled f start end records short text fits small) in
+pub replied_heard : (f : Fetch) (code end start : ℤ) (records : List ℕ) → length f.topic ≤ 255 → IsUtf8 f.topic → FitsSigned w32 f.index → FitsSigned w16 code → length records ≤ 1048588 → fetched_partition (replied f code end start records) ≡ Ok (partition_value f.index code end start records)
+replied_heard f code end start records short text fits coded small =
+    let read : whole one_fetched (replied f code end start records) ≡ Ok (pos 0, (1, (f.topic, (1, partition_value f.index code end start records)))) = whole_spelled one_fetched one_fetched_lawful (replied f code end start records) (pos 0, (1, (f.topic, (1, partition_value f.index code end start records)))) (replied_spelled f code end start records short text fits coded small) in
     rw read refl
 
 no_array_len : length ((nullable_array aborted_transaction).written None) ≡ 4
 unfolding nullable nullable_counted
 no_array_len = int32_len (negsuc 0)
 
-partition_text_len : (index start end : ℤ) (records : List ℕ) → length (partition_text index start end records) ≡ 38 + length records
+partition_text_len : (index code end start : ℤ) (records : List ℕ) → length (partition_text index code end start records) ≡ 38 + length records
 unfolding partition_text fetch_partition_reply_v5
-partition_text_len index start end records = omega (
+partition_text_len index code end start records = omega (
   arith,
-  pair_len int32 (int16 ⊗ int64 ⊗ int64 ⊗ int64 ⊗ nullable_array aborted_transaction ⊗ nullable_blob) index (pos 0, (end, (end, (start, (None, Some records))))),
-  pair_len int16 (int64 ⊗ int64 ⊗ int64 ⊗ nullable_array aborted_transaction ⊗ nullable_blob) (pos 0) (end, (end, (start, (None, Some records)))),
+  pair_len int32 (int16 ⊗ int64 ⊗ int64 ⊗ int64 ⊗ nullable_array aborted_transaction ⊗ nullable_blob) index (code, (end, (end, (start, (None, Some records))))),
+  pair_len int16 (int64 ⊗ int64 ⊗ int64 ⊗ nullable_array aborted_transaction ⊗ nullable_blob) code (end, (end, (start, (None, Some records)))),
   pair_len int64 (int64 ⊗ int64 ⊗ nullable_array aborted_transaction ⊗ nullable_blob) end (end, (start, (None, Some records))),
   pair_len int64 (int64 ⊗ nullable_array aborted_transaction ⊗ nullable_blob) end (start, (None, Some records)),
   pair_len int64 (nullable_array aborted_transaction ⊗ nullable_blob) start (None, Some records),
   pair_len (nullable_array aborted_transaction) nullable_blob None (Some records),
   int32_len index,
-  int16_len (pos 0),
+  int16_len code,
   int64_len end,
   int64_len start,
   no_array_len,
@@ -232,10 +239,10 @@ one_count_len : length ((count w32).written 1) ≡ 4
 unfolding counted
 one_count_len = int32_len (pos 1)
 
-pub fetched_reply_len : (f : Fetch) (start end : ℤ) (records : List ℕ) → length (fetched_reply f start end records) ≡ 52 + length f.topic + length records
-fetched_reply_len f start end records =
+pub replied_len : (f : Fetch) (code end start : ℤ) (records : List ℕ) → length (replied f code end start records) ≡ 52 + length f.topic + length records
+replied_len f code end start records =
     let t = int32.written (pos 0) in
     let c = (count w32).written 1 in
     let n = string.written f.topic in
-    let p = partition_text f.index start end records in
-    omega (arith, ap length (fetched_reply_is f start end records), length-append t (c ++ (n ++ (c ++ p))), length-append c (n ++ (c ++ p)), length-append n (c ++ p), length-append c p, int32_len (pos 0), one_count_len, string_len f.topic, partition_text_len f.index start end records)
+    let p = partition_text f.index code end start records in
+    omega (arith, ap length (replied_is f code end start records), length-append t (c ++ (n ++ (c ++ p))), length-append c (n ++ (c ++ p)), length-append n (c ++ p), length-append c p, int32_len (pos 0), one_count_len, string_len f.topic, partition_text_len f.index code end start records)

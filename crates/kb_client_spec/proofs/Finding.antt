@@ -1,7 +1,7 @@
 -- What a consumer finds in the batches that a fetch is answered.
-use Rattle.std.proofs.Common.{◌≡◌, ℕ, zero, suc, ◌+◌, ◌-◌, ◌^◌, ◌≤◌, Bool, true, false, cond, ltb, List, [], ◌∷◌, ◌++◌, length, take, drop, Option, Some, None, refl, sym, ap, subst, ◌∙◌, append_assoc, arith}
+use Rattle.std.proofs.Common.{◌≡◌, ℕ, zero, suc, ◌+◌, ◌-◌, ◌^◌, ◌≤◌, Bool, true, false, cond, ltb, List, [], ◌∷◌, ◌++◌, length, take, drop, Option, Some, None, refl, sym, ap, subst, ◌∙◌, append_assoc, arith, inl, inr}
 use Rattle.std.specs.Int.{w64}
-use Rattle.std.specs.Prelude.{FitsSigned, ℤ, pos, negsuc, ◌≤ℤ◌, ◌<ℤ◌, ◌+ℤ◌, ◌-ℤ◌, int_lt, unsigned_abs, option_map, option_and_then, ◌&&◌}
+use Rattle.std.specs.Prelude.{FitsSigned, ℤ, pos, negsuc, ◌≤ℤ◌, ◌<ℤ◌, ◌+ℤ◌, ◌-ℤ◌, ◌⊎◌, int_lt, unsigned_abs, option_map, option_and_then, ◌&&◌}
 use Rattle.std.specs.List.{flat_map}
 use Rattle.std.proofs.lemmas.Int.{ints}
 use Rattle.std.proofs.lemmas.List.{append-nil, length-append, length-map, drop_all, drop_at}
@@ -13,9 +13,9 @@ use Rattle.kb_batch.specs.Scan.{views_of}
 use Rattle.kb_batch.specs.Batch.{IsBatch, count_of, records_of, front}
 use Rattle.kb_batch.specs.BatchLaws.{batch_counted, batch_long, batch_small, front-append}
 use Rattle.kb_client.specs.Lines.{Found, batches_in, is_ahead, with_batch, with_batches, found_in, above, end_of, less, at_most, records_from, line_text}
-use Rattle.kb_client_spec.specs.Consuming.{fitting}
+use Rattle.kb_client_spec.specs.Fetching.{fitting}
 use Rattle.std.proofs.lemmas.Bool.{ltb-false}
-use Rattle.kb_client_spec.specs.Partition.{IsLog, from_holding, records_of_log, joined, batches_given}
+use Rattle.kb_client_spec.specs.Partition.{IsLog, end_of_log, from_holding, records_of_log, joined, batches_given}
 
 -- ---- offsets
 
@@ -44,11 +44,26 @@ all_from off b le = ap (λ n. drop n (views_of b)) (near (base_offset_of b) off 
 end_above : (b : List ℕ) → IsBatch b → base_offset_of b <ℤ end_of b
 end_above b is = let some : 1 ≤ count_of b = batch_counted b is in omega (arith, ints, some)
 
-at_or_below : (a b c : ℤ) → a ≤ℤ b → b ≤ℤ c → a ≤ℤ c
+pub at_or_below : (a b c : ℤ) → a ≤ℤ b → b ≤ℤ c → a ≤ℤ c
 at_or_below a b c e f = omega (arith, ints)
 
 below_then : (a b : ℤ) → a <ℤ b → a ≤ℤ b
 below_then a b e = omega (arith, ints)
+
+-- a log ends where it begins or above
+log_ends : (from : ℤ) (bs : List (List ℕ)) → IsLog from bs → from ≤ℤ end_of_log from bs
+log_ends from [] log = omega (arith, ints)
+log_ends from (b ∷ bs) log =
+    let up : from ≤ℤ end_of b = at_or_below from (base_offset_of b) (end_of b) log.1 (below_then (base_offset_of b) (end_of b) (end_above b log.0)) in
+    at_or_below from (end_of b) (end_of_log (end_of b) bs) up (log_ends (end_of b) bs log.3)
+
+pub end_grows : (from : ℤ) (xs bs : List (List ℕ)) → IsLog from (xs ++ bs) → end_of_log from xs ≤ℤ end_of_log from (xs ++ bs)
+end_grows from [] bs log = log_ends from bs log
+end_grows from (x ∷ xs) bs log = end_grows (end_of x) xs bs log.3
+
+up_to_end : (x y z : ℤ) → y ≤ℤ z → (x ≤ℤ y) ⊎ (x ≤ℤ z) → x ≤ℤ z
+up_to_end x y z le (inl h) = at_or_below x y z h le
+up_to_end x y z le (inr h) = h
 
 -- of a log that begins at an offset or above each record is at it or above
 pub whole_log : (off from : ℤ) (bs : List (List ℕ)) → off ≤ℤ from → IsLog from bs → records_of_log off bs ≡ flat_map (λ b. views_of b) bs
@@ -110,6 +125,7 @@ pub record Finds (f : Found) (bs read : List (List ℕ)) : Type 0 where
   pub wanted : after.wanted ≡ less f.wanted (length records)
   pub rises : f.offset ≤ℤ after.offset
   pub fits : FitsSigned w64 f.offset → FitsSigned w64 after.offset
+  pub ends : (from : ℤ) → IsLog from bs → (after.offset ≤ℤ f.offset) ⊎ (after.offset ≤ℤ end_of_log from bs)
   -- of batches behind these the same is left
   pub later : (from : ℤ) (between more : List (List ℕ)) → IsLog from (bs ++ (between ++ more)) → records_of_log f.offset more ≡ records_of_log after.offset more
 
@@ -123,6 +139,7 @@ finds_none f bs = record {
   wanted = none_less f.wanted;
   rises = omega (arith, ints);
   fits = λ fit. fit;
+  ends = λ from log. inl (omega (arith, ints));
   later = λ from between more log. refl;
 }
 
@@ -157,6 +174,7 @@ finds_first f b bs read lt low log next =
       wanted = next.wanted ∙ less_more f.wanted (length r) (length next.records) ∙ ap (λ n. less f.wanted n) (sym (length-append r next.records));
       rises = at_or_below f.offset (end_of b) next.after.offset (below_then f.offset (end_of b) lt) next.rises;
       fits = λ fit. next.fits (end_fits f.offset (end_of b) lt low fit);
+      ends = λ from whole. inr (up_to_end next.after.offset (end_of b) (end_of_log (end_of b) bs) (log_ends (end_of b) bs whole.3) (next.ends (end_of b) whole.3));
       later = λ from between more whole. later_log f.offset (end_of b) (end_of b) bs between more (below_then f.offset (end_of b) lt) (omega (arith, ints)) whole.3 ∙ next.later (end_of b) between more whole.3;
     }
 
@@ -186,6 +204,7 @@ skipped f b bs read le next =
       wanted = next.wanted;
       rises = next.rises;
       fits = next.fits;
+      ends = λ from whole. next.ends (end_of b) whole.3;
       later = λ from between more whole. next.later (end_of b) between more whole.3;
     }
 

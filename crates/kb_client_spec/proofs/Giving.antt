@@ -1,7 +1,8 @@
 -- What holds of a consumer and its partition, whatever happened.
 use Rattle.std.proofs.Common.{◌≡◌, ℕ, zero, suc, ◌-◌, Bool, true, false, List, [], ◌∷◌, ◌++◌, length, take, drop, Option, Some, None, refl, sym, ap, subst, ◌∙◌, append_assoc, arith, inl, inr}
 use Rattle.std.specs.Int.{w64}
-use Rattle.std.specs.Prelude.{FitsSigned, ℤ, ◌⊎◌}
+use Rattle.std.specs.Prelude.{FitsSigned, ℤ, ◌≤ℤ◌, ◌⊎◌}
+use Rattle.std.proofs.lemmas.Int.{ints}
 use Rattle.std.specs.List.{flat_map}
 use Rattle.std.proofs.lemmas.List.{append-nil, length-append, length-take, take_at, take_all, take-append-drop}
 use Rattle.std.proofs.lemmas.List.Concat.{flat_map-append}
@@ -10,10 +11,10 @@ use Rattle.kb_client.specs.declared.fetching.Fetching.{Fetching}
 use Rattle.kb_client.specs.declared.fetching.Fetching.TheVariants as stages
 use Rattle.kb_client.specs.Sent.{Target}
 use Rattle.kb_client.specs.Lines.{found_in, less, at_most, records_from, line_text}
-use Rattle.kb_client.specs.Consumer.{Consumer, fresh, connected, restarted, entered, given, with_found, wanting, at_end, without_text}
-use Rattle.kb_client_spec.specs.Partition.{IsLog, records_of_log, joined, batches_given}
+use Rattle.kb_client.specs.Consumer.{Consumer, fault_at, fresh, connected, restarted, entered, given, with_found, wanting, at_end, without_text}
+use Rattle.kb_client_spec.specs.Partition.{IsLog, end_of_log, records_of_log, joined, batches_given}
 use Rattle.kb_client_spec.specs.Consuming.{IsWithin, IsFull}
-use Rattle.kb_client_spec.proofs.Finding.{Finds, finds_answered, found_answered, answered_some, nothing_held, less_more, found_text, no_lines, none_less}
+use Rattle.kb_client_spec.proofs.Finding.{at_or_below, end_grows, Finds, finds_answered, found_answered, answered_some, nothing_held, less_more, found_text, no_lines, none_less}
 
 -- a consumer and its partition, with the batches as a value that a reply holds which is under way
 pub record World : Type 0 where
@@ -189,6 +190,20 @@ holds-replied offset wanted follow n w at h = record {
   finished = λ s. fetches w.core.stage _ at s;
 }
 
+-- a refusal is made: no batch is in it
+pub holds-refused : (offset : ℤ) (wanted : Option ℕ) (follow : Bool) (w : World) → w.core.stage ≡ stages.Fetch → Holds offset wanted follow w → Holds offset wanted follow (record w { reply = None; met = length w.batches })
+holds-refused offset wanted follow w at h = record {
+  log = h.log;
+  records = h.records;
+  split = h.split;
+  text = h.text;
+  left = h.left;
+  later = h.later;
+  reply = tt;
+  follows = h.follows;
+  finished = λ s. fetches w.core.stage _ at s;
+}
+
 -- ---- a reply comes
 
 abbrev came : Consumer → World → World
@@ -270,6 +285,52 @@ holds-come offset wanted follow w (Some r) h x = came_by offset wanted follow w 
 -- the offset stays an INT64
 pub come_fits : (offset : ℤ) (wanted : Option ℕ) (follow : Bool) (w : World) (r : List (List ℕ)) (h : Holds offset wanted follow w) → IsReply offset h.records w r → FitsSigned w64 w.core.found.offset → FitsSigned w64 (given (joined r) w.core).found.offset
 come_fits offset wanted follow w r h x fit = fits_by offset wanted follow w r h x fit r refl
+
+-- no fault stands then
+end_going : (follow : Bool) → fault_at (at_end follow) ≡ None
+end_going true = refl
+end_going false = refl
+
+more_going : (w : Option ℕ) → fault_at (wanting w stages.Fetch) ≡ None
+more_going None = refl
+more_going (Some zero) = refl
+more_going (Some (suc n)) = refl
+
+going_by : (offset : ℤ) (wanted : Option ℕ) (follow : Bool) (w : World) (r : List (List ℕ)) (h : Holds offset wanted follow w) (x : IsReply offset h.records w r) (read : List (List ℕ)) → r ≡ read → fault_at (given (joined r) w.core).stage ≡ None
+going_by offset wanted follow w r h x [] e = subst (λ (bs : List (List ℕ)). fault_at (given (joined bs) w.core).stage ≡ None) (sym e) (end_going w.core.follow)
+going_by offset wanted follow w r h x (b ∷ read) e =
+    let f = finds_answered x.n w.core.found w.start x.old x.log in
+    subst (λ (c : Consumer). fault_at c.stage ≡ None) (sym (given_is offset wanted follow w r h x b read e)) (more_going f.after.wanted)
+
+pub come_going : (offset : ℤ) (wanted : Option ℕ) (follow : Bool) (w : World) (r : List (List ℕ)) (h : Holds offset wanted follow w) → IsReply offset h.records w r → fault_at (given (joined r) w.core).stage ≡ None
+come_going offset wanted follow w r h x = going_by offset wanted follow w r h x r refl
+
+-- the offset rises, and stays within the log
+rises_by : (offset : ℤ) (wanted : Option ℕ) (follow : Bool) (w : World) (r : List (List ℕ)) (h : Holds offset wanted follow w) (x : IsReply offset h.records w r) (read : List (List ℕ)) → r ≡ read → w.core.found.offset ≤ℤ (given (joined r) w.core).found.offset
+rises_by offset wanted follow w r h x [] e = subst (λ (bs : List (List ℕ)). w.core.found.offset ≤ℤ (given (joined bs) w.core).found.offset) (sym e) (omega (arith, ints))
+rises_by offset wanted follow w r h x (b ∷ read) e =
+    let f = finds_answered x.n w.core.found w.start x.old x.log in
+    subst (λ (c : Consumer). w.core.found.offset ≤ℤ c.found.offset) (sym (given_is offset wanted follow w r h x b read e)) f.rises
+
+pub come_rises : (offset : ℤ) (wanted : Option ℕ) (follow : Bool) (w : World) (r : List (List ℕ)) (h : Holds offset wanted follow w) → IsReply offset h.records w r → w.core.found.offset ≤ℤ (given (joined r) w.core).found.offset
+come_rises offset wanted follow w r h x = rises_by offset wanted follow w r h x r refl
+
+old_end : (start : ℤ) (bs old more : List (List ℕ)) → bs ≡ old ++ more → IsLog start bs → end_of_log start old ≤ℤ end_of_log start bs
+old_end start bs old more is log = subst (λ (xs : List (List ℕ)). end_of_log start old ≤ℤ end_of_log start xs) (sym is) (end_grows start old more (subst (IsLog start) is log))
+
+within_either : (after offset end old : ℤ) → offset ≤ℤ end → old ≤ℤ end → (after ≤ℤ offset) ⊎ (after ≤ℤ old) → after ≤ℤ end
+within_either after offset end old le lo (inl h) = at_or_below after offset end h le
+within_either after offset end old le lo (inr h) = at_or_below after old end h lo
+
+ends_by : (offset : ℤ) (wanted : Option ℕ) (follow : Bool) (w : World) (r : List (List ℕ)) (h : Holds offset wanted follow w) (x : IsReply offset h.records w r) → w.core.found.offset ≤ℤ end_of_log w.start w.batches → (read : List (List ℕ)) → r ≡ read → (given (joined r) w.core).found.offset ≤ℤ end_of_log w.start w.batches
+ends_by offset wanted follow w r h x le [] e = subst (λ (bs : List (List ℕ)). (given (joined bs) w.core).found.offset ≤ℤ end_of_log w.start w.batches) (sym e) le
+ends_by offset wanted follow w r h x le (b ∷ read) e =
+    let f = finds_answered x.n w.core.found w.start x.old x.log in
+    subst (λ (c : Consumer). c.found.offset ≤ℤ end_of_log w.start w.batches) (sym (given_is offset wanted follow w r h x b read e))
+    (within_either f.after.offset w.core.found.offset (end_of_log w.start w.batches) (end_of_log w.start x.old) le (old_end w.start w.batches x.old x.more x.is h.log) (f.ends w.start x.log))
+
+pub come_ends : (offset : ℤ) (wanted : Option ℕ) (follow : Bool) (w : World) (r : List (List ℕ)) (h : Holds offset wanted follow w) → IsReply offset h.records w r → w.core.found.offset ≤ℤ end_of_log w.start w.batches → (given (joined r) w.core).found.offset ≤ℤ end_of_log w.start w.batches
+come_ends offset wanted follow w r h x le = ends_by offset wanted follow w r h x le r refl
 
 -- what changes nothing that was found
 same_reply : (offset : ℤ) (records : List RecordView) (a : Bool) (u : List ℕ) (w : World) (reply : Option (List (List ℕ))) → MayReply offset records w reply → MayReply offset records (record w { core = record w.core { asked = a; unread = u } }) reply

@@ -1,20 +1,13 @@
 -- A consumer and what keeps its partition, with a network between them.
-use Rattle.std.specs.Prelude.{◌≡◌, ◌⊎◌, ◌≤◌, ℕ, ℤ, pos, ◌&&◌, nat_lt, if◌then◌else◌, Bool, true, false, List, [], ◌∷◌, ◌++◌, length, take}
-use Rattle.std.specs.Prelude.{drop, Option, Some, None, Result, Ok, Err, IsUtf8, FitsSigned}
-use Rattle.std.specs.Int.{w32}
+use Rattle.std.specs.Prelude.{◌≡◌, ◌⊎◌, ◌≤◌, ◌≤ℤ◌, ℕ, ℤ, pos, ◌&&◌, if◌then◌else◌, Bool, true, false, List, [], ◌∷◌, ◌++◌, length, take}
+use Rattle.std.specs.Prelude.{drop, Option, Some, None, Result, IsUtf8, FitsSigned}
+use Rattle.std.specs.Int.{w16, w32}
+use Rattle.std.specs.Str.{bytes_eq}
 use Rattle.std.specs.Ordering.{int_eq}
-use Rattle.kb_wire.specs.Codec.{whole}
-use Rattle.kb_wire.specs.declared.api_key.TheConstants.{FETCH}
-use Rattle.kb_wire.specs.declared.fault.WireFault.{WireFault}
 use Rattle.kb_api_group.specs.Frames.{Front, Whole, Partial, TooSmall, TooLarge}
 use Rattle.kb_api_group.specs.ClientFrames.{front}
-use Rattle.kb_api_group.specs.Layouts.{request_header}
-use Rattle.kb_api_group.specs.declared.header.RequestHeader.{RequestHeader}
 use Rattle.kb_api_group.specs.declared.plain.PlainLogin.{PlainLogin}
-use Rattle.kb_api_data.specs.Layouts.{fetch_request_v5, fetch_reply_v5}
-use Rattle.kb_api_data.specs.declared.fetch_v5.FetchRequestV5.{FetchRequestV5}
-use Rattle.kb_api_data.specs.declared.fetch_v5.FetchTopicV5.{FetchTopicV5}
-use Rattle.kb_api_data.specs.declared.fetch_v5.FetchPartitionV5.{FetchPartitionV5}
+use Rattle.kb_api_data.specs.declared.fetch_v5.FetchPartitionReplyV5.{FetchPartitionReplyV5}
 use Rattle.kb_client.specs.declared.fault.ClientFault.{ClientFault}
 use Rattle.kb_client.specs.Sent.{Target, HasShortTexts}
 use Rattle.kb_client.specs.declared.fetching.Fetching.TheVariants as stages
@@ -24,7 +17,8 @@ use Rattle.std.specs.List.{flat_map}
 use Rattle.kb_client.specs.Consumer.{Consumer, fresh, connected, without_text, Inputs, OutputsText}
 use Rattle.kb_client_spec.specs.Receiver.{Receiver, Login, Greets, Shaken, LoggedIn, Shut, Outcome, shuts, request, outcome}
 use Rattle.kb_client_spec.specs.Sending.{if_given, if_come, reply_text, arrived, cut}
-use Rattle.kb_client_spec.specs.Partition.{IsLog, records_of_log, joined, batches_given}
+use Rattle.kb_client_spec.specs.Partition.{IsLog, Log, end_of_log, records_of_log}
+use Rattle.kb_client_spec.specs.Fetching.{Fetch, fetch_of, answer, refused, reply_body}
 
 pub record Reading : Type 0 where
   pub core : Consumer
@@ -35,7 +29,12 @@ pub record Reading : Type 0 where
   pub answers : List ℕ
   -- what answers the login; what it stores is of no matter here
   pub greeter : Receiver
-  -- the partition's first offset, and its batches
+  -- the partition's topic and index, and whether it is there
+  pub topic : List ℕ
+  pub index : ℤ
+  pub there : Bool
+  -- where its batches began, the first offset that is not deleted, and all batches that were added
+  pub origin : ℤ
   pub start : ℤ
   pub batches : List (List ℕ)
   -- how many batches there were when the last fetch was answered
@@ -44,12 +43,18 @@ pub record Reading : Type 0 where
 pub data Event : Type 0 where
   -- a batch is added at the end of the partition
   Appends : (batch : List ℕ) → Event
+  -- what is below an offset is deleted, by retention or by request
+  Trims : (start : ℤ) → Event
+  -- the topic is deleted, for good
+  Deletes : Event
   -- the output of the consumer is taken, and sent
   Sends : (result : Result (List ℕ) ClientFault) → Event
   -- so many bytes come to the broker, or all that are under way
   Arrives : (n : ℕ) → Event
   -- the broker reads the request in front; a fetch is answered one batch and so many more, if there is room for them
   Serves : (n : ℕ) → Event
+  -- the same, where memory or the store refuses a fetch: it is answered an error code
+  Refuses : (code : ℤ) → Event
   -- so many bytes come to the consumer, or all that are under way
   Returns : (n : ℕ) (result : Result (Unit {0}) ClientFault) → Event
   -- the lines that were found are taken
@@ -57,89 +62,54 @@ pub data Event : Type 0 where
   -- the connection ends, and another begins
   Reconnects : Event
 
--- what a fetch of one partition asks
-pub record Fetch : Type 0 where
-  pub topic : List ℕ
-  pub index : ℤ
-  pub offset : ℤ
-
-abbrev pub part_in : List ℕ → List FetchPartitionV5 → Option Fetch
-part_in topic [] = None
-part_in topic (p ∷ []) = Some (record { topic = topic; index = p.partition; offset = p.fetch_offset })
-part_in topic (p ∷ q ∷ ps) = None
-
-abbrev pub part_of : List FetchTopicV5 → Option Fetch
-part_of [] = None
-part_of (t ∷ []) = part_in t.topic t.partitions
-part_of (t ∷ u ∷ ts) = None
-
-abbrev pub if_fetch : Result FetchRequestV5 WireFault → Option Fetch
-if_fetch (Err fault) = None
-if_fetch (Ok v) = part_of v.topics
-
-abbrev pub fetch_in : Result (RequestHeader × List ℕ) WireFault → Option Fetch
-fetch_in (Err fault) = None
-fetch_in (Ok h) = if int_eq h.0.api_key FETCH && int_eq h.0.api_version (pos 5) then if_fetch (whole fetch_request_v5 h.1) else None
-
--- the fetch that a frame is, if it is one
-unfoldable pub fetch_of : List ℕ → Option Fetch
-fetch_of frame = fetch_in (request_header.read frame)
-
--- the batches that a fetch is answered: at most 1,048,588 bytes, or the first alone
-abbrev pub fitting : ℕ → ℤ → List (List ℕ) → ℕ
-fitting n offset batches = if nat_lt 1048588 (length (joined (batches_given n offset batches))) then 0 else n
-
--- the reply to a fetch of a log that begins at `start`
-abbrev pub fetched_reply : Fetch → ℤ → ℤ → List ℕ → List ℕ
-fetched_reply f start end records = fetch_reply_v5.written (record {
-  throttle_time_ms = pos 0;
-  topics = record {
-    topic = f.topic;
-    partitions = record {
-      partition = f.index;
-      error_code = pos 0;
-      high_watermark = end;
-      last_stable_offset = end;
-      log_start_offset = start;
-      aborted_transactions = None;
-      records = Some records;
-    } ∷ [];
-  } ∷ [];
-})
+-- the partition that a fetch asks for, if it is there
+abbrev pub log_of : Reading → Fetch → Option Log
+log_of w f =
+    if w.there && bytes_eq f.topic w.topic && int_eq f.index w.index
+    then Some (record { start = w.start; end = end_of_log w.origin w.batches; batches = w.batches })
+    else None
 
 abbrev pub with_outcome : ℤ → Outcome → Reading → Reading
 with_outcome id o w = record w { greeter = o.receiver; answers = w.answers ++ reply_text id o.reply }
 
 -- a fetch is answered to whoever is logged in: any other is shut
-abbrev pub fetched : Login → ℕ → ℤ → Fetch → Receiver → Reading → Reading
-fetched LoggedIn n id f r w = record w {
-  greeter = r;
-  answers = w.answers ++ reply_text id (Some
-      (fetched_reply f w.start (pos (length w.batches)) (joined (batches_given (fitting n f.offset w.batches) f.offset w.batches))));
-  met = length w.batches;
-}
-fetched Greets n id f r w = with_outcome id (shuts r) w
-fetched Shaken n id f r w = with_outcome id (shuts r) w
-fetched Shut n id f r w = with_outcome id (shuts r) w
+abbrev pub fetched : Login → (Fetch → FetchPartitionReplyV5) → ℤ → Fetch → Receiver → Reading → Reading
+fetched LoggedIn answers id f r w =
+    record w { greeter = r; answers = w.answers ++ reply_text id (Some (reply_body f (answers f))); met = length w.batches }
+fetched Greets answers id f r w = with_outcome id (shuts r) w
+fetched Shaken answers id f r w = with_outcome id (shuts r) w
+fetched Shut answers id f r w = with_outcome id (shuts r) w
 
 -- any other request is one of the login
-abbrev pub served_by : Option Fetch → ℕ → List ℕ → Receiver → Reading → Reading
-served_by (Some f) n frame r w = fetched r.login n (request frame).correlation_id f r w
-served_by None n frame r w = with_outcome (request frame).correlation_id (outcome (request frame).asked r) w
+abbrev pub served_by : Option Fetch → (Fetch → FetchPartitionReplyV5) → List ℕ → Receiver → Reading → Reading
+served_by (Some f) answers frame r w = fetched r.login answers (request frame).correlation_id f r w
+served_by None answers frame r w = with_outcome (request frame).correlation_id (outcome (request frame).asked r) w
 
-abbrev pub served_at : ℕ → Front → Reading → Reading
-served_at n (Whole frame rest) w = served_by (fetch_of frame) n frame (record w.greeter { unread = rest }) w
-served_at n Partial w = w
-served_at n TooSmall w = record w { greeter = record w.greeter { login = Shut } }
-served_at n TooLarge w = record w { greeter = record w.greeter { login = Shut } }
+-- the request in front is served, where a fetch has these answers
+abbrev pub served_at : (Fetch → FetchPartitionReplyV5) → Front → Reading → Reading
+served_at answers (Whole frame rest) w = served_by (fetch_of frame) answers frame (record w.greeter { unread = rest }) w
+served_at answers Partial w = w
+served_at answers TooSmall w = record w { greeter = record w.greeter { login = Shut } }
+served_at answers TooLarge w = record w { greeter = record w.greeter { login = Shut } }
+
+abbrev pub answers_of : ℕ → Reading → Fetch → FetchPartitionReplyV5
+answers_of n w f = answer n f (log_of w f)
+
+abbrev pub refusals_of : ℤ → Fetch → FetchPartitionReplyV5
+refusals_of code f = refused f.index code
 
 -- Each call of the consumer is what its contract says.
 abbrev pub Steps : Event → Reading → Reading → Type 0
-Steps (Appends batch) old new = IsLog old.start (old.batches ++ batch ∷ []) × (new ≡ record old { batches = old.batches ++ batch ∷ [] })
+Steps (Appends batch) old new = IsLog old.origin (old.batches ++ batch ∷ []) × (new ≡ record old { batches = old.batches ++ batch ∷ [] })
+Steps (Trims start) old new =
+    (old.start ≤ℤ start) × (start ≤ℤ end_of_log old.origin old.batches) × (new ≡ record old { start = start })
+Steps Deletes old new = new ≡ record old { there = false }
 Steps (Sends result) old new =
     OutputsText (λ text. text) old.core result new.core × (new ≡ record old { core = new.core; requests = old.requests ++ if_given result })
 Steps (Arrives n) old new = new ≡ record old { requests = drop n old.requests; greeter = arrived n old.greeter old.requests }
-Steps (Serves n) old new = new ≡ served_at n (front old.greeter.unread) old
+Steps (Serves n) old new = new ≡ served_at (λ f. answers_of n old f) (front old.greeter.unread) old
+Steps (Refuses code) old new =
+    FitsSigned w16 code × (code ≡ pos 0 → ⊥) × (new ≡ served_at (λ f. refusals_of code f) (front old.greeter.unread) old)
 Steps (Returns n result) old new =
     Inputs old.core (take n old.answers) result new.core × (new ≡ record old { core = new.core; answers = if_come result n old.answers })
 Steps Takes old new = new ≡ record old { core = without_text old.core; taken = old.taken ++ old.core.found.text }
@@ -155,17 +125,35 @@ pub record IsTyped (target : Target) : Type 0 where
   pub topic : IsUtf8 target.topic
   pub partition : FitsSigned w32 target.partition
 
-abbrev pub begun : Target → ℤ → Option ℕ → Bool → List PlainLogin → ℤ → List (List ℕ) → Reading
-begun target offset wanted follow users start batches = record {
+abbrev pub begun : Target → ℤ → Option ℕ → Bool → List PlainLogin → Bool → ℤ → ℤ → List (List ℕ) → Reading
+begun target offset wanted follow users there origin start batches = record {
   core = fresh target offset wanted follow;
   taken = [];
   requests = [];
   answers = [];
   greeter = record { users = users; login = Greets; unread = []; created = true; next_id = 0; stored = [] };
+  topic = target.topic;
+  index = target.partition;
+  there = there;
+  origin = origin;
   start = start;
   batches = batches;
   met = 0;
 }
+
+-- nothing is deleted or refused
+abbrev pub AreCalm : List Event → Type 0
+AreCalm [] = Unit {0}
+AreCalm (Appends batch ∷ es) = AreCalm es
+AreCalm (Trims start ∷ es) = ⊥
+AreCalm (Deletes ∷ es) = ⊥
+AreCalm (Sends result ∷ es) = AreCalm es
+AreCalm (Arrives n ∷ es) = AreCalm es
+AreCalm (Serves n ∷ es) = AreCalm es
+AreCalm (Refuses code ∷ es) = ⊥
+AreCalm (Returns n result ∷ es) = AreCalm es
+AreCalm (Takes ∷ es) = AreCalm es
+AreCalm (Reconnects ∷ es) = AreCalm es
 
 -- no more than are wanted
 abbrev pub IsWithin : Option ℕ → ℕ → Type 0

@@ -12,6 +12,17 @@ IsLog from [] = Unit {0}
 IsLog from (batch ∷ batches) =
     IsBatch batch × (from ≤ℤ base_offset_of batch) × (end_of batch <ℤ pos (2 ^ 63)) × IsLog (end_of batch) batches
 
+-- the offset behind the last of some batches, which begin at an offset or above
+abbrev pub end_of_log : ℤ → List (List ℕ) → ℤ
+end_of_log from [] = from
+end_of_log from (batch ∷ batches) = end_of_log (end_of batch) batches
+
+-- a partition: its first offset, the offset behind its last record, and its batches
+pub record Log : Type 0 where
+  pub start : ℤ
+  pub end : ℤ
+  pub batches : List (List ℕ)
+
 -- the batch that holds an offset, or else the first above it, and those behind it; none at the end
 unfoldable pub from_holding : ℤ → List (List ℕ) → List (List ℕ)
 from_holding offset [] = []

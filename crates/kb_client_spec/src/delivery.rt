@@ -1,10 +1,11 @@
 //! Laws about the definitions, each as the contract of a function with an empty body.
-ghost use Rattle.std.specs.Prelude.{◌≡◌, ℕ, ℤ, List, Bool, true, Option, FitsSigned};
+ghost use Rattle.std.specs.Prelude.{◌≡◌, ◌≤ℤ◌, ℕ, ℤ, List, Bool, true, Option, None, FitsSigned};
+ghost use Rattle.kb_client.specs.Consumer.{fault_at};
 ghost use Rattle.kb_api_group.specs.declared.plain.PlainLogin.{PlainLogin};
 ghost use Rattle.kb_client.specs.Sent.{Target};
 ghost use Rattle.kb_client.specs.Requests.{plain_message};
 ghost use Rattle.kb_client_spec.specs.Receiver.{knows};
-ghost use Rattle.kb_client_spec.specs.Partition.{IsLog};
+ghost use Rattle.kb_client_spec.specs.Partition.{IsLog, end_of_log};
 ghost use Rattle.kb_client_spec.specs.Consuming.{IsGiven};
 ghost use Rattle.kb_client_spec.specs.Consuming as consuming;
 ghost use Rattle.std.specs.Int.{w64};
@@ -27,12 +28,25 @@ pub fn no_fault_with_the_right_login()
         → HasNoFault es }
 {}
 
-/// Whatever is added to a partition and whatever happens on the network, a consumer gives the lines of the first records from the
-/// asked offset on, in order and each once, and no more than are wanted. It is finished only where it gave as many as are wanted,
-/// or each line up to an end that a fetch met.
+/// Whatever is added to a partition and deleted from it, whatever the broker refuses, and whatever happens on the network: a consumer
+/// gives the lines of the first records from the asked offset on, in order and each once, and no more than are wanted. It is finished
+/// only where it gave as many as are wanted, or each line up to an end that a fetch met.
 pub fn lines_are_given_once()
-    ensures { (target : Target) (offset : ℤ) (wanted : Option ℕ) (follow : Bool) (users : List PlainLogin) (start : ℤ)
+    ensures { (target : Target) (offset : ℤ) (wanted : Option ℕ) (follow : Bool) (users : List PlainLogin) (there : Bool)
+        (origin : ℤ) (start : ℤ) (batches : List (List ℕ)) (es : List consuming.Event) (last : consuming.Reading)
+        → consuming.IsTyped target → FitsSigned w64 offset → IsLog origin batches
+        → consuming.Runs es (consuming.begun target offset wanted follow users there origin start batches) last
+        → IsGiven offset wanted follow last }
+{}
+
+/// Where the broker knows the user with its password, the partition is there, and the asked offset is from its start to its end, no
+/// fault stands, whatever is added to the partition and whatever happens on the network. So it is while nothing is deleted and nothing
+/// refused.
+pub fn no_fault_within_the_partition()
+    ensures { (target : Target) (offset : ℤ) (wanted : Option ℕ) (follow : Bool) (users : List PlainLogin) (origin : ℤ) (start : ℤ)
         (batches : List (List ℕ)) (es : List consuming.Event) (last : consuming.Reading)
-        → consuming.IsTyped target → FitsSigned w64 offset → IsLog start batches
-        → consuming.Runs es (consuming.begun target offset wanted follow users start batches) last → IsGiven offset wanted follow last }
+        → consuming.IsTyped target → FitsSigned w64 offset → IsLog origin batches → start ≤ℤ offset
+        → offset ≤ℤ end_of_log origin batches → knows users (plain_message target) ≡ true → consuming.AreCalm es
+        → consuming.Runs es (consuming.begun target offset wanted follow users true origin start batches) last
+        → fault_at last.core.stage ≡ None }
 {}

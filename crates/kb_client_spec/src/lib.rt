@@ -13,5 +13,8 @@
 mod delivery;
 mod keys;
 
-pub use delivery::{lines_are_given_once, lines_are_stored_once, no_fault_with_the_right_login};
+pub use delivery::{
+    lines_are_given_once, lines_are_stored_once, no_fault_with_the_right_login,
+    no_fault_within_the_partition,
+};
 pub use keys::keys_are_the_protocols;

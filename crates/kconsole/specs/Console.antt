@@ -1,11 +1,15 @@
 -- What a command line says, by the words.
-use Rattle.std.specs.Prelude.{◌≡◌, ◌≤◌, ◌<◌, ◌^◌, ◌++◌, ℕ, ℤ, pos, Bool, true, false, List, length, string_bytes, codes, Some, None, Ok}
+use Rattle.std.specs.Prelude.{◌≡◌, ◌≤◌, ◌<◌, ◌+◌, ◌^◌, ◌++◌, ℕ, ℤ, pos, Bool, true, false, List, length, string_bytes, codes, decimal, Some, None}
+use Rattle.std.specs.Prelude.{Ok}
 use Rattle.std.specs.Str.Parse.{ParsesUnsigned}
 use Rattle.clap.specs.Words.{Row, Text, first_of, one_of, subcommand_of}
+use Rattle.kb_client.specs.Sent.{Target}
 use Rattle.kconsole.specs.Usage.{console}
 use Rattle.kconsole.specs.declared.console.ConsoleLine.{ConsoleLine}
 use Rattle.kconsole.specs.declared.console.Task.{Task}
 use Rattle.kconsole.specs.declared.console.Task.TheVariants as tasks
+use Rattle.kconsole.specs.declared.link.Link.{Link}
+use Rattle.kconsole.specs.declared.place.Place.{Place}
 
 -- the text that was found for a name
 abbrev pub IsTextOf : List Row → Text → Text → Type 0
@@ -63,3 +67,29 @@ pub record IsLineOf (name : Text) (rows : List Row) (line : ConsoleLine) : Type 
 abbrev pub IsReadOf : List Text → ConsoleLine → Type 0
 IsReadOf words line =
     (name : Text) × (rows : List Row) × (subcommand_of console words ≡ Some (name, rows)) × IsLineOf name rows line
+
+-- ---- what a line says of a client
+
+-- whom it logs in as, and the partition
+abbrev pub target_of : ConsoleLine → Target
+target_of line = record {
+  user = string_bytes line.login.user;
+  password = string_bytes line.login.password;
+  topic = string_bytes line.topic;
+  partition = line.partition;
+}
+
+-- the broker's address, as a connection is asked for
+abbrev pub address_text : ConsoleLine → Text
+address_text line = string_bytes line.host ++ codes ":" ++ decimal line.port
+
+abbrev pub address_of : Link → Text
+address_of link = string_bytes link.address
+
+-- a place has what a line says
+pub record IsPlaceOf (line : ConsoleLine) (place : Place) : Type 0 where
+  pub address : address_of place.link ≡ address_text line
+  pub tries : place.link.tries ≡ line.retries + 1
+  pub login : place.login ≡ line.login
+  pub topic : place.topic ≡ line.topic
+  pub partition : place.partition ≡ line.partition

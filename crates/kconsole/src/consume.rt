@@ -1,12 +1,14 @@
 //! `kconsole consume`: prints the lines of a partition.
 
-ghost use Rattle.std.specs.Prelude.{◌≡◌, string_bytes, IfOk};
-ghost use Rattle.kb_client.specs.Consumer.{fresh};
-ghost use Rattle.kconsole.specs.Console.{IsWithin};
+ghost use Rattle.std.specs.Prelude.{◌≡◌, OnOk, IfOk};
+ghost use Rattle.std.specs.Io.KnownBytes.{Appends};
+ghost use Rattle.kb_client.specs.Consumer.{fresh, without_text};
+ghost use Rattle.kconsole.specs.Console.{IsWithin, address_of, address_text, target_of};
 
 use crate::console::ConsoleLine;
 use crate::fault::Fault;
 use crate::link::Link;
+use crate::place::Place;
 use kb_client::ConsumerCore;
 use std::alloc::{AllocError, Global};
 use std::io;
@@ -49,23 +51,15 @@ fn begin(
     follow: bool,
 ) -> Result<(ConsumerCore, Link), AllocError>
     requires { IsWithin line }
-    ensures { IfOk result (λ made. made.0 ≡ fresh (record {
-      user = string_bytes line.login.user;
-      password = string_bytes line.login.password;
-      topic = string_bytes line.topic;
-      partition = line.partition;
-    }) from max follow) }
+    ensures core { IfOk result (λ made. made.0 ≡ fresh (target_of line) from max follow) }
+    ensures link { IfOk result (λ made. address_of made.1 ≡ address_text line) }
 {
-    let ConsoleLine {
-        host,
-        port,
+    let Place {
+        link,
         login,
         topic,
         partition,
-        retries,
-        task: _,
-    } = line;
-    let link = Link::new(alloc, &host, port, retries)?;
+    } = Place::of(alloc, line)?;
     let core = ConsumerCore::new(alloc, login, topic, partition, from, max, follow);
     Ok((core, link))
 }
@@ -89,9 +83,18 @@ fn turn(
         return Ok(());
     }
     let done = core.input(&buffer[..n]);
-    let lines = core.take_lines();
-    if !lines.is_empty() && io::writer(rt).write_all(&lines).is_err() {
-        return Err(Fault::Write);
-    }
+    print_lines(core, &mut io::writer(rt))?;
     Ok(done?)
+}
+
+/// Prints the lines that were found and not printed yet, each once and in order.
+fn print_lines<W: Write>(core: &mut ConsumerCore, writer: &mut W) -> Result<(), Fault>
+    ensures printed { OnOk result (Appends (W.contents writer.old) (W.contents writer.new) core.old.found.text) }
+    ensures taken { core.new ≡ without_text core.old }
+{
+    let lines = core.take_lines();
+    match writer.write_all(&lines) {
+        Ok(()) => Ok(()),
+        Err(_) => Err(Fault::Write),
+    }
 }

@@ -1,6 +1,6 @@
 //! A connection to a broker, made anew where it ends.
 
-ghost use Rattle.std.specs.Prelude.{◌≤◌, length};
+ghost use Rattle.std.specs.Prelude.{◌≡◌, ◌≤◌, ◌+◌, ◌++◌, length, codes, decimal, string_bytes, IfOk};
 
 use crate::fault::Fault;
 use std::alloc::{AllocError, Global};
@@ -23,9 +23,13 @@ pub struct Link {
 
 impl Link {
     /// No connection yet to a broker's address, with so many tries after the first.
-    pub fn new(alloc: Global, host: &str, port: u16, retries: u32) -> Result<Link, AllocError> {
+    pub fn new(alloc: Global, host: &str, port: u16, retries: u32) -> Result<Link, AllocError>
+        ensures address { IfOk result (λ link. string_bytes link.address ≡ host.now ++ codes ":" ++ decimal port) }
+        ensures tries { IfOk result (λ link. link.tries ≡ retries + 1) }
+    {
+        let address = format!(in alloc; "{host}:{port}")?;
         Ok(Link {
-            address: format!(in alloc; "{host}:{port}")?,
+            address,
             stream: None,
             tries: u64::from(retries) + 1,
         })

@@ -9,6 +9,7 @@ mod console;
 mod consume;
 mod fault;
 mod link;
+mod place;
 mod produce;
 mod progress;
 mod words;

@@ -1,12 +1,13 @@
 //! `kconsole produce`: sends the lines of standard input to a partition.
 
-ghost use Rattle.std.specs.Prelude.{◌≡◌, ◌≤◌, ◌^◌, string_bytes, IfOk};
+ghost use Rattle.std.specs.Prelude.{◌≡◌, ◌≤◌, ◌^◌, IfOk};
 ghost use Rattle.kb_client.specs.Producer.{fresh};
-ghost use Rattle.kconsole.specs.Console.{IsWithin};
+ghost use Rattle.kconsole.specs.Console.{IsWithin, address_of, address_text, target_of};
 
 use crate::console::ConsoleLine;
 use crate::fault::Fault;
 use crate::link::Link;
+use crate::place::Place;
 use crate::progress::Progress;
 use kb_client::{ClientFault, MAX_LINE_BYTES, ProducerCore};
 use kb_server_log::now;
@@ -60,23 +61,15 @@ fn begin(
     create: Option<i32>,
 ) -> Result<(ProducerCore, Link), AllocError>
     requires { IsWithin line }
-    ensures { IfOk result (λ made. made.0 ≡ fresh (record {
-      user = string_bytes line.login.user;
-      password = string_bytes line.login.password;
-      topic = string_bytes line.topic;
-      partition = line.partition;
-    }) create) }
+    ensures core { IfOk result (λ made. made.0 ≡ fresh (target_of line) create) }
+    ensures link { IfOk result (λ made. address_of made.1 ≡ address_text line) }
 {
-    let ConsoleLine {
-        host,
-        port,
+    let Place {
+        link,
         login,
         topic,
         partition,
-        retries,
-        task: _,
-    } = line;
-    let link = Link::new(alloc, &host, port, retries)?;
+    } = Place::of(alloc, line)?;
     let core = ProducerCore::new(alloc, login, topic, partition, create);
     Ok((core, link))
 }

@@ -19,7 +19,8 @@ use Rattle.kb_tenant.specs.declared.answer.Answer.{Answer}
 use Rattle.kb_tenant.specs.declared.answer.Answer.TheVariants as answers
 use Rattle.kb_tenant.specs.declared.node.Node.{Node}
 use Rattle.kb_tenant_api.specs.declared.answer.Answer.{Answer as AnyAnswer}
-use Rattle.kb_tenant_api.specs.Serve.{served, AreGroupsAfter}
+use Rattle.kb_tenant_api.specs.Acknowledged.{AreGroupsAfter}
+use Rattle.kb_tenant_api.specs.Serve.{served}
 use Rattle.kb_tenant_api.specs.Waiters.{AreServed}
 use Rattle.kb_isolation_spec.specs.declared.shut.Shut.TheVariants as causes
 use Rattle.kb_isolation_spec.specs.declared.head.Head.{Head}

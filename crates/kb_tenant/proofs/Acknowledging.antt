@@ -169,7 +169,7 @@ acknowledged_by failed limit starts id version w r v old new s t answer from due
     by (answers.Reply bytes) h = (reply, (h.1, so))
     by (answers.Wait deadline kept keys) h = absurd h
     by answers.NoReply h = absurd h
-    by answers.Shut h = tt
+    by answers.Shut h = inr (reply, so)
 
 -- what a body tells that stands behind what was begun
 pub replied_by : (id : ℤ) (Told : List ℕ → Type 0) (s t body : List ℕ) (answer : Answer) → s ≡ begun id → t ≡ s ++ body → Told body

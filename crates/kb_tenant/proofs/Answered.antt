@@ -1,6 +1,6 @@
 -- What is told of an answer, by the key of its request: what its API's function tells, and nothing for the other APIs.
 use Rattle.std.proofs.Common.{◌≡◌, ◌∙◌, inl, inr, ℕ, ℤ, true, false, List, ap, refl, sym}
-use Rattle.std.specs.Prelude.{Result, Ok, Err, IfOk}
+use Rattle.std.specs.Prelude.{Result, Ok, Err, IfOk, OnErr}
 use Rattle.std.specs.Ordering.{int_eq}
 use Rattle.kb_wire.specs.declared.api_key.TheConstants.{PRODUCE, FETCH, LIST_OFFSETS, METADATA, OFFSET_COMMIT, OFFSET_FETCH}
 use Rattle.kb_wire.specs.declared.api_key.TheConstants.{FIND_COORDINATOR, CREATE_TOPICS, DELETE_TOPICS, DELETE_RECORDS, INIT_PRODUCER_ID}
@@ -10,7 +10,7 @@ use Rattle.kb_tenant_state.specs.Parts.{Seen}
 use Rattle.kb_tenant_state.specs.Scene.{Scene, WhereHonest}
 use Rattle.kb_tenant_state.specs.Told.{IsLogFull}
 use Rattle.kb_tenant_state.specs.declared.topic_partition.TopicPartition.{TopicPartition}
-use Rattle.kb_tenant.specs.Answered.{IsTruthful, LooksUp, OnlyReads}
+use Rattle.kb_tenant.specs.Answered.{answered, IsAnswerOrShut, IsTruthful, LooksUp, OnlyReads}
 use Rattle.kb_tenant.specs.Serve.{plainly_served, IsServed}
 use Rattle.kb_tenant.specs.Told.{Acknowledges, AcknowledgesCommits, AcknowledgesCreations, AcknowledgesDeletions, AcknowledgesIssue}
 use Rattle.kb_tenant.specs.Told.{AcknowledgesRemovals, AnswersFetch, AnswersListing, CatalogFailed, CreationFailed, HasFailed, IsSpared}
@@ -54,13 +54,12 @@ IsToldOf a b node clock request touched answer =
 
 -- Each API's function tells what its part of that says; the other parts are of other keys.
 module _ (a b : Scene Seen) (node : Node) (clock : ℕ) (request : Request) (touched : List TopicPartition) where
-  pub produce_told : (r : Result Answer ReadFault) → request.api_key ≡ PRODUCE
-      → IfOk r (λ answer. WhereHonest a b (Acknowledges (HasFailed a b) node.limits.bytes request.correlation_id request.api_version a.state.world request.body.now
-      b.state.world touched answer))
-      → IfOk r (λ answer. IsSpared request.api_version a.state.world request.body.now b.state.world answer)
-      → IfOk r (λ answer. WhereHonest a b (IsToldOf a b node clock request touched answer))
-  produce_told (Ok answer) is told shut = λ honest agree. record {
-    produced = λ also. told honest agree;
+  produce_is : (answer : Answer) → request.api_key ≡ PRODUCE
+      → Acknowledges (HasFailed a b) node.limits.bytes request.correlation_id request.api_version a.state.world request.body.now
+      b.state.world touched answer
+      → IsSpared request.api_version a.state.world request.body.now b.state.world answer → IsToldOf a b node clock request touched answer
+  produce_is answer is told shut = record {
+    produced = λ also. told;
     spared = λ also. shut;
     fetched = other request.api_key PRODUCE FETCH is refl refl;
     listed = other request.api_key PRODUCE LIST_OFFSETS is refl refl;
@@ -72,17 +71,23 @@ module _ (a b : Scene Seen) (node : Node) (clock : ℕ) (request : Request) (tou
     looked_up = looks_not request.api_key PRODUCE is refl refl refl refl;
     stays = reads_not request.api_key PRODUCE is refl refl refl refl refl refl;
   }
-  produce_told (Err fault) is told shut = tt
 
-  pub fetch_told : (r : Result Answer ReadFault) → request.api_key ≡ FETCH
-      → IfOk r (λ answer. WhereHonest a b (AnswersFetch (HasFailed a b) request.correlation_id request.api_version node.limits.fetch_bytes a.state.world clock
-      request.body.now answer))
-      → WhereHonest a b (b.state.world ≡ a.state.world)
-      → IfOk r (λ answer. WhereHonest a b (IsToldOf a b node clock request touched answer))
-  fetch_told (Ok answer) is told same = λ honest agree. record {
+  pub produce_told : (r : Result Answer ReadFault) → request.api_key ≡ PRODUCE
+      → IfOk r (λ answer. WhereHonest a b (Acknowledges (HasFailed a b) node.limits.bytes request.correlation_id request.api_version a.state.world request.body.now
+      b.state.world touched answer))
+      → IfOk r (λ answer. IsSpared request.api_version a.state.world request.body.now b.state.world answer) → OnErr r (b.state.world ≡ a.state.world)
+      → WhereHonest a b (IsToldOf a b node clock request touched (answered r))
+  produce_told (Ok answer) is told shut spared = λ honest agree. produce_is answer is (told honest agree) shut
+  produce_told (Err fault) is told shut spared = λ honest agree. produce_is answers.Shut is (λ q read. inl spared) (inl spared)
+
+  fetch_is : (answer : Answer) → request.api_key ≡ FETCH
+      → AnswersFetch (HasFailed a b) request.correlation_id request.api_version node.limits.fetch_bytes a.state.world clock
+      request.body.now answer
+      → (b.state.world ≡ a.state.world) → IsToldOf a b node clock request touched answer
+  fetch_is answer is told same = record {
     produced = other request.api_key FETCH PRODUCE is refl refl;
     spared = other request.api_key FETCH PRODUCE is refl refl;
-    fetched = λ also. told honest agree;
+    fetched = λ also. told;
     listed = other request.api_key FETCH LIST_OFFSETS is refl refl;
     created = other request.api_key FETCH CREATE_TOPICS is refl refl;
     removed = other request.api_key FETCH DELETE_TOPICS is refl refl;
@@ -90,39 +95,51 @@ module _ (a b : Scene Seen) (node : Node) (clock : ℕ) (request : Request) (tou
     issued = other request.api_key FETCH INIT_PRODUCER_ID is refl refl;
     committed = other request.api_key FETCH OFFSET_COMMIT is refl refl;
     looked_up = looks_not request.api_key FETCH is refl refl refl refl;
-    stays = λ reads. same honest agree;
+    stays = λ reads. same;
   }
-  fetch_told (Err fault) is told same = tt
 
-  pub list_offsets_told : (r : Result Answer ReadFault) → request.api_key ≡ LIST_OFFSETS
-      → IfOk r (λ answer. WhereHonest a b (AnswersListing (HasFailed a b) request.correlation_id request.api_version a.state.world request.body.now answer))
+  pub fetch_told : (r : Result Answer ReadFault) → request.api_key ≡ FETCH
+      → IfOk r (λ answer. WhereHonest a b (AnswersFetch (HasFailed a b) request.correlation_id request.api_version node.limits.fetch_bytes a.state.world clock
+      request.body.now answer))
       → WhereHonest a b (b.state.world ≡ a.state.world)
-      → IfOk r (λ answer. WhereHonest a b (IsToldOf a b node clock request touched answer))
-  list_offsets_told (Ok answer) is told same = λ honest agree. record {
+      → WhereHonest a b (IsToldOf a b node clock request touched (answered r))
+  fetch_told (Ok answer) is told same = λ honest agree. fetch_is answer is (told honest agree) (same honest agree)
+  fetch_told (Err fault) is told same = λ honest agree. fetch_is answers.Shut is (λ q read. tt) (same honest agree)
+
+  list_offsets_is : (answer : Answer) → request.api_key ≡ LIST_OFFSETS
+      → AnswersListing (HasFailed a b) request.correlation_id request.api_version a.state.world request.body.now answer
+      → (b.state.world ≡ a.state.world) → IsToldOf a b node clock request touched answer
+  list_offsets_is answer is told same = record {
     produced = other request.api_key LIST_OFFSETS PRODUCE is refl refl;
     spared = other request.api_key LIST_OFFSETS PRODUCE is refl refl;
     fetched = other request.api_key LIST_OFFSETS FETCH is refl refl;
-    listed = λ also. told honest agree;
+    listed = λ also. told;
     created = other request.api_key LIST_OFFSETS CREATE_TOPICS is refl refl;
     removed = other request.api_key LIST_OFFSETS DELETE_TOPICS is refl refl;
     trimmed = other request.api_key LIST_OFFSETS DELETE_RECORDS is refl refl;
     issued = other request.api_key LIST_OFFSETS INIT_PRODUCER_ID is refl refl;
     committed = other request.api_key LIST_OFFSETS OFFSET_COMMIT is refl refl;
     looked_up = looks_not request.api_key LIST_OFFSETS is refl refl refl refl;
-    stays = λ reads. same honest agree;
+    stays = λ reads. same;
   }
-  list_offsets_told (Err fault) is told same = tt
 
-  pub create_topics_told : (r : Result Answer ReadFault) → request.api_key ≡ CREATE_TOPICS
-      → IfOk r (λ answer. WhereHonest a b (AcknowledgesCreations (CreationFailed a b) node.limits request.correlation_id request.api_version
-      a.state.world request.body.now b.state.world answer))
-      → IfOk r (λ answer. WhereHonest a b (IsToldOf a b node clock request touched answer))
-  create_topics_told (Ok answer) is told = λ honest agree. record {
+  pub list_offsets_told : (r : Result Answer ReadFault) → request.api_key ≡ LIST_OFFSETS
+      → IfOk r (λ answer. WhereHonest a b (AnswersListing (HasFailed a b) request.correlation_id request.api_version a.state.world request.body.now answer))
+      → WhereHonest a b (b.state.world ≡ a.state.world)
+      → WhereHonest a b (IsToldOf a b node clock request touched (answered r))
+  list_offsets_told (Ok answer) is told same = λ honest agree. list_offsets_is answer is (told honest agree) (same honest agree)
+  list_offsets_told (Err fault) is told same = λ honest agree. list_offsets_is answers.Shut is (λ q read. tt) (same honest agree)
+
+  create_topics_is : (answer : Answer) → request.api_key ≡ CREATE_TOPICS
+      → AcknowledgesCreations (CreationFailed a b) node.limits request.correlation_id request.api_version
+      a.state.world request.body.now b.state.world answer
+      → IsToldOf a b node clock request touched answer
+  create_topics_is answer is told = record {
     produced = other request.api_key CREATE_TOPICS PRODUCE is refl refl;
     spared = other request.api_key CREATE_TOPICS PRODUCE is refl refl;
     fetched = other request.api_key CREATE_TOPICS FETCH is refl refl;
     listed = other request.api_key CREATE_TOPICS LIST_OFFSETS is refl refl;
-    created = λ also. told honest agree;
+    created = λ also. told;
     removed = other request.api_key CREATE_TOPICS DELETE_TOPICS is refl refl;
     trimmed = other request.api_key CREATE_TOPICS DELETE_RECORDS is refl refl;
     issued = other request.api_key CREATE_TOPICS INIT_PRODUCER_ID is refl refl;
@@ -130,51 +147,74 @@ module _ (a b : Scene Seen) (node : Node) (clock : ℕ) (request : Request) (tou
     looked_up = looks_not request.api_key CREATE_TOPICS is refl refl refl refl;
     stays = reads_not request.api_key CREATE_TOPICS is refl refl refl refl refl refl;
   }
-  create_topics_told (Err fault) is told = tt
 
-  pub delete_topics_told : (r : Result Answer ReadFault) → request.api_key ≡ DELETE_TOPICS
-      → IfOk r (λ answer. WhereHonest a b (AcknowledgesRemovals (CatalogFailed a b) node.limits.request_entries request.correlation_id request.api_version
-      a.state.world request.body.now b.state.world touched answer))
-      → IfOk r (λ answer. WhereHonest a b (IsToldOf a b node clock request touched answer))
-  delete_topics_told (Ok answer) is told = λ honest agree. record {
+  pub create_topics_told : (r : Result Answer ReadFault) → request.api_key ≡ CREATE_TOPICS
+      → IfOk r (λ answer. WhereHonest a b (AcknowledgesCreations (CreationFailed a b) node.limits request.correlation_id request.api_version
+      a.state.world request.body.now b.state.world answer))
+      → OnErr r (WhereHonest a b (AcknowledgesCreations (CreationFailed a b) node.limits request.correlation_id request.api_version
+      a.state.world request.body.now b.state.world answers.Shut))
+      → WhereHonest a b (IsToldOf a b node clock request touched (answered r))
+  create_topics_told (Ok answer) is told cut = λ honest agree. create_topics_is answer is (told honest agree)
+  create_topics_told (Err fault) is told cut = λ honest agree. create_topics_is answers.Shut is (cut honest agree)
+
+  delete_topics_is : (answer : Answer) → request.api_key ≡ DELETE_TOPICS
+      → AcknowledgesRemovals (CatalogFailed a b) node.limits.request_entries request.correlation_id request.api_version
+      a.state.world request.body.now b.state.world touched answer
+      → IsToldOf a b node clock request touched answer
+  delete_topics_is answer is told = record {
     produced = other request.api_key DELETE_TOPICS PRODUCE is refl refl;
     spared = other request.api_key DELETE_TOPICS PRODUCE is refl refl;
     fetched = other request.api_key DELETE_TOPICS FETCH is refl refl;
     listed = other request.api_key DELETE_TOPICS LIST_OFFSETS is refl refl;
     created = other request.api_key DELETE_TOPICS CREATE_TOPICS is refl refl;
-    removed = λ also. told honest agree;
+    removed = λ also. told;
     trimmed = other request.api_key DELETE_TOPICS DELETE_RECORDS is refl refl;
     issued = other request.api_key DELETE_TOPICS INIT_PRODUCER_ID is refl refl;
     committed = other request.api_key DELETE_TOPICS OFFSET_COMMIT is refl refl;
     looked_up = looks_not request.api_key DELETE_TOPICS is refl refl refl refl;
     stays = reads_not request.api_key DELETE_TOPICS is refl refl refl refl refl refl;
   }
-  delete_topics_told (Err fault) is told = tt
 
-  pub delete_records_told : (r : Result Answer ReadFault) → request.api_key ≡ DELETE_RECORDS
-      → IfOk r (λ answer. WhereHonest a b (AcknowledgesDeletions (CatalogFailed a b) node.limits.request_entries request.correlation_id a.state.world
-      request.body.now b.state.world touched answer))
-      → IfOk r (λ answer. WhereHonest a b (IsToldOf a b node clock request touched answer))
-  delete_records_told (Ok answer) is told = λ honest agree. record {
+  pub delete_topics_told : (r : Result Answer ReadFault) → request.api_key ≡ DELETE_TOPICS
+      → IfOk r (λ answer. WhereHonest a b (AcknowledgesRemovals (CatalogFailed a b) node.limits.request_entries request.correlation_id request.api_version
+      a.state.world request.body.now b.state.world touched answer))
+      → OnErr r (WhereHonest a b (AcknowledgesRemovals (CatalogFailed a b) node.limits.request_entries request.correlation_id request.api_version
+      a.state.world request.body.now b.state.world touched answers.Shut))
+      → WhereHonest a b (IsToldOf a b node clock request touched (answered r))
+  delete_topics_told (Ok answer) is told cut = λ honest agree. delete_topics_is answer is (told honest agree)
+  delete_topics_told (Err fault) is told cut = λ honest agree. delete_topics_is answers.Shut is (cut honest agree)
+
+  delete_records_is : (answer : Answer) → request.api_key ≡ DELETE_RECORDS
+      → AcknowledgesDeletions (CatalogFailed a b) node.limits.request_entries request.correlation_id
+      a.state.world request.body.now b.state.world touched answer
+      → IsToldOf a b node clock request touched answer
+  delete_records_is answer is told = record {
     produced = other request.api_key DELETE_RECORDS PRODUCE is refl refl;
     spared = other request.api_key DELETE_RECORDS PRODUCE is refl refl;
     fetched = other request.api_key DELETE_RECORDS FETCH is refl refl;
     listed = other request.api_key DELETE_RECORDS LIST_OFFSETS is refl refl;
     created = other request.api_key DELETE_RECORDS CREATE_TOPICS is refl refl;
     removed = other request.api_key DELETE_RECORDS DELETE_TOPICS is refl refl;
-    trimmed = λ also. told honest agree;
+    trimmed = λ also. told;
     issued = other request.api_key DELETE_RECORDS INIT_PRODUCER_ID is refl refl;
     committed = other request.api_key DELETE_RECORDS OFFSET_COMMIT is refl refl;
     looked_up = looks_not request.api_key DELETE_RECORDS is refl refl refl refl;
     stays = reads_not request.api_key DELETE_RECORDS is refl refl refl refl refl refl;
   }
-  delete_records_told (Err fault) is told = tt
 
-  pub init_producer_id_told : (r : Result Answer ReadFault) → request.api_key ≡ INIT_PRODUCER_ID
-      → IfOk r (λ answer. WhereHonest a b (AcknowledgesIssue (CatalogFailed a b) request.correlation_id a.state.world request.body.now
-      b.state.world answer))
-      → IfOk r (λ answer. WhereHonest a b (IsToldOf a b node clock request touched answer))
-  init_producer_id_told (Ok answer) is told = λ honest agree. record {
+  pub delete_records_told : (r : Result Answer ReadFault) → request.api_key ≡ DELETE_RECORDS
+      → IfOk r (λ answer. WhereHonest a b (AcknowledgesDeletions (CatalogFailed a b) node.limits.request_entries request.correlation_id
+      a.state.world request.body.now b.state.world touched answer))
+      → OnErr r (WhereHonest a b (AcknowledgesDeletions (CatalogFailed a b) node.limits.request_entries request.correlation_id
+      a.state.world request.body.now b.state.world touched answers.Shut))
+      → WhereHonest a b (IsToldOf a b node clock request touched (answered r))
+  delete_records_told (Ok answer) is told cut = λ honest agree. delete_records_is answer is (told honest agree)
+  delete_records_told (Err fault) is told cut = λ honest agree. delete_records_is answers.Shut is (cut honest agree)
+
+  init_producer_id_is : (answer : Answer) → request.api_key ≡ INIT_PRODUCER_ID
+      → AcknowledgesIssue (CatalogFailed a b) request.correlation_id a.state.world request.body.now b.state.world answer
+      → IsToldOf a b node clock request touched answer
+  init_producer_id_is answer is told = record {
     produced = other request.api_key INIT_PRODUCER_ID PRODUCE is refl refl;
     spared = other request.api_key INIT_PRODUCER_ID PRODUCE is refl refl;
     fetched = other request.api_key INIT_PRODUCER_ID FETCH is refl refl;
@@ -182,18 +222,24 @@ module _ (a b : Scene Seen) (node : Node) (clock : ℕ) (request : Request) (tou
     created = other request.api_key INIT_PRODUCER_ID CREATE_TOPICS is refl refl;
     removed = other request.api_key INIT_PRODUCER_ID DELETE_TOPICS is refl refl;
     trimmed = other request.api_key INIT_PRODUCER_ID DELETE_RECORDS is refl refl;
-    issued = λ also. told honest agree;
+    issued = λ also. told;
     committed = other request.api_key INIT_PRODUCER_ID OFFSET_COMMIT is refl refl;
     looked_up = looks_not request.api_key INIT_PRODUCER_ID is refl refl refl refl;
     stays = reads_not request.api_key INIT_PRODUCER_ID is refl refl refl refl refl refl;
   }
-  init_producer_id_told (Err fault) is told = tt
 
-  pub offset_commit_told : (r : Result Answer ReadFault) → request.api_key ≡ OFFSET_COMMIT
-      → IfOk r (λ answer. WhereHonest a b (AcknowledgesCommits (CatalogFailed a b) node.limits request.correlation_id request.api_version a.state.world request.body.now
-      b.state.world answer))
-      → IfOk r (λ answer. WhereHonest a b (IsToldOf a b node clock request touched answer))
-  offset_commit_told (Ok answer) is told = λ honest agree. record {
+  pub init_producer_id_told : (r : Result Answer ReadFault) → request.api_key ≡ INIT_PRODUCER_ID
+      → IfOk r (λ answer. WhereHonest a b (AcknowledgesIssue (CatalogFailed a b) request.correlation_id a.state.world request.body.now b.state.world answer))
+      → OnErr r (WhereHonest a b (AcknowledgesIssue (CatalogFailed a b) request.correlation_id a.state.world request.body.now b.state.world answers.Shut))
+      → WhereHonest a b (IsToldOf a b node clock request touched (answered r))
+  init_producer_id_told (Ok answer) is told cut = λ honest agree. init_producer_id_is answer is (told honest agree)
+  init_producer_id_told (Err fault) is told cut = λ honest agree. init_producer_id_is answers.Shut is (cut honest agree)
+
+  offset_commit_is : (answer : Answer) → request.api_key ≡ OFFSET_COMMIT
+      → AcknowledgesCommits (CatalogFailed a b) node.limits request.correlation_id request.api_version
+      a.state.world request.body.now b.state.world answer
+      → IsToldOf a b node clock request touched answer
+  offset_commit_is answer is told = record {
     produced = other request.api_key OFFSET_COMMIT PRODUCE is refl refl;
     spared = other request.api_key OFFSET_COMMIT PRODUCE is refl refl;
     fetched = other request.api_key OFFSET_COMMIT FETCH is refl refl;
@@ -202,21 +248,29 @@ module _ (a b : Scene Seen) (node : Node) (clock : ℕ) (request : Request) (tou
     removed = other request.api_key OFFSET_COMMIT DELETE_TOPICS is refl refl;
     trimmed = other request.api_key OFFSET_COMMIT DELETE_RECORDS is refl refl;
     issued = other request.api_key OFFSET_COMMIT INIT_PRODUCER_ID is refl refl;
-    committed = λ also. told honest agree;
+    committed = λ also. told;
     looked_up = looks_not request.api_key OFFSET_COMMIT is refl refl refl refl;
     stays = reads_not request.api_key OFFSET_COMMIT is refl refl refl refl refl refl;
   }
-  offset_commit_told (Err fault) is told = tt
 
-  -- A request of an API that only looks up is answered what is defined.
-  pub looked_up_told : (api : ℤ) (ts : List TopicPartition) (r : Result Answer ReadFault) → request.api_key ≡ api
+  pub offset_commit_told : (r : Result Answer ReadFault) → request.api_key ≡ OFFSET_COMMIT
+      → IfOk r (λ answer. WhereHonest a b (AcknowledgesCommits (CatalogFailed a b) node.limits request.correlation_id request.api_version
+      a.state.world request.body.now b.state.world answer))
+      → OnErr r (WhereHonest a b (AcknowledgesCommits (CatalogFailed a b) node.limits request.correlation_id request.api_version
+      a.state.world request.body.now b.state.world answers.Shut))
+      → WhereHonest a b (IsToldOf a b node clock request touched (answered r))
+  offset_commit_told (Ok answer) is told cut = λ honest agree. offset_commit_is answer is (told honest agree)
+  offset_commit_told (Err fault) is told cut = λ honest agree. offset_commit_is answers.Shut is (cut honest agree)
+
+  -- A request of an API that only looks up is answered what is defined, or the connection is shut.
+  looked_up_is : (api : ℤ) (answer : Answer) → request.api_key ≡ api
       → int_eq api PRODUCE ≡ false → int_eq api FETCH ≡ false → int_eq api LIST_OFFSETS ≡ false → int_eq api CREATE_TOPICS ≡ false
       → int_eq api DELETE_TOPICS ≡ false → int_eq api DELETE_RECORDS ≡ false → int_eq api INIT_PRODUCER_ID ≡ false
       → int_eq api OFFSET_COMMIT ≡ false
-      → IsServed request.correlation_id (plainly_served node a.state.world clock request.connection request.api_key request.api_version
-      request.body.now) a.state.world ts r
-      → (b.state.world ≡ a.state.world) → IfOk r (λ answer. WhereHonest a b (IsToldOf a b node clock request touched answer))
-  looked_up_told api ts (Ok answer) is produce fetch list create remove trim issue commit served same = λ honest agree. record {
+      → IsAnswerOrShut request.correlation_id (plainly_served node a.state.world clock request.connection request.api_key
+      request.api_version request.body.now).reaction answer
+      → (b.state.world ≡ a.state.world) → IsToldOf a b node clock request touched answer
+  looked_up_is api answer is produce fetch list create remove trim issue commit served same = record {
     produced = other request.api_key api PRODUCE is produce refl;
     spared = other request.api_key api PRODUCE is produce refl;
     fetched = other request.api_key api FETCH is fetch refl;
@@ -226,10 +280,21 @@ module _ (a b : Scene Seen) (node : Node) (clock : ℕ) (request : Request) (tou
     trimmed = other request.api_key api DELETE_RECORDS is trim refl;
     issued = other request.api_key api INIT_PRODUCER_ID is issue refl;
     committed = other request.api_key api OFFSET_COMMIT is commit refl;
-    looked_up = λ looks. inl served.2;
+    looked_up = λ looks. served;
     stays = λ reads. same;
   }
-  looked_up_told api ts (Err fault) is produce fetch list create remove trim issue commit served same = tt
+
+  pub looked_up_told : (api : ℤ) (ts : List TopicPartition) (r : Result Answer ReadFault) → request.api_key ≡ api
+      → int_eq api PRODUCE ≡ false → int_eq api FETCH ≡ false → int_eq api LIST_OFFSETS ≡ false → int_eq api CREATE_TOPICS ≡ false
+      → int_eq api DELETE_TOPICS ≡ false → int_eq api DELETE_RECORDS ≡ false → int_eq api INIT_PRODUCER_ID ≡ false
+      → int_eq api OFFSET_COMMIT ≡ false
+      → IsServed request.correlation_id (plainly_served node a.state.world clock request.connection request.api_key request.api_version
+      request.body.now) a.state.world ts r
+      → (b.state.world ≡ a.state.world) → WhereHonest a b (IsToldOf a b node clock request touched (answered r))
+  looked_up_told api ts (Ok answer) is produce fetch list create remove trim issue commit served same = λ honest agree.
+      looked_up_is api answer is produce fetch list create remove trim issue commit (inl served.2) same
+  looked_up_told api ts (Err fault) is produce fetch list create remove trim issue commit served same = λ honest agree.
+      looked_up_is api answers.Shut is produce fetch list create remove trim issue commit (inr refl) same
 
   -- A key of none of the APIs shuts the connection.
   pub none_told : int_eq request.api_key PRODUCE ≡ false → int_eq request.api_key FETCH ≡ false
@@ -249,25 +314,4 @@ module _ (a b : Scene Seen) (node : Node) (clock : ℕ) (request : Request) (tou
     committed = differs request.api_key OFFSET_COMMIT commit refl;
     looked_up = λ looks. inr refl;
     stays = λ reads. same;
-  }
-
-  -- What is told of a request whose connection is shut.
-  pub shut_told : (request.api_key ≡ PRODUCE → b.state.world ≡ a.state.world) → (OnlyReads request.api_key → b.state.world ≡ a.state.world)
-      → (request.api_key ≡ DELETE_TOPICS → AcknowledgesRemovals (CatalogFailed a b) node.limits.request_entries request.correlation_id
-      request.api_version a.state.world request.body.now b.state.world touched answers.Shut)
-      → (request.api_key ≡ DELETE_RECORDS → AcknowledgesDeletions (CatalogFailed a b) node.limits.request_entries request.correlation_id
-      a.state.world request.body.now b.state.world touched answers.Shut)
-      → IsToldOf a b node clock request touched answers.Shut
-  shut_told spared stays removals trims = record {
-    produced = λ also q read. tt;
-    spared = λ also. inl (spared also);
-    fetched = λ also q read. tt;
-    listed = λ also q read. tt;
-    created = λ also q read made. tt;
-    removed = removals;
-    trimmed = trims;
-    issued = λ also q read. tt;
-    committed = λ also q read. tt;
-    looked_up = λ looks. inr refl;
-    stays = stays;
   }

@@ -1,11 +1,13 @@
 -- Requests whose connection is shut when their first entries were served.
-use Rattle.std.proofs.Common.{◌≡◌, ◌∙◌, ap, refl, sym, subst, ℕ, ℤ, ◌+◌, ◌<◌, List, [], ◌∷◌, ◌++◌, Option, length, take, drop, get_or}
+use Rattle.std.proofs.Common.{◌≡◌, ◌∙◌, ap, inl, refl, sym, subst, ℕ, ℤ, ◌+◌, ◌<◌, List, [], ◌∷◌, ◌++◌, Option, length, take, drop, get_or}
 use Rattle.std.proofs.Math.Seq.{drop-length, take-length}
 use Rattle.std.proofs.lemmas.List.{drop_more}
 use Rattle.kb_wire.specs.Codec.{whole}
-use Rattle.kb_api_data.specs.Layouts.{delete_records_request, delete_topics_request}
+use Rattle.kb_api_data.specs.Layouts.{delete_records_request, delete_topics_request, init_producer_id_request}
 use Rattle.kb_api_data.specs.declared.delete_records.DeleteRecordsRequest.{DeleteRecordsRequest}
 use Rattle.kb_api_data.specs.declared.delete_records.DeleteRecordsTopic.{DeleteRecordsTopic}
+use Rattle.kb_api_group.specs.declared.offset_commit.CommitTopic.{CommitTopic}
+use Rattle.kb_api_group.specs.declared.offset_commit.OffsetCommitRequest.{OffsetCommitRequest}
 use Rattle.kb_store.proofs.Seen.{on_err}
 use Rattle.kb_tenant_state.specs.Parts.{Seen}
 use Rattle.kb_tenant_state.specs.Scene.{Scene, WhereHonest}
@@ -13,15 +15,21 @@ use Rattle.kb_tenant_state.specs.Steps.{IsStep}
 use Rattle.kb_tenant_state.specs.World.{World}
 use Rattle.kb_tenant_state.specs.declared.topic_partition.TopicPartition.{TopicPartition}
 use Rattle.kb_topics.specs.Known.{named}
-use Rattle.kb_tenant.specs.Entries.{delete_records_entries, delete_topics_entries, within}
+use Rattle.kb_tenant.specs.CreateTopics.{asked_creations}
+use Rattle.kb_tenant.specs.Entries.{commit_entries, create_topics_entries, delete_records_entries, delete_topics_entries, within}
+use Rattle.kb_tenant.specs.OffsetCommit.{asked_commit, refusal_of as commit_refusal}
 use Rattle.kb_tenant.specs.Replies.{begun, IsAnswer, Replies}
-use Rattle.kb_tenant.specs.Told.{AcknowledgesDeletions, AcknowledgesRemovals, AreTrimsCut, CatalogFailed, IsRepliedOrCut, IsTrimTold}
+use Rattle.kb_tenant.specs.Told.{AcknowledgesCommits, AcknowledgesCreations, AcknowledgesDeletions, AcknowledgesIssue, AcknowledgesRemovals}
+use Rattle.kb_tenant.specs.Told.{AreCommitsCut, AreTrimsCut, CatalogFailed, CreationFailed, IsRepliedOrCut, IsTrimTold}
+use Rattle.kb_tenant.specs.Told.{IsCommitTold, IsCommitTopicCut, IsCommitTopicTold}
 use Rattle.kb_tenant.specs.Told.{IsTrimTopicCut, IsTrimTopicTold}
 use Rattle.kb_tenant.specs.Turns.{AreFirstServed, AreServed, AreServedInto, IsNextServed}
 use Rattle.kb_tenant.specs.declared.answer.Answer.{Answer}
 use Rattle.kb_tenant.specs.declared.answer.Answer.TheVariants as answers
 use Rattle.kb_tenant.proofs.Acknowledging.{served_so}
+use Rattle.kb_tenant.specs.declared.limits.DataLimits.{DataLimits}
 use Rattle.kb_tenant.proofs.Trimming.{trim_behind}
+use Rattle.kb_tenant.proofs.Wanted.{commit_behind}
 
 -- ---- entries
 
@@ -84,6 +92,29 @@ trim_cut_behind a b d step s e t cut =
       ),
     )
 
+-- ---- OffsetCommit
+
+-- Nothing is committed.
+pub commits_none : (failed : Type 0) (limits : DataLimits) (refusal : Option ℤ) (w : World) (q : OffsetCommitRequest)
+    → AreCommitsCut failed limits refusal w q w
+commits_none failed limits refusal w q =
+    into_none (IsCommitTopicTold failed limits refusal q.group_id) (IsCommitTopicCut failed limits refusal q.group_id) w q.topics
+    (λ t. first_none (IsCommitTold failed limits refusal q.group_id (named t.name w.known.topics)) w w t.partitions refl)
+
+-- A topic's entries behind a step are told from before it on.
+pub commit_cut_behind : (a b d : Scene Seen) → IsStep a b → (limits : DataLimits) (refusal : Option ℤ) (group : List ℕ) (w : World)
+    (t : CommitTopic) (v : World) → IsCommitTopicCut (CatalogFailed b d) limits refusal group w t v
+    → IsCommitTopicCut (CatalogFailed a d) limits refusal group w t v
+commit_cut_behind a b d step limits refusal group w t v cut =
+    let topic = named t.name w.known.topics in (
+      cut.0,
+      (
+        cut.1.0,
+        served_so (IsCommitTold (CatalogFailed b d) limits refusal group topic) (IsCommitTold (CatalogFailed a d) limits refusal group topic)
+            (commit_behind a b d limits refusal group step topic) w v (take cut.0 t.partitions) cut.1.0 cut.1.1,
+      ),
+    )
+
 -- ---- the answer
 
 -- what a body tells that stands behind what was begun; or the connection is shut
@@ -115,3 +146,24 @@ trims_untouched a limit id body touched none honest agree =
           (trims_none (CatalogFailed a a) start q),
       on_err (within limit delete_records_entries (whole delete_records_request body)) (refl, (refl, none)),
     )
+
+-- a CreateTopics that changed nothing
+pub creations_untouched : (a : Scene Seen) (limits : DataLimits) (id version : ℤ) (body : List ℕ)
+    → WhereHonest a a (AcknowledgesCreations (CreationFailed a a) limits id version a.state.world body a.state.world answers.Shut)
+creations_untouched a limits id version body honest agree = (
+  λ q read. ((λ made. (0, ([], refl))), (λ checked. refl)),
+  on_err (within limits.request_entries create_topics_entries (asked_creations version body)) (refl, refl),
+)
+
+-- an InitProducerId that gave no id out
+pub issue_untouched : (a : Scene Seen) (id : ℤ) (body : List ℕ)
+    → WhereHonest a a (AcknowledgesIssue (CatalogFailed a a) id a.state.world body a.state.world answers.Shut)
+issue_untouched a id body honest agree = (λ q read. inl refl, on_err (whole init_producer_id_request body) (refl, refl))
+
+-- an OffsetCommit that changed nothing
+pub commits_untouched : (a : Scene Seen) (limits : DataLimits) (id version : ℤ) (body : List ℕ)
+    → WhereHonest a a (AcknowledgesCommits (CatalogFailed a a) limits id version a.state.world body a.state.world answers.Shut)
+commits_untouched a limits id version body honest agree = (
+  λ q read. commits_none (CatalogFailed a a) limits (commit_refusal q.group_id q.generation_id) a.state.world q,
+  on_err (within limits.request_entries commit_entries (asked_commit version body)) (refl, refl),
+)

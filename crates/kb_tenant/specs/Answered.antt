@@ -1,7 +1,8 @@
 -- What the answer to a request tells, whichever its API, whatever memory and the store refused.
-use Rattle.std.specs.Prelude.{◌≡◌, ◌≤◌, ◌+◌, ◌^◌, ◌⊎◌, ℕ, ℤ, List}
+use Rattle.std.specs.Prelude.{◌≡◌, ◌≤◌, ◌+◌, ◌^◌, ◌⊎◌, ℕ, ℤ, List, Result, Ok, Err}
 use Rattle.kb_wire.specs.declared.api_key.TheConstants.{PRODUCE, FETCH, LIST_OFFSETS, METADATA, OFFSET_COMMIT, OFFSET_FETCH}
 use Rattle.kb_wire.specs.declared.api_key.TheConstants.{FIND_COORDINATOR, CREATE_TOPICS, DELETE_TOPICS, DELETE_RECORDS, INIT_PRODUCER_ID}
+use Rattle.kb_wire.specs.declared.fault.ReadFault.{ReadFault}
 use Rattle.kb_api_data.specs.declared.config_key.TheConstants.{DESCRIBE_CONFIGS}
 use Rattle.kb_tenant_state.specs.World.{World}
 use Rattle.kb_tenant_state.specs.declared.topic_partition.TopicPartition.{TopicPartition}
@@ -25,14 +26,20 @@ LooksUp key = (key ≡ METADATA) ⊎ ((key ≡ OFFSET_FETCH) ⊎ ((key ≡ FIND_
 abbrev pub OnlyReads : ℤ → Type 0
 OnlyReads key = LooksUp key ⊎ ((key ≡ FETCH) ⊎ (key ≡ LIST_OFFSETS))
 
+-- what is answered where a fault shuts the connection
+abbrev pub answered : Result Answer ReadFault → Answer
+answered (Ok answer) = answer
+answered (Err fault) = answers.Shut
+
 -- The answer is that reaction's, or the connection is shut.
 abbrev pub IsAnswerOrShut : ℤ → Reaction → Answer → Type 0
 IsAnswerOrShut id reaction answer = IsAnswer id reaction answer ⊎ (answer ≡ answers.Shut)
 
 -- A request on the connection of number n that came to a world w at a time of the clock, and left v, is answered the truth. Each of its
 -- entries did what is defined; or it is answered a code that names what refused it, and changed nothing. What only looks up is answered
--- what is defined. Where the connection is shut instead, a Produce has appended nothing, unless its reply is too long, and a DeleteTopics or
--- a DeleteRecords did its first entries and nothing else. `failed` says that the store failed meanwhile, `full` that the catalog's log has no room.
+-- what is defined. Where the connection is shut instead, a Produce has appended nothing, unless its reply is too long. A CreateTopics, a
+-- DeleteTopics, a DeleteRecords or an OffsetCommit did its first entries and nothing else, and an InitProducerId gave one id out at most.
+-- `failed` says that the store failed meanwhile, `full` that the catalog's log has no room.
 pub record IsTruthful (failed full : Type 0) (node : Node) (clock n : ℕ) (key version id : ℤ) (body : List ℕ) (w v : World)
     (touched : List TopicPartition) (answer : Answer) : Type 0 where
   pub produced : key ≡ PRODUCE → Acknowledges failed node.limits.bytes id version w body v touched answer

@@ -60,7 +60,7 @@ use Rattle.kb_tenant_state.specs.declared.topic_partition.TopicPartition.{TopicP
 use Rattle.kb_tenant.specs.CreateTopics.{asked_creations, created_topic, creations_in}
 use Rattle.kb_tenant.specs.DeleteRecords.{deletion_answered, deleted}
 use Rattle.kb_tenant.specs.DeleteTopics.{deleted_topic, deletions_in}
-use Rattle.kb_tenant.specs.Entries.{delete_records_entries, delete_topics_entries, within}
+use Rattle.kb_tenant.specs.Entries.{commit_entries, create_topics_entries, delete_records_entries, delete_topics_entries, within}
 use Rattle.kb_tenant.specs.Fetch.{Limits, asked_code, asked_fetch, begun, bounded, deadline_of, fetch_answered, fetched_as, is_ready, places_of}
 use Rattle.kb_tenant.specs.Fetch.{refused, reply_written}
 use Rattle.kb_tenant.specs.InitProducerId.{id_refused, init_producer_id}
@@ -171,7 +171,8 @@ IsProduceTold failed limit p r q reply =
     AreServed (IsTopicTold failed limit (refusal_of r.transactional_id r.acks)) p r.topics q reply.topics
     × (reply.throttle_time_ms ≡ pos 0)
 
--- Its answer is that reply's bytes in a version of the API, or none where none is due.
+-- Its answer is that reply's bytes in a version of the API, or none where none is due. Where the connection is shut, nothing has changed, or
+-- the entries are so told.
 abbrev pub IsAcknowledged : Type 0 → Option ℕ → (id version : ℤ) → World → ProduceRequest → World → List TopicPartition → Answer → Type 0
 IsAcknowledged failed limit id version w r v touched (answers.Reply bytes) =
     (reply : ProduceReplyV5) × ((bytes.items ≡ framed id (produced_in version reply))
@@ -179,7 +180,8 @@ IsAcknowledged failed limit id version w r v touched (answers.Reply bytes) =
 IsAcknowledged failed limit id version w r v touched (answers.Wait deadline fetch keys) = ⊥
 IsAcknowledged failed limit id version w r v touched answers.NoReply =
     (reply : ProduceReplyV5) × IsProduceTold failed limit (progress w []) r (progress v touched) reply
-IsAcknowledged failed limit id version w r v touched answers.Shut = ⊤
+IsAcknowledged failed limit id version w r v touched answers.Shut =
+    (v ≡ w) ⊎ ((reply : ProduceReplyV5) × IsProduceTold failed limit (progress w []) r (progress v touched) reply)
 
 -- The same of a body, where it is a request of Produce.
 abbrev pub Acknowledges : Type 0 → Option ℕ → (id version : ℤ) → World → List ℕ → World → List TopicPartition → Answer → Type 0
@@ -210,6 +212,10 @@ IsRepliedOrCut id Told Cut (answers.Wait deadline limit keys) = ⊥
 IsRepliedOrCut id Told Cut answers.NoReply = ⊥
 IsRepliedOrCut id Told Cut answers.Shut = Cut
 
+-- The connection is shut, and the tenant's topics and logs are as they were.
+abbrev pub IsShutUnchanged : World → World → Answer → Type 0
+IsShutUnchanged w v a = (a ≡ answers.Shut) × (v ≡ w)
+
 -- The connection is shut, and nothing has changed.
 abbrev pub IsTurnedAway : World → World → List TopicPartition → Answer → Type 0
 IsTurnedAway w v touched a = (a ≡ answers.Shut) × ((v ≡ w) × (touched ≡ []))
@@ -219,11 +225,23 @@ abbrev pub TellsCreations : Type 0 → DataLimits → ℤ → World → CreateTo
 TellsCreations failed limits version w q v body = (replies : List CreateTopicReply)
     × ((body ≡ creations_in version (record { topics = replies })) × AreServed (IsCreationTold failed limits q.topics) w q.topics v replies)
 
--- The same of a body, where it is a request of CreateTopics that is not only to be checked.
+-- The first topics of a CreateTopics, so many, are so told, and nothing else has changed.
+abbrev pub AreCreationsCut : Type 0 → DataLimits → World → CreateTopicsRequestV1 → World → Type 0
+AreCreationsCut failed limits w q v = AreFirstServed (IsCreationTold failed limits q.topics) w q.topics v
+
+-- A CreateTopics is so told, also where the connection is shut. One that is only to be checked changes nothing.
+abbrev pub AreCreationsTold : Type 0 → DataLimits → ℤ → ℤ → World → CreateTopicsRequestV1 → World → Answer → Type 0
+AreCreationsTold failed limits id version w q v a =
+    (q.validate_only ≡ false → IsRepliedOrCut id (TellsCreations failed limits version w q v) (AreCreationsCut failed limits w q v) a)
+    × (q.validate_only ≡ true → v ≡ w)
+
+-- The same of a body, where it is a request of CreateTopics. One that is none, or that names more topics than a limit allows, is turned
+-- away.
 abbrev pub AcknowledgesCreations : Type 0 → DataLimits → ℤ → ℤ → World → List ℕ → World → Answer → Type 0
 AcknowledgesCreations failed limits id version w body v a =
-    (q : CreateTopicsRequestV1) → asked_creations version body ≡ Ok q → q.validate_only ≡ false
-    → IsReplied id (TellsCreations failed limits version w q v) a
+    let read = asked_creations version body in
+    ((q : CreateTopicsRequestV1) → read ≡ Ok q → AreCreationsTold failed limits id version w q v a)
+    × OnErr (within limits.request_entries create_topics_entries read) (IsShutUnchanged w v a)
 
 -- It is the reply of a DeleteTopics.
 abbrev pub TellsRemovals : Type 0 → ℤ → World → DeleteTopicsRequest → World → List TopicPartition → List ℕ → Type 0
@@ -248,10 +266,16 @@ abbrev pub TellsIssue : Type 0 → World → InitProducerIdRequest → World →
 TellsIssue failed w q v body =
     (reply : InitProducerIdReply) × ((body ≡ init_producer_id_reply.written reply) × IsIssueTold failed w q v reply)
 
--- The same of a body, where it is a request of InitProducerId.
+-- No id was given out, or the one that is defined; and nothing else has changed.
+abbrev pub IsIssueCut : World → InitProducerIdRequest → World → Type 0
+IsIssueCut w q v = (v ≡ w) ⊎ (v ≡ (init_producer_id w q).0)
+
+-- The same of a body, where it is a request of InitProducerId, also where the connection is shut. One that is none is turned away.
 abbrev pub AcknowledgesIssue : Type 0 → ℤ → World → List ℕ → World → Answer → Type 0
 AcknowledgesIssue failed id w body v a =
-    (q : InitProducerIdRequest) → whole init_producer_id_request body ≡ Ok q → IsReplied id (TellsIssue failed w q v) a
+    let read = whole init_producer_id_request body in
+    ((q : InitProducerIdRequest) → read ≡ Ok q → IsRepliedOrCut id (TellsIssue failed w q v) (IsIssueCut w q v) a)
+    × OnErr read (IsShutUnchanged w v a)
 
 -- It is the reply of an OffsetCommit, where groups have no members.
 abbrev pub TellsCommits : Type 0 → DataLimits → World → OffsetCommitRequest → World → List ℕ → Type 0
@@ -259,10 +283,24 @@ TellsCommits failed limits w q v body =
     (reply : OffsetCommitReply) × ((body ≡ offset_commit_reply.written reply)
     × AreServed (IsCommitTopicTold failed limits (commit_refusal q.group_id q.generation_id) q.group_id) w q.topics v reply.topics)
 
--- The same of a body, where it is a request of OffsetCommit of a version.
+-- The first entries of a topic, so many, are so told, and nothing else has changed.
+abbrev pub IsCommitTopicCut : Type 0 → DataLimits → Option ℤ → List ℕ → World → CommitTopic → World → Type 0
+IsCommitTopicCut failed limits refusal group w t v =
+    AreFirstServed (IsCommitTold failed limits refusal group (named t.name w.known.topics)) w t.partitions v
+
+-- The first topics of an OffsetCommit, so many, are so told, and of the one behind them the first entries; nothing else has changed.
+abbrev pub AreCommitsCut : Type 0 → DataLimits → Option ℤ → World → OffsetCommitRequest → World → Type 0
+AreCommitsCut failed limits refusal w q v =
+    AreServedInto (IsCommitTopicTold failed limits refusal q.group_id) (IsCommitTopicCut failed limits refusal q.group_id) w q.topics v
+
+-- The same of a body, where it is a request of OffsetCommit of a version, also where the connection is shut. One that is none, or that has
+-- more entries than a limit allows, is turned away.
 abbrev pub AcknowledgesCommits : Type 0 → DataLimits → (id version : ℤ) → World → List ℕ → World → Answer → Type 0
 AcknowledgesCommits failed limits id version w body v a =
-    (q : OffsetCommitRequest) → asked_commit version body ≡ Ok q → IsReplied id (TellsCommits failed limits w q v) a
+    let read = asked_commit version body in
+    ((q : OffsetCommitRequest) → read ≡ Ok q → IsRepliedOrCut id (TellsCommits failed limits w q v)
+    (AreCommitsCut failed limits (commit_refusal q.group_id q.generation_id) w q v) a)
+    × OnErr (within limits.request_entries commit_entries read) (IsShutUnchanged w v a)
 
 -- ---- DeleteRecords
 

@@ -1,6 +1,6 @@
 //! CreateTopics (Kafka protocol guide): topics are made, one after another. A request of version 1 may ask that they are only
 //! checked, and each answer has a message, which is null; any other version is answered as 0.
-ghost use Rattle.std.specs.Prelude.{◌≡◌, ◌++◌, ◌+◌, ◌<◌, ◌^◌, length, pos, IfOk, List, Ok, OnOk};
+ghost use Rattle.std.specs.Prelude.{◌≡◌, ◌++◌, ◌+◌, ◌<◌, ◌^◌, length, pos, IfOk, List, Ok, OnErr, OnOk};
 ghost use Rattle.kb_api_data.specs.Layouts.{create_topics_request_v1};
 ghost use Rattle.kb_api_data.specs.declared.create_topics.CreateTopicReply.{CreateTopicReply};
 ghost use Rattle.kb_tenant_state.specs.Scene.{WhereHonest};
@@ -11,7 +11,7 @@ ghost use Rattle.kb_tenant.specs.CreateTopics.{asked_creations, checked_all, che
 ghost use Rattle.kb_tenant.specs.CreateTopics.{creations_in, made, made_of, refusal};
 ghost use Rattle.kb_tenant.specs.Entries.{create_topics_entries, within};
 ghost use Rattle.kb_tenant.specs.Settings.{settings_in};
-ghost use Rattle.kb_tenant.specs.Told.{CreationFailed, IsCreationTold, IsFaultOf, IsTold};
+ghost use Rattle.kb_tenant.specs.Told.{AreCreationsCut, CreationFailed, IsCreationTold, IsFaultOf, IsTold};
 ghost use Rattle.kb_tenant.specs.Turns.{AreServed};
 ghost use Rattle.kb_tenant_state.specs.Parts.{scene, world_of};
 ghost use Rattle.kb_tenant_state.specs.Steps.{IsStep, Meets};
@@ -261,6 +261,9 @@ pub fn create_topics<L: PartitionLog + Drop, S: Store>(
         × ((sink.new.bytes ≡ sink.old.bytes ++ creations_in version (record { topics = replies }))
         × AreServed (IsCreationTold (CreationFailed a b) limits request.now.topics) a.state.world request.now.topics b.state.world
         replies))) }
+    // On an `Err` the first topics are so told, and no other is made.
+    ensures cut { OnErr result (let a = scene L.log S.disk parts.old shelf.old in let b = scene L.log S.disk parts.new shelf.new in
+        WhereHonest a b (AreCreationsCut (CreationFailed a b) limits a.state.world request.now b.state.world)) }
 {
     let topics = request.topics.as_slice();
     let repeated = Repeated::among(alloc, topics)?;

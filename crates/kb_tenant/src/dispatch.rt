@@ -1,7 +1,7 @@
 //! A request of a tenant, by its key.
 ghost use Rattle.std.specs.Prelude.{◌≡◌, ◌≤◌, ◌^◌, [], IfOk, OnErr};
 ghost use Rattle.kb_wire.specs.Codec.{string, whole};
-ghost use Rattle.kb_wire.specs.declared.api_key.TheConstants.{PRODUCE, DELETE_TOPICS, DELETE_RECORDS};
+ghost use Rattle.kb_wire.specs.declared.api_key.TheConstants.{PRODUCE};
 ghost use Rattle.kb_api_data.specs.Layouts.{produce_request};
 ghost use Rattle.kb_api_data.specs.Layouts.{delete_records_request, delete_topics_request, init_producer_id_request};
 ghost use Rattle.kb_store.specs.Disk.{Files};
@@ -9,7 +9,7 @@ ghost use Rattle.kb_tenant_state.specs.Scene.{WhereHonest};
 ghost use Rattle.kb_tenant_state.specs.Parts.{scene, world_of};
 ghost use Rattle.kb_tenant_state.specs.Steps.{IsStep, Meets};
 ghost use Rattle.kb_tenant_state.specs.Told.{IsLogFull};
-ghost use Rattle.kb_tenant.specs.Answered.{IsTruthful, OnlyReads};
+ghost use Rattle.kb_tenant.specs.Answered.{answered, IsTruthful};
 ghost use Rattle.kb_tenant.specs.CreateTopics.{asked_creations};
 ghost use Rattle.kb_tenant.specs.DescribeConfigs.{asked_configs};
 ghost use Rattle.kb_tenant.specs.Entries.{describe_configs_entries};
@@ -217,6 +217,10 @@ fn serve_create_topics<L: PartitionLog + Drop, S: Store>(
         IfOk result (λ answer. WhereHonest a b (AcknowledgesCreations
         (CreationFailed a b) limits request.now.correlation_id request.now.api_version a.state.world request.now.body.now b.state.world
         answer)) }
+    ensures cut { let a = scene L.log S.disk parts.old shelf.old in let b = scene L.log S.disk parts.new shelf.new in
+        OnErr result (WhereHonest a b (AcknowledgesCreations
+        (CreationFailed a b) limits request.now.correlation_id request.now.api_version a.state.world request.now.body.now b.state.world
+        answers.Shut)) }
 {
     let version = request.api_version;
     let asked = read_creations_within(alloc, limits.request_entries, version, request.body)?;
@@ -313,6 +317,9 @@ fn serve_init_producer_id<L: PartitionLog + Drop, S: Store>(
     ensures acknowledged { let a = scene L.log S.disk parts.old shelf.old in let b = scene L.log S.disk parts.new shelf.new in
         IfOk result (λ answer. WhereHonest a b (AcknowledgesIssue
         (CatalogFailed a b) request.now.correlation_id a.state.world request.now.body.now b.state.world answer)) }
+    ensures cut { let a = scene L.log S.disk parts.old shelf.old in let b = scene L.log S.disk parts.new shelf.new in
+        OnErr result (WhereHonest a b (AcknowledgesIssue
+        (CatalogFailed a b) request.now.correlation_id a.state.world request.now.body.now b.state.world answers.Shut)) }
 {
     let asked = InitProducerIdRequest::read(alloc, request.body)?;
     let mut sink = begin(alloc, request.correlation_id)?;
@@ -362,26 +369,14 @@ fn serve_by_key<L: PartitionLog + Drop, S: Store>(
         request.now.body.now)
         b.state.world touched.new.items result) }
     ensures told { let a = scene L.log S.disk parts.old shelf.old in let b = scene L.log S.disk parts.new shelf.new in
-        IfOk result (λ answer. WhereHonest a b (IsTruthful (HasFailed a b) (IsLogFull b) node.now clock request.now.connection
-        request.now.api_key request.now.api_version request.now.correlation_id request.now.body.now a.state.world b.state.world
-        touched.new.items answer)) }
-    // what only reads leaves the world as it is, also where it is refused
-    ensures stays { let a = scene L.log S.disk parts.old shelf.old in let b = scene L.log S.disk parts.new shelf.new in
-        WhereHonest a b (OnlyReads request.now.api_key → b.state.world ≡ a.state.world) }
+        WhereHonest a b (IsTruthful (HasFailed a b) (IsLogFull b) node.now clock request.now.connection request.now.api_key
+        request.now.api_version request.now.correlation_id request.now.body.now a.state.world b.state.world touched.new.items
+        (answered result)) }
     ensures spared { let a = scene L.log S.disk parts.old shelf.old in let b = scene L.log S.disk parts.new shelf.new in
         request.now.api_key ≡ PRODUCE → OnErr result (b.state.world ≡ a.state.world) }
     ensures shut { let a = scene L.log S.disk parts.old shelf.old in let b = scene L.log S.disk parts.new shelf.new in
         request.now.api_key ≡ PRODUCE →
         IfOk result (λ answer. IsSpared request.now.api_version a.state.world request.now.body.now b.state.world answer) }
-    // a DeleteTopics or a DeleteRecords that is refused did its first entries, and nothing else
-    ensures removals { let a = scene L.log S.disk parts.old shelf.old in let b = scene L.log S.disk parts.new shelf.new in
-        request.now.api_key ≡ DELETE_TOPICS → OnErr result (WhereHonest a b (AcknowledgesRemovals (CatalogFailed a b)
-        node.now.limits.request_entries request.now.correlation_id request.now.api_version a.state.world request.now.body.now
-        b.state.world touched.new.items answers.Shut)) }
-    ensures trims { let a = scene L.log S.disk parts.old shelf.old in let b = scene L.log S.disk parts.new shelf.new in
-        request.now.api_key ≡ DELETE_RECORDS → OnErr result (WhereHonest a b (AcknowledgesDeletions (CatalogFailed a b)
-        node.now.limits.request_entries request.now.correlation_id a.state.world request.now.body.now b.state.world
-        touched.new.items answers.Shut)) }
 {
     let limit = node.limits.request_entries;
     match request.api_key {
@@ -408,8 +403,8 @@ fn serve_by_key<L: PartitionLog + Drop, S: Store>(
 /// A body that is not the API's, one that names more entries than the tenant's limit allows, a key that is not a tenant's and a
 /// reply whose size does not fit an INT32 shut the connection. So does a reply of Metadata, OffsetFetch or DescribeConfigs that is past
 /// the tenant's limit. So does want of memory for the read request, the reply or the wait, which is counted; changes that were made stay. A
-/// Produce makes none before it has the memory for its whole reply, and a DeleteTopics or a DeleteRecords those of its first entries. The
-/// host is to fit a STRING, and the clock is at most 2^62, in milliseconds.
+/// Produce makes none before it has the memory for its whole reply, and any other request those of its first entries. The host is to fit a
+/// STRING, and the clock is at most 2^62, in milliseconds.
 pub fn serve<L: PartitionLog + Drop, S: Store>(
     alloc: Global,
     parts: &mut Parts<L>,
@@ -428,7 +423,7 @@ pub fn serve<L: PartitionLog + Drop, S: Store>(
         request.now.body.now)
         b.state.world result.touched.items result.answer) }
     // What is answered with no error is done, and of what is fetched or listed each partition has what is defined, or the code of what
-    // refused it, whatever was refused. A DeleteTopics or a DeleteRecords that is shut did its first entries, and nothing else.
+    // refused it, whatever was refused. A request for changes that is shut did its first entries, and nothing else.
     ensures told { let a = scene L.log S.disk parts.old shelf.old in let b = scene L.log S.disk parts.new shelf.new in
         WhereHonest a b (IsTruthful (HasFailed a b) (IsLogFull b) node.now clock request.now.connection request.now.api_key
         request.now.api_version request.now.correlation_id request.now.body.now a.state.world b.state.world result.touched.items

@@ -1,6 +1,6 @@
 //! OffsetCommit (Kafka protocol guide): a group records how far it has processed partitions. From version 5 on a request has no
 //! retention time, and from version 6 on its entries have a leader's epoch. In version 1 they have a timestamp.
-ghost use Rattle.std.specs.Prelude.{◌≡◌, ◌++◌, ◌+◌, ◌-◌, ◌<◌, ◌^◌, ℕ, length, min, map, nat_lt, pos, List, OnOk};
+ghost use Rattle.std.specs.Prelude.{◌≡◌, ◌++◌, ◌+◌, ◌-◌, ◌<◌, ◌^◌, ℕ, length, min, map, nat_lt, pos, List, OnErr, OnOk};
 ghost use Rattle.std.specs.List.{flat_map};
 ghost use Rattle.kb_api_group.specs.Layouts.{commit_partition_reply, commit_topic, commit_topic_reply, offset_commit_request};
 ghost use Rattle.kb_api_group.specs.Layouts.{offset_commit_reply};
@@ -14,8 +14,8 @@ ghost use Rattle.kb_tenant.specs.OffsetCommit.{asked_commit, brings_too_much, co
 ghost use Rattle.kb_tenant.specs.OffsetCommit.{is_over_limits, is_takeable, plain, plain_entry, plain_topic, text_brought};
 ghost use Rattle.kb_tenant.specs.OffsetCommit.{committed_entry, committed_topic, committed_all};
 ghost use Rattle.kb_tenant.specs.Produce.{written_next};
-ghost use Rattle.kb_tenant.specs.Told.{CatalogFailed, IsCommitTold, IsCommitTopicTold, IsFaultOf, IsTold};
-ghost use Rattle.kb_tenant.specs.Turns.{in_turn, written_behind, AreServed};
+ghost use Rattle.kb_tenant.specs.Told.{AreCommitsCut, CatalogFailed, IsCommitTold, IsCommitTopicCut, IsCommitTopicTold, IsFaultOf, IsTold};
+ghost use Rattle.kb_tenant.specs.Turns.{in_turn, written_behind, AreFirstServed, AreServed};
 ghost use Rattle.kb_wire.specs.Codec.{int32, int64};
 ghost use Rattle.kb_wire.specs.Reads.{ReadsWhole};
 ghost use Rattle.kb_store.specs.Disk.{Files, Table};
@@ -389,6 +389,9 @@ fn commit_entries<L: PartitionLog + Drop, S: Store>(
         WhereHonest a b ((replies : List CommitPartitionReply)
         × ((sink.new.bytes ≡ sink.old.bytes ++ flat_map commit_partition_reply.written replies)
         × AreServed (IsCommitTold (CatalogFailed a b) limits refusal group.now topic) a.state.world entries.now b.state.world replies))) }
+    ensures cut { OnErr result (let a = scene L.log S.disk parts.old shelf.old in let b = scene L.log S.disk parts.new shelf.new in
+        WhereHonest a b (AreFirstServed (IsCommitTold (CatalogFailed a b) limits refusal group.now topic)
+        a.state.world entries.now b.state.world)) }
 {
     for entry in entries {
         let reply = CommitPartitionReply {
@@ -420,6 +423,8 @@ fn commit_topic<L: PartitionLog + Drop, S: Store>(
     ensures told { OnOk result (let a = scene L.log S.disk parts.old shelf.old in let b = scene L.log S.disk parts.new shelf.new in
         WhereHonest a b ((reply : CommitTopicReply) × ((sink.new.bytes ≡ sink.old.bytes ++ commit_topic_reply.written reply)
         × IsCommitTopicTold (CatalogFailed a b) limits refusal group.now a.state.world topic.now b.state.world reply))) }
+    ensures cut { OnErr result (let a = scene L.log S.disk parts.old shelf.old in let b = scene L.log S.disk parts.new shelf.new in
+        WhereHonest a b (IsCommitTopicCut (CatalogFailed a b) limits refusal group.now a.state.world topic.now b.state.world)) }
 {
     sink.put_string(topic.name.as_str())?;
     sink.put_count(topic.partitions.len())?;
@@ -458,6 +463,9 @@ pub fn offset_commit<L: PartitionLog + Drop, S: Store>(
         WhereHonest a b ((reply : OffsetCommitReply) × ((sink.new.bytes ≡ sink.old.bytes ++ offset_commit_reply.written reply)
         × AreServed (IsCommitTopicTold (CatalogFailed a b) limits refusal request.now.group_id) a.state.world request.now.topics
         b.state.world reply.topics))) }
+    // On an `Err` the first entries are so told, and nothing else is committed.
+    ensures cut { OnErr result (let a = scene L.log S.disk parts.old shelf.old in let b = scene L.log S.disk parts.new shelf.new in
+        WhereHonest a b (AreCommitsCut (CatalogFailed a b) limits refusal a.state.world request.now b.state.world)) }
 {
     let group = request.group_id.as_str();
     sink.put_count(request.topics.len())?;

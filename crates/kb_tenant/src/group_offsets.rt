@@ -1,5 +1,5 @@
 //! Requests about the offsets of groups, from their bodies to their replies.
-ghost use Rattle.std.specs.Prelude.{[], IfOk};
+ghost use Rattle.std.specs.Prelude.{[], IfOk, OnErr};
 ghost use Rattle.kb_store.specs.Disk.{Files};
 ghost use Rattle.kb_tenant_state.specs.Scene.{WhereHonest};
 ghost use Rattle.kb_tenant.specs.Entries.{commit_entries, offset_fetch_entries, within};
@@ -7,6 +7,7 @@ ghost use Rattle.kb_tenant.specs.FindCoordinator.{asked_coordinator};
 ghost use Rattle.kb_tenant.specs.OffsetCommit.{asked_commit};
 ghost use Rattle.kb_tenant.specs.OffsetFetch.{asked_offsets};
 ghost use Rattle.kb_tenant.specs.Told.{AcknowledgesCommits, CatalogFailed};
+ghost use Rattle.kb_tenant.specs.declared.answer.Answer.TheVariants as answers;
 ghost use Rattle.kb_tenant.specs.Serve.{if_read, of_find_coordinator, of_offset_commit, of_offset_fetch, IsServed};
 ghost use Rattle.kb_wire.specs.Codec.{string};
 ghost use Rattle.kb_tenant_state.specs.Parts.{scene, world_of};
@@ -44,6 +45,10 @@ pub(crate) fn serve_offset_commit<L: PartitionLog + Drop, S: Store>(
         IfOk result (λ answer. WhereHonest a b (AcknowledgesCommits
         (CatalogFailed a b) limits request.now.correlation_id request.now.api_version a.state.world request.now.body.now b.state.world
         answer)) }
+    ensures cut { let a = scene L.log S.disk parts.old shelf.old in let b = scene L.log S.disk parts.new shelf.new in
+        OnErr result (WhereHonest a b (AcknowledgesCommits
+        (CatalogFailed a b) limits request.now.correlation_id request.now.api_version a.state.world request.now.body.now b.state.world
+        answers.Shut)) }
 {
     let limit = limits.request_entries;
     let asked = read_commit_within(alloc, limit, request.api_version, request.body)?;

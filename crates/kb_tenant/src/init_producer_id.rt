@@ -1,10 +1,10 @@
 //! InitProducerId: a producer asks for an id.
-ghost use Rattle.std.specs.Prelude.{◌≡◌, ◌++◌, pos, OnOk};
+ghost use Rattle.std.specs.Prelude.{◌≡◌, ◌++◌, pos, OnErr, OnOk};
 ghost use Rattle.kb_api_data.specs.Layouts.{init_producer_id_reply};
 ghost use Rattle.kb_api_data.specs.declared.init_producer_id.InitProducerIdReply.{InitProducerIdReply};
 ghost use Rattle.kb_tenant_state.specs.Scene.{WhereHonest};
 ghost use Rattle.kb_tenant.specs.InitProducerId.{id_refused, init_producer_id};
-ghost use Rattle.kb_tenant.specs.Told.{CatalogFailed, IsFaultOf, IsIssueTold, IsTold};
+ghost use Rattle.kb_tenant.specs.Told.{CatalogFailed, IsFaultOf, IsIssueCut, IsIssueTold, IsTold};
 ghost use Rattle.kb_tenant_state.specs.Parts.{scene};
 ghost use Rattle.kb_tenant_state.specs.Steps.{IsStep, Meets};
 ghost use Rattle.kb_tenant_state.specs.Told.{IsCatalogWant, IsDone};
@@ -77,6 +77,9 @@ pub fn init_producer_id<L: PartitionLog + Drop, S: Store>(
     ensures told { OnOk result (let a = scene L.log S.disk parts.old shelf.old in let b = scene L.log S.disk parts.new shelf.new in
         WhereHonest a b ((reply : InitProducerIdReply) × ((sink.new.bytes ≡ sink.old.bytes ++ init_producer_id_reply.written reply)
         × IsIssueTold (CatalogFailed a b) a.state.world request.now b.state.world reply))) }
+    // On an `Err` one id was given out at most.
+    ensures cut { OnErr result (let a = scene L.log S.disk parts.old shelf.old in let b = scene L.log S.disk parts.new shelf.new in
+        WhereHonest a b (IsIssueCut a.state.world request.now b.state.world)) }
 {
     give_id(parts, shelf, request).write(sink)
 }

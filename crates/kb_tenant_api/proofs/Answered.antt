@@ -1,5 +1,5 @@
 -- What is answered to a request of a member, to a commit, to any other, and where the connection is shut, whatever was refused.
-use Rattle.std.proofs.Common.{◌≡◌, ◌⊎◌, ℕ, ℤ, List, true, false, inl, inr, refl, ap, subst, sym, Result, Ok, Err, IfOk}
+use Rattle.std.proofs.Common.{◌≡◌, ◌⊎◌, ℕ, ℤ, List, true, false, inl, inr, refl, ap, subst, sym, Result, Ok, Err, IfOk, OnErr}
 use Rattle.std.specs.Ordering.{int_eq}
 use Rattle.kb_wire.specs.declared.api_key.TheConstants.{OFFSET_COMMIT, JOIN_GROUP, HEARTBEAT, LEAVE_GROUP, SYNC_GROUP}
 use Rattle.kb_wire.specs.declared.fault.ReadFault.{ReadFault}
@@ -8,10 +8,9 @@ use Rattle.kb_coordinator.specs.Groups.{Groups}
 use Rattle.kb_tenant_state.specs.World.{World}
 use Rattle.kb_tenant_state.specs.declared.topic_partition.TopicPartition.{TopicPartition}
 use Rattle.kb_tenant.specs.Answered as tenant
-use Rattle.kb_tenant.specs.Told.{IsReplied}
 use Rattle.kb_tenant.specs.declared.answer.Answer.TheVariants as plain
 use Rattle.kb_tenant.specs.declared.node.Node.{Node}
-use Rattle.kb_tenant_api.specs.Acknowledged.{AcknowledgesCommits, AcknowledgesGroupDeletions, IsOfCommits, IsOfMembers, IsPlainly, IsTruthful, TellsCommits, TellsGroupDeletions}
+use Rattle.kb_tenant_api.specs.Acknowledged.{answered, AcknowledgesCommits, AcknowledgesGroupDeletions, IsAnswerOrShut, IsOfCommits, IsOfMembers, IsPlainly, IsTruthful}
 use Rattle.kb_tenant_api.specs.Replies.{IsAnswer}
 use Rattle.kb_tenant_api.specs.Serve.{Outcome, served, IsServed}
 use Rattle.kb_tenant_api.specs.declared.answer.Answer.{Answer}
@@ -47,44 +46,53 @@ pub is_no_commit : (key : ℤ) → int_eq key OFFSET_COMMIT ≡ false → int_eq
 is_no_commit key a b (inl commit) = differs key OFFSET_COMMIT a refl commit
 is_no_commit key a b (inr delete) = differs key DELETE_GROUPS b refl delete
 
--- a request of a member that is answered what is defined
+-- a request of a member that is answered what is defined, or whose connection is shut
 pub member_told : (failed full honest agree : Type 0) (node : Node) (clock n : ℕ) (key version id : ℤ) (body : List ℕ) (w : World) (gs new : Groups) (some touched : List TopicPartition) (o : Outcome) (result : Result Answer ReadFault) → IsOfMembers key
     → served node w clock gs n key version body ≡ o → IsServed id o w new some result
-    → IfOk result (λ answer. honest → agree → IsTruthful failed full node clock n key version id body w gs w new touched answer)
-member_told failed full honest agree node clock n key version id body w gs new some touched o (Ok answer) member is met = λ h a. record {
+    → honest → agree → IsTruthful failed full node clock n key version id body w gs w new touched (answered result)
+member_told failed full honest agree node clock n key version id body w gs new some touched o result member is met = λ h a. record {
   plain = λ none other. absurd (none member);
   committed = λ commit. absurd (commits_for_no_member key commit member);
   deleted = λ delete. absurd (deletes_for_no_member key delete member);
-  members = λ m. inl (subst (λ x. IsAnswer id x.reaction answer) (sym is) met.3);
+  members = λ m. by result met;
   stays = λ m. refl;
 }
-member_told failed full honest agree node clock n key version id body w gs new some touched o (Err fault) member is met = tt
+  where
+    by : (r : Result Answer ReadFault) → IsServed id o w new some r → IsAnswerOrShut id (served node w clock gs n key version body).reaction (answered r)
+    by (Ok answer) met = inl (subst (λ x. IsAnswer id x.reaction answer) (sym is) met.3)
+    by (Err fault) met = inr refl
+
+-- what is told of an answer, or of a connection that is shut
+told_so : (honest agree : Type 0) (P : Answer → Type 0) (result : Result Answer ReadFault) → IfOk result (λ answer. honest → agree → P answer)
+    → OnErr result (honest → agree → P (answers.Plain plain.Shut)) → honest → agree → P (answered result)
+told_so honest agree P (Ok answer) told cut = told
+told_so honest agree P (Err fault) told cut = cut
 
 -- a commit that is told
 pub commit_told : (failed full honest agree : Type 0) (node : Node) (clock n : ℕ) (key version id : ℤ) (body : List ℕ) (w v : World) (gs new : Groups) (touched : List TopicPartition) (result : Result Answer ReadFault) → key ≡ OFFSET_COMMIT
     → IfOk result (λ answer. honest → agree → AcknowledgesCommits (failed ⊎ full) node.limits id version gs w body v answer)
-    → IfOk result (λ answer. honest → agree → IsTruthful failed full node clock n key version id body w gs v new touched answer)
-commit_told failed full honest agree node clock n key version id body w v gs new touched (Ok answer) is told = λ h a. record {
+    → OnErr result (honest → agree → AcknowledgesCommits (failed ⊎ full) node.limits id version gs w body v (answers.Plain plain.Shut))
+    → honest → agree → IsTruthful failed full node clock n key version id body w gs v new touched (answered result)
+commit_told failed full honest agree node clock n key version id body w v gs new touched result is told cut = λ h a. record {
   plain = λ none other. absurd (other (inl is));
-  committed = λ same. told h a;
+  committed = λ same. told_so honest agree (AcknowledgesCommits (failed ⊎ full) node.limits id version gs w body v) result told cut h a;
   deleted = λ delete. absurd (commits_delete_none key is delete);
   members = λ member. absurd (commits_for_no_member key is member);
   stays = λ member. absurd (commits_for_no_member key is member);
 }
-commit_told failed full honest agree node clock n key version id body w v gs new touched (Err fault) is told = tt
 
 -- a deletion of groups that is told
 pub delete_told : (failed full honest agree : Type 0) (node : Node) (clock n : ℕ) (key version id : ℤ) (body : List ℕ) (w v : World) (gs new : Groups) (touched : List TopicPartition) (result : Result Answer ReadFault) → key ≡ DELETE_GROUPS
-    → IfOk result (λ answer. honest → agree → AcknowledgesGroupDeletions (failed ⊎ full) id gs w body v new answer)
-    → IfOk result (λ answer. honest → agree → IsTruthful failed full node clock n key version id body w gs v new touched answer)
-delete_told failed full honest agree node clock n key version id body w v gs new touched (Ok answer) is told = λ h a. record {
+    → IfOk result (λ answer. honest → agree → AcknowledgesGroupDeletions (failed ⊎ full) node.limits.request_entries id gs w body v new answer)
+    → OnErr result (honest → agree → AcknowledgesGroupDeletions (failed ⊎ full) node.limits.request_entries id gs w body v new (answers.Plain plain.Shut))
+    → honest → agree → IsTruthful failed full node clock n key version id body w gs v new touched (answered result)
+delete_told failed full honest agree node clock n key version id body w v gs new touched result is told cut = λ h a. record {
   plain = λ none other. absurd (other (inr is));
   committed = λ commit. absurd (commits_delete_none key commit is);
-  deleted = λ same. told h a;
+  deleted = λ same. told_so honest agree (AcknowledgesGroupDeletions (failed ⊎ full) node.limits.request_entries id gs w body v new) result told cut h a;
   members = λ member. absurd (deletes_for_no_member key is member);
   stays = λ member. absurd (deletes_for_no_member key is member);
 }
-delete_told failed full honest agree node clock n key version id body w v gs new touched (Err fault) is told = tt
 
 -- any other request, which is answered as if there were no groups
 pub plainly_told : (failed full : Type 0) (node : Node) (clock n : ℕ) (key version id : ℤ) (body : List ℕ) (w v : World) (gs new : Groups) (touched : List TopicPartition) (answer : Answer) → (IsOfMembers key → ⊥) → (IsOfCommits key → ⊥)
@@ -96,18 +104,6 @@ plainly_told failed full node clock n key version id body w v gs new touched ans
   deleted = λ is. absurd (other (inr is));
   members = λ member. absurd (none member);
   stays = λ member. absurd (none member);
-}
-
--- a request of a member, a commit or a deletion of groups after which the connection is shut
-pub shut_told : (failed full : Type 0) (node : Node) (clock n : ℕ) (key version id : ℤ) (body : List ℕ) (w v : World) (gs new : Groups) (touched : List TopicPartition) (answer : Answer) → ((IsOfMembers key → ⊥) → (IsOfCommits key → ⊥) → false ≡ true)
-    → (IsOfMembers key → v ≡ w) → answer ≡ answers.Plain plain.Shut
-    → IsTruthful failed full node clock n key version id body w gs v new touched answer
-shut_told failed full node clock n key version id body w v gs new touched answer either same shut = record {
-  plain = λ none other. let no_answer : false ≡ true = either none other in absurd cc;
-  committed = λ is q read. subst (IsPlainly (IsReplied id (TellsCommits (failed ⊎ full) node.limits gs w q v))) (sym shut) tt;
-  deleted = λ is q read. subst (IsPlainly (IsReplied id (TellsGroupDeletions (failed ⊎ full) gs w q v new))) (sym shut) tt;
-  members = λ member. inr shut;
-  stays = same;
 }
 
 -- That is told of what is passed on.

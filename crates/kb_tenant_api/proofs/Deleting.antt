@@ -1,8 +1,8 @@
 -- A group that is deleted, and what a request of DeleteGroups comes to.
 use Rattle.std.proofs.Common.{◌≡◌, ◌∙◌, ◌⊎◌, ◌++◌, ◌<◌, ◌^◌, ⊎_elim, inl, inr, ℕ, ℤ, Bool, true, false, List, [], ◌∷◌, length, refl, sym, ap, subst, bytes_eq, if◌then◌else◌}
-use Rattle.std.specs.Prelude.{pos, Some, None, Result, Ok, Err, is_some}
+use Rattle.std.specs.Prelude.{pos, Option, Some, None, Result, Ok, Err, is_some}
 use Rattle.std.proofs.lemmas.Bool.{false≢true}
-use Rattle.kb_wire.specs.Codec.{array, int, int32, sized, counted, string, utf8}
+use Rattle.kb_wire.specs.Codec.{array, int, int32, sized, counted, string, utf8, whole}
 use Rattle.kb_wire.specs.ErrorCode.{code_of}
 use Rattle.kb_wire.specs.declared.error_code.ErrorCode.TheVariants as codes
 use Rattle.kb_wire.specs.declared.fault.ReadFault.{ReadFault}
@@ -17,19 +17,22 @@ use Rattle.kb_coordinator.specs.Groups.{Groups, found, silent, without}
 use Rattle.kb_topics.specs.Known.{has_committed}
 use Rattle.kb_topics.specs.declared.fault.CatalogFault.{CatalogFault}
 use Rattle.kb_topics.specs.declared.fault.CatalogFault.TheVariants as catalog
+use Rattle.kb_store.proofs.Seen.{on_err}
 use Rattle.kb_tenant_state.specs.Calls.{delete_group, group_deleted_unless}
 use Rattle.kb_tenant_state.specs.Parts.{Seen}
 use Rattle.kb_tenant_state.specs.Scene.{Scene, WhereHonest}
 use Rattle.kb_tenant_state.specs.Steps.{IsStep}
 use Rattle.kb_tenant_state.specs.Told.{IsCatalogWant}
 use Rattle.kb_tenant_state.specs.World.{World}
+use Rattle.kb_tenant.specs.Entries.{delete_groups_entries, within}
 use Rattle.kb_tenant.specs.Told.{CatalogFailed, IsFaultOf, IsTold, IsWantCode}
 use Rattle.kb_tenant.specs.Turns.{in_turn, AreServed}
 use Rattle.kb_tenant.proofs.Acknowledging.{served_so}
 use Rattle.kb_tenant.proofs.Wanted.{catalog_later, catalog_since, catalog_wants, code_so}
-use Rattle.kb_tenant_api.specs.Deletions.{all_deleted, deleted_entry, deleted_group, without_each, without_empty, deletions, HaveGone, IsGroupDeletionTold}
+use Rattle.kb_tenant_api.specs.Acknowledged.{without_each, without_empty, AcknowledgesGroupDeletions, AreGroupsAfter, AreGroupsOf, HaveGone, IsGroupDeletionTold}
+use Rattle.kb_tenant_api.specs.Deletions.{all_deleted, deleted_entry, deleted_group, deletions}
 use Rattle.kb_tenant_api.specs.Replies.{IsAnswer, replies}
-use Rattle.kb_tenant_api.specs.Serve.{of_delete, AreGroupsAfter, AreGroupsOf, IsOutcome}
+use Rattle.kb_tenant_api.specs.Serve.{of_delete, IsOutcome}
 use Rattle.kb_tenant_api.specs.declared.answer.Answer.{Answer}
 use Rattle.kb_tenant_api.specs.declared.answer.Answer.TheVariants as answers
 use Rattle.kb_tenant.specs.declared.answer.Answer.TheVariants as plain
@@ -201,3 +204,12 @@ request_deletes id w after gs quiet new r answer is made h = (
   refl,
   subst (λ x. IsAnswer id (replies (delete_groups_reply.written (deletions (in_turn deleted_entry (w, x) r.group_ids).1))) answer) is h,
 )
+
+-- a DeleteGroups that changed nothing, and forgot the last replies
+pub deletions_untouched : (a : Scene Seen) (limit : Option ℕ) (id : ℤ) (body : List ℕ) (gs quiet : Groups) → quiet ≡ silent gs
+    → WhereHonest a a (AcknowledgesGroupDeletions (CatalogFailed a a) limit id gs a.state.world body a.state.world quiet (answers.Plain plain.Shut))
+deletions_untouched a limit id body gs quiet is honest agree =
+    let same : (let t : World × Groups = (a.state.world, quiet) in t) ≡ (a.state.world, silent gs) = ap (λ x. (a.state.world, x)) is in (
+      λ q read. (0, ([], same)),
+      on_err (within limit delete_groups_entries (whole delete_groups_request body)) (refl, same),
+    )

@@ -10,7 +10,8 @@ use Rattle.kb_coordinator.specs.Groups.{Groups, silent}
 use Rattle.kb_coordinator.specs.Replies.{join_refusal}
 use Rattle.kb_tenant_state.specs.World.{World}
 use Rattle.kb_tenant_api.specs.Replies.{IsAnswer, Rebalances, replies}
-use Rattle.kb_tenant_api.specs.Serve.{Outcome, if_read, of_join, AreGroupsBy, IsOutcome, IsServed}
+use Rattle.kb_tenant_api.specs.Acknowledged.{AreGroupsBy}
+use Rattle.kb_tenant_api.specs.Serve.{Outcome, if_read, of_join, IsOutcome, IsServed}
 use Rattle.kb_tenant_api.specs.declared.answer.Answer.{Answer}
 use Rattle.kb_wire.specs.declared.fault.ReadFault.{ReadFault}
 use Rattle.kb_wire.specs.declared.fault.ReadFault.TheVariants as faults

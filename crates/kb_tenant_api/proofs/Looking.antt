@@ -8,7 +8,8 @@ use Rattle.kb_coordinator.specs.Groups.{Groups, silent}
 use Rattle.kb_tenant_state.specs.World.{World}
 use Rattle.kb_tenant.specs.Replies.{AreUntil, begun}
 use Rattle.kb_tenant_api.specs.Replies.{IsAnswer, short_replies}
-use Rattle.kb_tenant_api.specs.Serve.{Outcome, if_read, of_groups, AreGroupsBy, IsOutcome}
+use Rattle.kb_tenant_api.specs.Acknowledged.{AreGroupsBy}
+use Rattle.kb_tenant_api.specs.Serve.{Outcome, if_read, of_groups, IsOutcome}
 use Rattle.kb_tenant_api.specs.declared.answer.Answer.{Answer}
 
 -- whether its body was read or not, nobody is answered by it

@@ -41,11 +41,12 @@ use Rattle.kb_tenant.specs.Serve as tenant
 use Rattle.kb_tenant.specs.Turns.{in_turn}
 use Rattle.kb_tenant.specs.declared.limits.DataLimits.{DataLimits}
 use Rattle.kb_tenant.specs.declared.node.Node.{Node}
-use Rattle.kb_tenant_api.specs.Deletions.{all_deleted, deleted_entry, without_each, without_empty, AreFewer}
+use Rattle.kb_tenant_api.specs.Acknowledged.{without_each, without_empty, AreFewer, AreGroupsAfter, AreGroupsBy}
+use Rattle.kb_tenant_api.specs.Deletions.{all_deleted, deleted_entry}
 use Rattle.kb_tenant_api.specs.Replies.{Rebalances, replies}
 use Rattle.kb_tenant_api.specs.declared.answer.Answer.{Answer}
 use Rattle.kb_tenant_api.specs.declared.answer.Answer.TheVariants as answers
-use Rattle.kb_tenant_api.specs.Serve.{AreGroupsAfter, AreGroupsBy, Outcome, if_read, of_delete, of_describe, of_heartbeat, of_join, of_leave, of_list, of_offset_commit, of_sync, of_topics, served, sync_reaction}
+use Rattle.kb_tenant_api.specs.Serve.{Outcome, if_read, of_delete, of_describe, of_heartbeat, of_join, of_leave, of_list, of_offset_commit, of_sync, of_topics, served, sync_reaction}
 use Rattle.kb_tenant_api.specs.Turns.{PassGroups}
 use Rattle.kb_tenant_api.specs.Waiters.{AreServed, AreTicked, IsWaitTold, IsWaitToldBy, given, members_on, once, rebalances, replies_on, waiting, waiting_in}
 use Rattle.kb_tenant_api.proofs.Waiters.{dropped_none, dropped_waits, join_waits, leave_waits, tick_waits, touched_waits, within_waits}
@@ -294,7 +295,7 @@ passed_told clock refused old new (inl (none, is)) = subst (AreTicked old) (sym 
     by : (b : Bool) → AreTicked old (if b then at_moment clock old else old)
     by true = λ k. let less = moment_told k clock old.groups in (omega (arith, less), omega (arith, less))
     by false = λ k. (omega arith, omega arith)
-passed_told clock refused old new (inr (ticks, members, limits)) = λ k.
+passed_told clock refused old new (inr (due, ticks, members, limits)) = λ k.
     let less = ticks_told clock old.groups new.groups new.released refused ticks k in (omega (arith, less), omega (arith, less))
 
 -- on the request's connection no member more waits, as long as it comes to no wait

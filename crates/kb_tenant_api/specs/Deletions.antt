@@ -1,5 +1,5 @@
 -- What DeleteGroups makes of a tenant's topics and groups, and its reply (Kafka protocol guide, "The Messages: DeleteGroups").
-use Rattle.std.specs.Prelude.{◌≡◌, ◌⊎◌, ℕ, ℤ, pos, List, [], ◌∷◌, if◌then◌else◌}
+use Rattle.std.specs.Prelude.{ℕ, ℤ, pos, List, if◌then◌else◌}
 use Rattle.kb_wire.specs.ErrorCode.{code_of}
 use Rattle.kb_wire.specs.declared.error_code.ErrorCode.TheVariants as codes
 use Rattle.kb_api_group.specs.declared.delete_groups.DeletedGroup.{DeletedGroup}
@@ -9,7 +9,6 @@ use Rattle.kb_coordinator.specs.Calls.{deleted, has_members, is_there}
 use Rattle.kb_coordinator.specs.Groups.{Groups, silent}
 use Rattle.kb_topics.specs.Known.{has_committed, without_group}
 use Rattle.kb_tenant_state.specs.World.{World}
-use Rattle.kb_tenant.specs.Told.{IsWantCode}
 
 -- The topics and the groups, where all that a group committed is gone, to whatever partition, and so is the group, if it is there.
 abbrev pub all_deleted : World × Groups → List ℕ → World × Groups
@@ -31,27 +30,3 @@ deleted_entry s id = let r = deleted_group s id in (r.0, record { group_id = id;
 -- the reply of these entries; the client is never held back
 abbrev pub deletions : List DeletedGroup → DeleteGroupsReply
 deletions results = record { throttle_time_ms = pos 0; results = results }
-
--- ---- whatever memory and the store refuse
-
--- A group is deleted, or is refused as is defined; or it is refused for a want, and nothing changes.
-abbrev pub IsGroupDeletionTold : Type 0 → World × Groups → List ℕ → World × Groups → DeletedGroup → Type 0
-IsGroupDeletionTold failed s id t x =
-    ((t, x) ≡ deleted_entry s id) ⊎ ((t ≡ s) × ((x.group_id ≡ id) × IsWantCode failed x.error_code))
-
--- without that group, unless it has members
-abbrev pub without_empty : List ℕ → Groups → Groups
-without_empty id gs = if has_members id gs then gs else deleted id gs
-
--- without those of these groups that have no members
-abbrev pub without_each : List (List ℕ) → Groups → Groups
-without_each [] gs = gs
-without_each (id ∷ ids) gs = without_each ids (without_empty id gs)
-
--- Some groups without members are gone, or none.
-abbrev pub HaveGone : Groups → Groups → Type 0
-HaveGone old new = (ids : List (List ℕ)) × (new ≡ without_each ids old)
-
--- The groups are those of before without the last replies, and without some that had no members.
-abbrev pub AreFewer : Groups → Groups → Type 0
-AreFewer old new = HaveGone (silent old) new

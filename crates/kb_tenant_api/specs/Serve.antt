@@ -1,5 +1,5 @@
 -- What a request of a tenant makes of what it keeps, and comes to for the connection that sent it.
-use Rattle.std.specs.Prelude.{◌≡◌, ◌⊎◌, ℕ, ℤ, List, [], Bool, Option, Some, None, Result, Ok, Err, length, nat_le, if◌then◌else◌}
+use Rattle.std.specs.Prelude.{◌≡◌, ℕ, ℤ, List, [], Bool, Option, Some, None, Result, Ok, Err, length, nat_le, if◌then◌else◌}
 use Rattle.std.specs.Ordering.{int_eq}
 use Rattle.kb_wire.specs.Codec.{whole}
 use Rattle.kb_wire.specs.declared.fault.WireFault.{WireFault}
@@ -37,7 +37,7 @@ use Rattle.kb_tenant.specs.Serve as tenant
 use Rattle.kb_tenant.specs.declared.limits.DataLimits.{DataLimits}
 use Rattle.kb_tenant.specs.declared.node.Node.{Node}
 use Rattle.kb_tenant.specs.Turns.{in_turn}
-use Rattle.kb_tenant_api.specs.Deletions.{deleted_entry, deletions, AreFewer}
+use Rattle.kb_tenant_api.specs.Deletions.{deleted_entry, deletions}
 use Rattle.kb_tenant_api.specs.Replies.{Reaction, Plain, Rebalances, IsAnswer, replies, short_replies}
 use Rattle.kb_tenant_api.specs.declared.answer.Answer.{Answer}
 use Rattle.kb_tenant_api.specs.declared.answer.Answer.TheVariants as answers
@@ -156,21 +156,3 @@ abbrev pub IsServed : ℤ → Outcome → World → Groups → List TopicPartiti
 IsServed id o w gs touched (Ok answer) = IsOutcome id o w gs touched answer
 IsServed id o w gs touched (Err (faults.Wire fault)) = IsOutcome id o w gs touched (answers.Plain plain.Shut)
 IsServed id o w gs touched (Err faults.Memory) = Unit {0}
-
--- ---- where memory was refused
-
--- The groups are those that the request makes, or those of before without the last replies; and then the connection is shut. Where groups
--- are deleted some of these may be gone.
-abbrev pub AreGroupsAfter : (key : ℤ) → (old made : Groups) → Answer → Groups → Type 0
-AreGroupsAfter key old made answer new =
-    (new ≡ made) ⊎ (((new ≡ silent old) × (answer ≡ answers.Plain plain.Shut)) ⊎ ((key ≡ DELETE_GROUPS) × AreFewer old new))
-
--- the same, where want of memory is a fault
-abbrev pub AreGroupsBy : (old made : Groups) → Result Answer ReadFault → Groups → Type 0
-AreGroupsBy old made (Ok answer) new = new ≡ made
-AreGroupsBy old made (Err (faults.Wire fault)) new = new ≡ made
-AreGroupsBy old made (Err faults.Memory) new = (new ≡ made) ⊎ (new ≡ silent old)
-
--- the same of any request by its key
-abbrev pub AreGroupsOf : (key : ℤ) → (old made : Groups) → Result Answer ReadFault → Groups → Type 0
-AreGroupsOf key old made result new = AreGroupsBy old made result new ⊎ ((key ≡ DELETE_GROUPS) × AreFewer old new)

@@ -32,11 +32,12 @@ IsMet t honest old new P = honest → IsCalm (refusals_of old t) (refusals_of ne
 
 -- ---- a moment of all of them
 
--- Some groups after a moment in which that many were refused memory: all had it, if anything was due. Or each had it, and those who waited
--- are told what these give; or it is as it was.
+-- Some groups after a moment in which that many were refused memory: all had it, if anything was due. Or something was due, and each had
+-- it, and those who waited are told what these give; or it is as it was. So none is refused where nothing is due.
 abbrev pub PassGroups : (clock refused : ℕ) (old new : Groups) → Type 0
 PassGroups clock refused old new = ((refused ≡ 0) × (new ≡ groups.passed clock old))
-    ⊎ (groups.Ticks clock old.groups new.groups new.released refused × (new.members ≡ old.members) × (new.limits ≡ old.limits))
+    ⊎ ((groups.is_due clock old ≡ true) × groups.Ticks clock old.groups new.groups new.released refused
+    × (new.members ≡ old.members) × (new.limits ≡ old.limits))
 
 -- Some topics after it, where there were so many refusals: each partition in turn, by topic name and number, had its part of retention, or
 -- was refused it and is as it was. Or the list of them was refused memory, and all are as they were.

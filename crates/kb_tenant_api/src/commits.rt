@@ -1,5 +1,5 @@
 //! OffsetCommit of a tenant whose groups have members.
-ghost use Rattle.std.specs.Prelude.{◌≡◌, [], IfOk};
+ghost use Rattle.std.specs.Prelude.{◌≡◌, [], IfOk, OnErr};
 ghost use Rattle.kb_coordinator.specs.Calls.{after_may_commit};
 ghost use Rattle.kb_tenant_state.specs.Scene.{WhereHonest};
 ghost use Rattle.kb_tenant.specs.Entries.{commit_entries, within};
@@ -7,8 +7,10 @@ ghost use Rattle.kb_tenant.specs.OffsetCommit.{asked_commit};
 ghost use Rattle.kb_tenant.specs.Told.{CatalogFailed};
 ghost use Rattle.kb_tenant_state.specs.Parts.{scene};
 ghost use Rattle.kb_tenant_state.specs.Steps.{IsStep, Meets};
-ghost use Rattle.kb_tenant_api.specs.Acknowledged.{AcknowledgesCommits};
-ghost use Rattle.kb_tenant_api.specs.Serve.{commit_refusal, if_read, of_offset_commit, AreGroupsBy, IsServed};
+ghost use Rattle.kb_tenant.specs.declared.answer.Answer.TheVariants as plain;
+ghost use Rattle.kb_tenant_api.specs.Acknowledged.{AcknowledgesCommits, AreGroupsBy};
+ghost use Rattle.kb_tenant_api.specs.Serve.{commit_refusal, if_read, of_offset_commit, IsServed};
+ghost use Rattle.kb_tenant_api.specs.declared.answer.Answer.TheVariants as answers;
 
 use crate::answer::Answer;
 use kb_api_group::OffsetCommitRequest;
@@ -58,6 +60,11 @@ pub(crate) fn commit_offsets<L: PartitionLog + Drop, S: Store>(
         IfOk result (λ answer. WhereHonest a b (AcknowledgesCommits
         (CatalogFailed a b) limits request.now.correlation_id request.now.api_version groups.old a.state.world request.now.body.now
         b.state.world answer)) }
+    // On an `Err` the first offsets are so told, and nothing else is committed.
+    ensures cut { let a = scene L.log S.disk parts.old shelf.old in let b = scene L.log S.disk parts.new shelf.new in
+        OnErr result (WhereHonest a b (AcknowledgesCommits
+        (CatalogFailed a b) limits request.now.correlation_id request.now.api_version groups.old a.state.world request.now.body.now
+        b.state.world (answers.Plain plain.Shut))) }
     ensures groups { let a = scene L.log S.disk parts.old shelf.old in
         AreGroupsBy groups.old (if_read a.state.world groups.old
         (within limits.request_entries commit_entries (asked_commit request.now.api_version request.now.body.now))

@@ -1,5 +1,5 @@
 //! DeleteGroups: groups without members go, with all that they committed.
-ghost use Rattle.std.specs.Prelude.{◌≡◌, ◌≢◌, ◌++◌, ◌⊎◌, ◌<◌, ◌^◌, [], List, IfOk, OnOk, length, true, false, if◌then◌else◌};
+ghost use Rattle.std.specs.Prelude.{◌≡◌, ◌≢◌, ◌++◌, ◌⊎◌, ◌<◌, ◌^◌, [], List, IfOk, OnErr, OnOk, length, true, false, if◌then◌else◌};
 ghost use Rattle.kb_api_group.specs.Layouts.{delete_groups_reply, delete_groups_request};
 ghost use Rattle.kb_api_group.specs.declared.delete_groups.DeletedGroup.{DeletedGroup as Entry};
 ghost use Rattle.kb_wire.specs.Codec.{whole};
@@ -10,10 +10,12 @@ ghost use Rattle.kb_tenant_state.specs.Told.{IsCatalogWant};
 ghost use Rattle.kb_tenant.specs.Entries.{delete_groups_entries, within};
 ghost use Rattle.kb_tenant.specs.Told.{CatalogFailed, IsFaultOf, IsTold};
 ghost use Rattle.kb_tenant.specs.Turns.{in_turn, AreServed};
-ghost use Rattle.kb_tenant_api.specs.Acknowledged.{AcknowledgesGroupDeletions};
-ghost use Rattle.kb_tenant_api.specs.Deletions.{deleted_entry, deleted_group, deletions, without_empty, AreFewer, HaveGone};
-ghost use Rattle.kb_tenant_api.specs.Deletions.{IsGroupDeletionTold};
+ghost use Rattle.kb_tenant.specs.declared.answer.Answer.TheVariants as plain;
+ghost use Rattle.kb_tenant_api.specs.Acknowledged.{without_empty, AcknowledgesGroupDeletions, AreFewer, AreGroupDeletionsCut, HaveGone};
+ghost use Rattle.kb_tenant_api.specs.Acknowledged.{IsGroupDeletionTold};
+ghost use Rattle.kb_tenant_api.specs.Deletions.{deleted_entry, deleted_group, deletions};
 ghost use Rattle.kb_tenant_api.specs.Serve.{if_read, of_delete, IsServed};
+ghost use Rattle.kb_tenant_api.specs.declared.answer.Answer.TheVariants as answers;
 
 use crate::answer::Answer;
 use kb_api_group::{DeleteGroupsRequest, DeletedGroup};
@@ -107,6 +109,10 @@ fn delete_each<L: PartitionLog + Drop, S: Store>(
         × ((sink.new.bytes ≡ sink.old.bytes ++ delete_groups_reply.written (deletions results))
         × AreServed (IsGroupDeletionTold (CatalogFailed a b)) (a.state.world, groups.old) request.now.group_ids
         (b.state.world, groups.new) results))) }
+    // On an `Err` the first groups are so told, and nothing else is deleted.
+    ensures cut { let a = scene L.log S.disk parts.old shelf.old in let b = scene L.log S.disk parts.new shelf.new in
+        OnErr result (WhereHonest a b (AreGroupDeletionsCut (CatalogFailed a b) (a.state.world, groups.old) request.now
+        (b.state.world, groups.new))) }
     ensures fewer { HaveGone groups.old groups.new }
 {
     let ids = request.group_ids.as_slice();
@@ -139,8 +145,11 @@ pub(crate) fn delete_groups<L: PartitionLog + Drop, S: Store>(
         (if_read a.state.world groups.old (within limit delete_groups_entries (whole delete_groups_request request.now.body.now))
         (of_delete a.state.world groups.old)) b.state.world groups.new [] result) }
     ensures acknowledged { let a = scene L.log S.disk parts.old shelf.old in let b = scene L.log S.disk parts.new shelf.new in
-        IfOk result (λ answer. WhereHonest a b (AcknowledgesGroupDeletions
-        (CatalogFailed a b) request.now.correlation_id groups.old a.state.world request.now.body.now b.state.world groups.new answer)) }
+        IfOk result (λ answer. WhereHonest a b (AcknowledgesGroupDeletions (CatalogFailed a b) limit
+        request.now.correlation_id groups.old a.state.world request.now.body.now b.state.world groups.new answer)) }
+    ensures cut { let a = scene L.log S.disk parts.old shelf.old in let b = scene L.log S.disk parts.new shelf.new in
+        OnErr result (WhereHonest a b (AcknowledgesGroupDeletions (CatalogFailed a b) limit request.now.correlation_id groups.old
+        a.state.world request.now.body.now b.state.world groups.new (answers.Plain plain.Shut))) }
     // Also on an `Err`, and whatever was refused.
     ensures fewer { AreFewer groups.old groups.new }
 {

@@ -7,9 +7,9 @@ ghost use Rattle.kb_tenant_state.specs.Parts.{scene};
 ghost use Rattle.kb_tenant_state.specs.Steps.{IsStep, Meets};
 ghost use Rattle.kb_tenant_state.specs.Told.{IsLogFull};
 ghost use Rattle.kb_tenant.specs.Told.{HasFailed, IsSpared};
-ghost use Rattle.kb_tenant_api.specs.Acknowledged.{IsOfCommits, IsOfMembers, IsPlainly, IsTruthful};
+ghost use Rattle.kb_tenant_api.specs.Acknowledged.{answered, AreGroupsAfter, AreGroupsOf, IsOfCommits, IsOfMembers, IsPlainly, IsTruthful};
 ghost use Rattle.kb_tenant_api.specs.Waiters.{IsWaitTold, IsWaitToldBy};
-ghost use Rattle.kb_tenant_api.specs.Serve.{has_released, served, AreGroupsAfter, AreGroupsOf, IsOutcome, IsServed};
+ghost use Rattle.kb_tenant_api.specs.Serve.{has_released, served, IsOutcome, IsServed};
 
 use crate::answer::{Answer, Served};
 use crate::commits::commit_offsets;
@@ -47,15 +47,13 @@ fn serve_by_key<L: PartitionLog + Drop, S: Store>(
         (served node.now a.state.world clock groups.old request.now.connection request.now.api_key request.now.api_version
         request.now.body.now) b.state.world groups.new touched.new.items result) }
     ensures told { let a = scene L.log S.disk parts.old shelf.old in let b = scene L.log S.disk parts.new shelf.new in
-        IfOk result (λ answer. WhereHonest a b (IsTruthful (HasFailed a b) (IsLogFull b) node.now clock request.now.connection
-        request.now.api_key request.now.api_version request.now.correlation_id request.now.body.now a.state.world groups.old b.state.world
-        groups.new touched.new.items answer)) }
+        WhereHonest a b (IsTruthful (HasFailed a b) (IsLogFull b) node.now clock request.now.connection request.now.api_key
+        request.now.api_version request.now.correlation_id request.now.body.now a.state.world groups.old b.state.world groups.new
+        touched.new.items (answered result)) }
     ensures spared { let a = scene L.log S.disk parts.old shelf.old in let b = scene L.log S.disk parts.new shelf.new in
         request.now.api_key ≡ PRODUCE
         → IfOk result (λ answer. IsPlainly (IsSpared request.now.api_version a.state.world request.now.body.now b.state.world) answer) }
     ensures answered { (IsOfMembers request.now.api_key → ⊥) → (IsOfCommits request.now.api_key → ⊥) → IsOk result }
-    ensures stays { let a = scene L.log S.disk parts.old shelf.old in let b = scene L.log S.disk parts.new shelf.new in
-        IsOfMembers request.now.api_key → b.state.world ≡ a.state.world }
     ensures groups { let a = scene L.log S.disk parts.old shelf.old in
         AreGroupsOf request.now.api_key groups.old (served node.now a.state.world clock groups.old request.now.connection
         request.now.api_key request.now.api_version request.now.body.now).groups result groups.new }
@@ -122,7 +120,7 @@ pub fn serve<L: PartitionLog + Drop, S: Store>(
         (served node.now a.state.world clock groups.old request.now.connection request.now.api_key request.now.api_version
         request.now.body.now) b.state.world groups.new result.touched.items result.answer) }
     // What is answered with no error is done, and of what is fetched or listed each partition has what is defined, or the code of what
-    // refused it, whatever was refused.
+    // refused it, whatever was refused. A request for changes that is shut did its first entries, and nothing else.
     ensures told { let a = scene L.log S.disk parts.old shelf.old in let b = scene L.log S.disk parts.new shelf.new in
         WhereHonest a b (IsTruthful (HasFailed a b) (IsLogFull b) node.now clock request.now.connection request.now.api_key
         request.now.api_version request.now.correlation_id request.now.body.now a.state.world groups.old b.state.world

@@ -9,7 +9,8 @@ ghost use Rattle.kb_wire.specs.Codec.{whole};
 ghost use Rattle.kb_tenant_state.specs.World.{World};
 ghost use Rattle.kb_tenant_api.specs.Replies.{IsAnswer};
 ghost use Rattle.kb_tenant_api.specs.Waiters.{IsWaitToldBy};
-ghost use Rattle.kb_tenant_api.specs.Serve.{if_read, of_heartbeat, of_join, of_leave, of_sync, sync_reaction, AreGroupsBy, IsServed};
+ghost use Rattle.kb_tenant_api.specs.Acknowledged.{AreGroupsBy};
+ghost use Rattle.kb_tenant_api.specs.Serve.{if_read, of_heartbeat, of_join, of_leave, of_sync, sync_reaction, IsServed};
 
 use crate::answer::Answer;
 use kb_api_group::{

@@ -4,7 +4,7 @@ use Rattle.kb_tenant_state.specs.Steps.{IsStep}
 use Rattle.kb_tenant_state.specs.Parts.{scene, scene_on}
 use Rattle.kb_tenant_state.proofs.Lifted.{refused_step}
 use Rattle.kb_tenant.specs.declared.answer.Answer.TheVariants as answers
-use Rattle.kb_tenant.proofs.Answered.{shut_told, IsToldOf}
+use Rattle.kb_tenant.proofs.Answered.{IsToldOf}
 use Rattle.kb_tenant.proofs.dispatch.serve.Goals as goal
 
 pub returns-in-Err-Memory-clause-step : goal.returns-in-Err-Memory-clause-step
@@ -24,9 +24,6 @@ returns-in-Err-Memory-clause-told g c =
     let b = scene log disk c.serve_by_key.new.parts shelf in
     let request = c.args.request.now in
     let touched = c.serve_by_key.new.touched.items in
-    let e = c.in-Err-Memory.ensures in
-    let told : WhereHonest a b (IsToldOf a b c.args.node.now c.args.clock request touched answers.Shut) = λ honest agree.
-    shut_told a b c.args.node.now c.args.clock request touched e.spared (e.stays honest agree) (λ is. e.removals is honest agree)
-    (λ is. e.trims is honest agree) in
+    let told : WhereHonest a b (IsToldOf a b c.args.node.now c.args.clock request touched answers.Shut) = c.in-Err-Memory.ensures.told in
     subst (λ p. let d = scene log disk p shelf in WhereHonest a d (IsToldOf a d c.args.node.now c.args.clock request touched answers.Shut))
     (sym c.refuse.ensures) told

@@ -6,7 +6,7 @@ use Rattle.kb_api_data.specs.declared.config_key.TheConstants.{DESCRIBE_CONFIGS}
 use Rattle.kb_tenant_state.specs.Parts.{scene, world_of}
 use Rattle.kb_tenant.specs.Serve.{plainly_served, IsServed}
 use Rattle.kb_tenant.proofs.Answered.{create_topics_told, delete_records_told, delete_topics_told, fetch_told, init_producer_id_told}
-use Rattle.kb_tenant.proofs.Answered.{list_offsets_told, looked_up_told, none_told, offset_commit_told, produce_told, reads_not}
+use Rattle.kb_tenant.proofs.Answered.{list_offsets_told, looked_up_told, none_told, offset_commit_told, produce_told}
 use Rattle.kb_tenant.proofs.Keys.{served_configs, served_find_coordinator, served_metadata, served_offset_fetch}
 use Rattle.kb_tenant.proofs.dispatch.serve_by_key.Goals as goal
 
@@ -66,7 +66,7 @@ returns-in-0-clause-told g c =
     let b = scene log disk c.serve_produce.new.parts c.serve_produce.new.shelf in
     let key : c.args.request.now.api_key ≡ PRODUCE = search rules in
     produce_told a b c.args.node.now c.args.clock c.args.request.now c.serve_produce.new.touched.items c.serve_produce.result key
-    c.serve_produce.ensures.acknowledged c.serve_produce.ensures.shut
+    c.serve_produce.ensures.acknowledged c.serve_produce.ensures.shut c.serve_produce.ensures.spared
 
 pub returns-in-1-clause-told : goal.returns-in-1-clause-told
 returns-in-1-clause-told g c =
@@ -96,7 +96,7 @@ returns-in-8-clause-told g c =
     let b = scene log disk c.serve_offset_commit.new.parts c.serve_offset_commit.new.shelf in
     let key : c.args.request.now.api_key ≡ OFFSET_COMMIT = search rules in
     offset_commit_told a b c.args.node.now c.args.clock c.args.request.now c.args.touched.now.items c.serve_offset_commit.result key
-    c.serve_offset_commit.ensures.acknowledged
+    c.serve_offset_commit.ensures.acknowledged c.serve_offset_commit.ensures.cut
 
 pub returns-in-19-clause-told : goal.returns-in-19-clause-told
 returns-in-19-clause-told g c =
@@ -106,7 +106,7 @@ returns-in-19-clause-told g c =
     let b = scene log disk c.serve_create_topics.new.parts c.serve_create_topics.new.shelf in
     let key : c.args.request.now.api_key ≡ CREATE_TOPICS = search rules in
     create_topics_told a b c.args.node.now c.args.clock c.args.request.now c.args.touched.now.items c.serve_create_topics.result key
-    c.serve_create_topics.ensures.acknowledged
+    c.serve_create_topics.ensures.acknowledged c.serve_create_topics.ensures.cut
 
 pub returns-in-20-clause-told : goal.returns-in-20-clause-told
 returns-in-20-clause-told g c =
@@ -117,7 +117,7 @@ returns-in-20-clause-told g c =
     let key : c.args.request.now.api_key ≡ DELETE_TOPICS = search rules in
     delete_topics_told a b c.args.node.now c.args.clock c.args.request.now c.serve_delete_topics.new.touched.items
     c.serve_delete_topics.result key
-    c.serve_delete_topics.ensures.acknowledged
+    c.serve_delete_topics.ensures.acknowledged c.serve_delete_topics.ensures.cut
 
 pub returns-in-21-clause-told : goal.returns-in-21-clause-told
 returns-in-21-clause-told g c =
@@ -128,7 +128,7 @@ returns-in-21-clause-told g c =
     let key : c.args.request.now.api_key ≡ DELETE_RECORDS = search rules in
     delete_records_told a b c.args.node.now c.args.clock c.args.request.now c.serve_delete_records.new.touched.items
     c.serve_delete_records.result key
-    c.serve_delete_records.ensures.acknowledged
+    c.serve_delete_records.ensures.acknowledged c.serve_delete_records.ensures.cut
 
 pub returns-in-22-clause-told : goal.returns-in-22-clause-told
 returns-in-22-clause-told g c =
@@ -138,7 +138,7 @@ returns-in-22-clause-told g c =
     let b = scene log disk c.serve_init_producer_id.new.parts c.serve_init_producer_id.new.shelf in
     let key : c.args.request.now.api_key ≡ INIT_PRODUCER_ID = search rules in
     init_producer_id_told a b c.args.node.now c.args.clock c.args.request.now c.args.touched.now.items c.serve_init_producer_id.result key
-    c.serve_init_producer_id.ensures.acknowledged
+    c.serve_init_producer_id.ensures.acknowledged c.serve_init_producer_id.ensures.cut
 
 pub returns-in-3-clause-told : goal.returns-in-3-clause-told
 returns-in-3-clause-told g c =
@@ -206,33 +206,3 @@ returns-in_default-clause-told g c = λ honest agree.
     let not_commit : int_eq request.api_key OFFSET_COMMIT ≡ false = search rules in
     none_told a a c.args.node.now c.args.clock request c.args.touched.now.items not_produce not_fetch not_list not_create not_remove
     not_trim not_issue not_commit refl
-
-pub returns-in-0-clause-stays : goal.returns-in-0-clause-stays
-returns-in-0-clause-stays g c = λ honest agree.
-    let key : c.args.request.now.api_key ≡ PRODUCE = search rules in
-    reads_not c.args.request.now.api_key PRODUCE key refl refl refl refl refl refl
-
-pub returns-in-8-clause-stays : goal.returns-in-8-clause-stays
-returns-in-8-clause-stays g c = λ honest agree.
-    let key : c.args.request.now.api_key ≡ OFFSET_COMMIT = search rules in
-    reads_not c.args.request.now.api_key OFFSET_COMMIT key refl refl refl refl refl refl
-
-pub returns-in-19-clause-stays : goal.returns-in-19-clause-stays
-returns-in-19-clause-stays g c = λ honest agree.
-    let key : c.args.request.now.api_key ≡ CREATE_TOPICS = search rules in
-    reads_not c.args.request.now.api_key CREATE_TOPICS key refl refl refl refl refl refl
-
-pub returns-in-20-clause-stays : goal.returns-in-20-clause-stays
-returns-in-20-clause-stays g c = λ honest agree.
-    let key : c.args.request.now.api_key ≡ DELETE_TOPICS = search rules in
-    reads_not c.args.request.now.api_key DELETE_TOPICS key refl refl refl refl refl refl
-
-pub returns-in-21-clause-stays : goal.returns-in-21-clause-stays
-returns-in-21-clause-stays g c = λ honest agree.
-    let key : c.args.request.now.api_key ≡ DELETE_RECORDS = search rules in
-    reads_not c.args.request.now.api_key DELETE_RECORDS key refl refl refl refl refl refl
-
-pub returns-in-22-clause-stays : goal.returns-in-22-clause-stays
-returns-in-22-clause-stays g c = λ honest agree.
-    let key : c.args.request.now.api_key ≡ INIT_PRODUCER_ID = search rules in
-    reads_not c.args.request.now.api_key INIT_PRODUCER_ID key refl refl refl refl refl refl

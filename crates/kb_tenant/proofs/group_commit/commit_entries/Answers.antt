@@ -1,12 +1,14 @@
-use Rattle.std.proofs.Common.{[], ◌∷◌, ◌++◌, append-nil, of_z, refl, rules, sym, take, to_z, w16, w32}
+use Rattle.std.proofs.Common.{[], ◌∷◌, ◌++◌, ◌+◌, append-nil, of_z, refl, rules, sym, take, to_z, w16, w32}
 use Rattle.std.proofs.lemmas.Int.{to_z-of_z}
 use Rattle.kb_api_group.specs.Layouts.{commit_partition_reply}
 use Rattle.kb_api_group.specs.declared.offset_commit.CommitPartitionReply.{CommitPartitionReply}
-use Rattle.kb_tenant_state.specs.Scene.{Scene}
+use Rattle.kb_store.proofs.Seen.{on_err}
+use Rattle.kb_tenant_state.specs.Scene.{Scene, WhereHonest}
 use Rattle.kb_tenant_state.specs.Parts.{Seen, scene}
 use Rattle.kb_tenant_state.specs.Steps.{step_same, step_then, meets_then, meets_so}
 use Rattle.kb_tenant.specs.OffsetCommit.{committed_entry}
 use Rattle.kb_tenant.specs.Told.{CatalogFailed, IsCommitTold}
+use Rattle.kb_tenant.specs.Turns.{AreFirstServed}
 use Rattle.kb_tenant.proofs.Acknowledging.{honest_then, served_all, served_next, written_more}
 use Rattle.kb_tenant.proofs.Committing.{entry_is, reply_fits}
 use Rattle.kb_tenant.proofs.Replies.{entry_next}
@@ -74,3 +76,33 @@ returns-clause-told g c = λ honest agree.
     let b : Scene Seen = scene log disk c.loop-entry.parts c.loop-entry.shelf in
     let so = c.loop-entry.invariant.answers honest agree in
     (so.0, (so.1.0, served_all (IsCommitTold (CatalogFailed a b) c.args.limits c.args.refusal c.args.group.now c.args.topic) a.state.world b.state.world c.args.entries.now c.loop-entry.entry-index so.0 c.loop-entry-test.false so.1.1))
+
+pub returns-in_err-write-clause-cut : goal.returns-in_err-write-clause-cut
+returns-in_err-write-clause-cut g c =
+    let log = g.L.PartitionLog.log in
+    let disk = g.S.Store.disk in
+    let a : Scene Seen = scene log disk c.args.parts.now c.args.shelf.now in
+    let b : Scene Seen = scene log disk c.loop-entry.parts c.loop-entry.shelf in
+    let d : Scene Seen = scene log disk c.commit_entry.new.parts c.commit_entry.new.shelf in
+    let group = c.args.group.now in
+    let entries = c.args.entries.now in
+    let e = c.entry-item.result in
+    let i = c.loop-entry.entry-index in
+    let first = c.loop-entry.invariant.step in
+    let second = c.commit_entry.ensures.step in
+    let reply : CommitPartitionReply = record { partition = to_z w32 (of_z w32 e.partition); error_code = to_z w16 (of_z w16 c.commit_entry.result) } in
+    let is : WhereHonest a d (AreFirstServed (IsCommitTold (CatalogFailed a d) c.args.limits c.args.refusal group c.args.topic) a.state.world
+    entries d.state.world) = λ honest agree.
+    let both = honest_then a b d _ _ first second c.loop-entry.invariant.answers
+    (commit_told_so b d c.args.limits c.args.refusal group c.args.topic e reply.partition c.commit_entry.result reply.error_code second
+    (to_z-of_z w32 e.partition (search rules)) (to_z-of_z w16 c.commit_entry.result (record { sfits = c.commit_entry.type_inv })) c.commit_entry.ensures.told) honest agree in
+    let before = both.0 in (
+      i + 1,
+      (
+        before.0 ++ reply ∷ [],
+        served_next (IsCommitTold (CatalogFailed a d) c.args.limits c.args.refusal group c.args.topic) a.state.world b.state.world d.state.world entries i e before.0 reply c.loop-entry-test.true c.entry-item.is
+            (commits_before a b d c.args.limits c.args.refusal group second c.args.topic (take i entries) a.state.world b.state.world before.0 before.1.1)
+            (commit_behind a b d c.args.limits c.args.refusal group first c.args.topic b.state.world e d.state.world reply both.1),
+      ),
+    ) in
+    on_err _ is

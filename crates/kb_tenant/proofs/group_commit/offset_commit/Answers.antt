@@ -1,12 +1,15 @@
 use Rattle.std.proofs.Common.{[], ◌∷◌, ◌++◌, ◌∙◌, ◌<◌, ◌≤◌, ap, append-nil, sym, refl, subst, take, length, get_or}
 use Rattle.kb_api_group.specs.Layouts.{commit_topic, commit_topic_reply}
-use Rattle.kb_tenant_state.specs.Scene.{Scene}
+use Rattle.kb_store.proofs.Seen.{on_err}
+use Rattle.kb_tenant_state.specs.Scene.{Scene, WhereHonest}
 use Rattle.kb_tenant_state.specs.Parts.{Seen, scene}
 use Rattle.kb_tenant_state.specs.Steps.{step_same, step_then, meets_then, meets_so}
 use Rattle.kb_tenant.specs.OffsetCommit.{committed_topic}
-use Rattle.kb_tenant.specs.Told.{CatalogFailed, IsCommitTopicTold}
+use Rattle.kb_tenant.specs.Told.{AreCommitsCut, CatalogFailed, IsCommitTopicCut, IsCommitTopicTold}
+use Rattle.kb_tenant.specs.Turns.{AreServedInto}
 use Rattle.kb_tenant.proofs.Acknowledging.{honest_then, served_all, served_next, written_more}
 use Rattle.kb_tenant.proofs.Committing.{all_told, group_fits, topics_fit}
+use Rattle.kb_tenant.proofs.Cutting.{commit_cut_behind, commits_none, into_next}
 use Rattle.kb_tenant.proofs.Deleting.{name_short}
 use Rattle.kb_tenant.proofs.Fitting.{count_fits, item_fits}
 use Rattle.kb_tenant.proofs.Produced.{told_next}
@@ -107,3 +110,37 @@ returns-clause-told g c = λ honest agree.
     let all = served_all (IsCommitTopicTold (CatalogFailed a b) c.args.limits c.args.refusal group) a.state.world b.state.world q.topics i so.0 (subst (λ ts. length ts ≤ i) c.as_slice-topic-items.ensures c.loop-topic-test.false) so.1.1 in
     commits_told_so (CatalogFailed a b) q c.args.limits c.args.refusal group a.state.world b.state.world c.len.result c.args.sink.now.bytes c.put_count.new.self.bytes c.loop-topic.sink.bytes
     c.as_str-group.ensures c.len.ensures c.in_ok-put_count.ensures.ok (so.0, (so.1.0, all))
+
+pub returns-in_err-put_count-clause-cut : goal.returns-in_err-put_count-clause-cut
+returns-in_err-put_count-clause-cut g c =
+    let a : Scene Seen = scene g.L.PartitionLog.log g.S.Store.disk c.args.parts.now c.args.shelf.now in
+    let is : WhereHonest a a (AreCommitsCut (CatalogFailed a a) c.args.limits c.args.refusal a.state.world c.args.request.now a.state.world) = λ honest agree.
+    commits_none (CatalogFailed a a) c.args.limits c.args.refusal a.state.world c.args.request.now in
+    on_err _ is
+
+pub returns-in_err-commit_topic-clause-cut : goal.returns-in_err-commit_topic-clause-cut
+returns-in_err-commit_topic-clause-cut g c =
+    let log = g.L.PartitionLog.log in
+    let disk = g.S.Store.disk in
+    let a : Scene Seen = scene log disk c.args.parts.now c.args.shelf.now in
+    let b : Scene Seen = scene log disk c.loop-topic.parts c.loop-topic.shelf in
+    let d : Scene Seen = scene log disk c.commit_topic.new.parts c.commit_topic.new.shelf in
+    let first = c.loop-topic.invariant.step in
+    let second = c.commit_topic.ensures.step in
+    let group = c.as_str-group.result.now in
+    let limits = c.args.limits in
+    let refusal = c.args.refusal in
+    let failed = CatalogFailed a d in
+    let topics = c.args.request.now.topics in
+    let i = c.loop-topic.topic-index in
+    let t = c.topic-item.result in
+    let is : WhereHonest a d (AreCommitsCut failed limits refusal a.state.world c.args.request.now d.state.world) = λ honest agree.
+    let both = honest_then a b d _ _ first second c.loop-topic.invariant.answers c.in_err-commit_topic.ensures.cut honest agree in
+    let before = both.0 in
+    subst (λ x. AreServedInto (IsCommitTopicTold failed limits refusal x) (IsCommitTopicCut failed limits refusal x) a.state.world topics d.state.world) c.as_str-group.ensures
+    (into_next (IsCommitTopicTold failed limits refusal group) (IsCommitTopicCut failed limits refusal group) a.state.world b.state.world d.state.world topics i t before.0
+    (subst (λ ts. i < length ts) c.as_slice-topic-items.ensures c.loop-topic-test.true)
+    (c.topic-item.is ∙ ap (λ ts. get_or ts i t) c.as_slice-topic-items.ensures)
+    (commit_topics_before a b d limits refusal group second (take i topics) a.state.world b.state.world before.0 before.1.1)
+    (commit_cut_behind a b d first limits refusal group b.state.world t d.state.world both.1)) in
+    on_err _ is

@@ -1,14 +1,19 @@
 use Rattle.std.proofs.Common.{rules, ◌≡◌, ◌∙◌, ◌++◌, [], Ok, ap, of_z, refl, subst, sym, to_z}
 use Rattle.std.specs.Int.{w16, w32}
+use Rattle.std.specs.Prelude.{OnErr}
+use Rattle.kb_store.proofs.Seen.{on_err}
 use Rattle.kb_api_group.specs.Layouts.{offset_commit_reply}
 use Rattle.kb_tenant.specs.Entries.{commit_entries, within}
 use Rattle.kb_tenant.specs.OffsetCommit.{asked_commit, committed_all, refusal_of}
 use Rattle.kb_tenant.specs.Replies.{begun}
 use Rattle.kb_tenant.specs.Serve.{if_read, of_offset_commit, IsServed}
-use Rattle.kb_tenant.specs.Told.{CatalogFailed, IsCommitTopicTold, IsReplied, TellsCommits}
+use Rattle.kb_tenant.specs.Told.{AcknowledgesCommits, AreCommitsCut, CatalogFailed, IsCommitTopicCut, IsCommitTopicTold, IsRepliedOrCut}
+use Rattle.kb_tenant.specs.Told.{IsShutUnchanged, TellsCommits}
+use Rattle.kb_tenant.specs.declared.answer.Answer.TheVariants as answers
+use Rattle.kb_tenant_state.specs.Scene.{WhereHonest}
 use Rattle.kb_tenant.specs.Turns.{AreServed}
 use Rattle.kb_tenant_state.specs.Parts.{scene, world_of}
-use Rattle.kb_tenant.proofs.Acknowledging.{replied_by}
+use Rattle.kb_tenant.proofs.Cutting.{commits_untouched, into_all, replied_or_cut}
 use Rattle.kb_tenant.proofs.group_offsets.serve_offset_commit.Goals as goal
 
 pub returns-clause-meets : goal.returns-clause-meets
@@ -36,22 +41,72 @@ returns-clause-meets g c = λ honest agree calm.
     )
 
 pub returns-clause-acknowledged : goal.returns-clause-acknowledged
-returns-clause-acknowledged g c = λ honest agree q read.
-    let w = world_of g.L.PartitionLog.log c.args.parts.now (g.S.Store.disk c.args.shelf.now.store).files in
-    let v = world_of g.L.PartitionLog.log c.offset_commit.new.parts (g.S.Store.disk c.offset_commit.new.shelf.store).files in
-    let request = c.args.request.now in
+returns-clause-acknowledged g c = λ honest agree.
     let log = g.L.PartitionLog.log in
     let disk = g.S.Store.disk in
+    let w = world_of log c.args.parts.now (disk c.args.shelf.now.store).files in
+    let v = world_of log c.offset_commit.new.parts (disk c.offset_commit.new.shelf.store).files in
     let failed = CatalogFailed (scene log disk c.args.parts.now c.args.shelf.now) (scene log disk c.offset_commit.new.parts c.offset_commit.new.shelf) in
+    let request = c.args.request.now in
+    let limits = c.args.limits in
     let asked = c.in_ok-asked.asked in
     let id : to_z w32 (of_z w32 request.correlation_id) ≡ request.correlation_id = search rules in
     let version = request.api_version in
     let same : to_z w16 (of_z w16 version) ≡ version = search rules in
-    let both : Ok asked ≡ Ok q = sym (ap (λ x. asked_commit x request.body.now) (sym same) ∙ c.in_ok-asked.ensures.spelled) ∙ read in
-    let one : asked ≡ q = cc in
+    let whole_read : within limits.request_entries commit_entries (asked_commit version request.body.now) ≡ Ok asked =
+    ap (λ x. within limits.request_entries commit_entries (asked_commit x request.body.now)) (sym same) ∙ c.in_ok-asked.ensures.exact in
     let told = c.in_ok-offset_commit.ensures.told honest agree in
+    let refused = refusal_of asked.group_id asked.generation_id in
+    let refusal : c.refusal_of-refusal.result ≡ refused = search rules in
+    let all = subst (λ r. AreServed (IsCommitTopicTold failed limits r asked.group_id) w asked.topics v told.0.topics) refusal told.1.1 in
+    let cut : AreCommitsCut failed limits refused w asked v =
+    into_all (IsCommitTopicTold failed limits refused asked.group_id) (IsCommitTopicCut failed limits refused asked.group_id) w v asked.topics
+    told.0.topics all in (
+      λ q read.
+          let both : Ok asked ≡ Ok q = sym (ap (λ x. asked_commit x request.body.now) (sym same) ∙ c.in_ok-asked.ensures.spelled) ∙ read in
+          let one : asked ≡ q = cc in
+          subst (λ x. IsRepliedOrCut request.correlation_id (TellsCommits failed limits w x v)
+          (AreCommitsCut failed limits (refusal_of x.group_id x.generation_id) w x v) c.finish.result) one
+          (replied_or_cut request.correlation_id (TellsCommits failed limits w asked v) (AreCommitsCut failed limits refused w asked v)
+          c.in_ok-sink.sink.bytes c.offset_commit.new.sink.bytes (offset_commit_reply.written told.0) c.finish.result
+          (c.in_ok-sink.ensures ∙ ap begun id) told.1.0 (told.0, (refl, all)) cut c.finish.ensures),
+      subst (λ r. OnErr r (IsShutUnchanged w v c.finish.result)) (sym whole_read) tt,
+    )
+
+pub returns-in_err-asked-clause-cut : goal.returns-in_err-asked-clause-cut
+returns-in_err-asked-clause-cut g c =
+    let a = scene g.L.PartitionLog.log g.S.Store.disk c.args.parts.now c.args.shelf.now in
+    let request = c.args.request.now in
+    on_err _ (commits_untouched a c.args.limits request.correlation_id request.api_version request.body.now)
+
+pub returns-in_err-sink-clause-cut : goal.returns-in_err-sink-clause-cut
+returns-in_err-sink-clause-cut g c =
+    let a = scene g.L.PartitionLog.log g.S.Store.disk c.args.parts.now c.args.shelf.now in
+    let request = c.args.request.now in
+    on_err _ (commits_untouched a c.args.limits request.correlation_id request.api_version request.body.now)
+
+pub returns-in_err-offset_commit-clause-cut : goal.returns-in_err-offset_commit-clause-cut
+returns-in_err-offset_commit-clause-cut g c =
+    let log = g.L.PartitionLog.log in
+    let disk = g.S.Store.disk in
+    let a = scene log disk c.args.parts.now c.args.shelf.now in
+    let b = scene log disk c.offset_commit.new.parts c.offset_commit.new.shelf in
+    let request = c.args.request.now in
+    let limits = c.args.limits in
+    let asked = c.in_ok-asked.asked in
+    let version = request.api_version in
+    let same : to_z w16 (of_z w16 version) ≡ version = search rules in
+    let whole_read : within limits.request_entries commit_entries (asked_commit version request.body.now) ≡ Ok asked =
+    ap (λ x. within limits.request_entries commit_entries (asked_commit x request.body.now)) (sym same) ∙ c.in_ok-asked.ensures.exact in
     let refusal : c.refusal_of-refusal.result ≡ refusal_of asked.group_id asked.generation_id = search rules in
-    subst (λ x. IsReplied request.correlation_id (TellsCommits failed c.args.limits w x v) c.finish.result) one
-    (replied_by request.correlation_id (TellsCommits failed c.args.limits w asked v) c.in_ok-sink.sink.bytes c.offset_commit.new.sink.bytes (offset_commit_reply.written told.0) c.finish.result
-    (c.in_ok-sink.ensures ∙ ap begun id) told.1.0
-    (told.0, (refl, subst (λ r. AreServed (IsCommitTopicTold failed c.args.limits r asked.group_id) w asked.topics v told.0.topics) refusal told.1.1)) c.finish.ensures)
+    let is : WhereHonest a b (AcknowledgesCommits (CatalogFailed a b) limits request.correlation_id version a.state.world request.body.now
+    b.state.world answers.Shut) = λ honest agree. (
+      λ q read.
+          let both : Ok asked ≡ Ok q = sym (ap (λ x. asked_commit x request.body.now) (sym same) ∙ c.in_ok-asked.ensures.spelled) ∙ read in
+          let one : asked ≡ q = cc in
+          subst (λ x. AreCommitsCut (CatalogFailed a b) limits (refusal_of x.group_id x.generation_id) a.state.world x b.state.world) one
+          (subst (λ r. AreCommitsCut (CatalogFailed a b) limits r a.state.world asked b.state.world) refusal
+          (c.in_err-offset_commit.ensures.cut honest agree)),
+      subst (λ r. OnErr r (IsShutUnchanged a.state.world b.state.world answers.Shut)) (sym whole_read) tt,
+    ) in
+    on_err _ is

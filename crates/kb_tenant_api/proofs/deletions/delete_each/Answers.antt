@@ -1,20 +1,22 @@
-use Rattle.std.proofs.Common.{◌≡◌, ◌∙◌, ◌++◌, [], ◌∷◌, append-nil, append_assoc, length, of_z, sym, ap, refl, subst, take, to_z, w16, w32, ℕ, List, pos}
+use Rattle.std.proofs.Common.{◌≡◌, ◌∙◌, ◌++◌, ◌+◌, [], ◌∷◌, append-nil, append_assoc, length, of_z, sym, ap, refl, subst, take, to_z, w16, w32, ℕ, List, pos}
 use Rattle.std.specs.List.{flat_map}
 use Rattle.std.proofs.lemmas.Int.{to_z-of_z}
 use Rattle.kb_wire.specs.Codec.{array, count, int32, string}
 use Rattle.kb_api_group.specs.Layouts.{delete_groups_reply, deleted_group}
 use Rattle.kb_api_group.specs.declared.delete_groups.DeletedGroup.{DeletedGroup}
 use Rattle.kb_coordinator.specs.Groups.{Groups}
-use Rattle.kb_tenant_state.specs.Scene.{Scene}
+use Rattle.kb_store.proofs.Seen.{on_err}
+use Rattle.kb_tenant_state.specs.Scene.{Scene, WhereHonest}
 use Rattle.kb_tenant_state.specs.Parts.{Seen, scene}
 use Rattle.kb_tenant_state.specs.Steps.{step_same, step_then, meets_then, meets_so}
 use Rattle.kb_tenant_state.specs.World.{World}
 use Rattle.kb_tenant.specs.Told.{CatalogFailed}
-use Rattle.kb_tenant.specs.Turns.{in_turn, AreServed}
+use Rattle.kb_tenant.specs.Turns.{in_turn, AreFirstServed, AreServed}
 use Rattle.kb_tenant.proofs.Acknowledging.{honest_then, served_all, served_length, served_next, written_more}
 use Rattle.kb_tenant.proofs.Fitting.{array_written, written_both}
 use Rattle.kb_tenant.proofs.Replies.{entry_next, entries_over, count_fits, item_fits}
-use Rattle.kb_tenant_api.specs.Deletions.{deleted_entry, deletions, IsGroupDeletionTold}
+use Rattle.kb_tenant_api.specs.Acknowledged.{AreGroupDeletionsCut, IsGroupDeletionTold}
+use Rattle.kb_tenant_api.specs.Deletions.{deleted_entry, deletions}
 use Rattle.kb_tenant_api.proofs.Deleting.{deleted_fits, deletion_behind, deletion_told_so, deletions_before, entry_is, gone_more, gone_none, id_short, ids_fit, reply_written}
 use Rattle.kb_tenant_api.proofs.deletions.delete_each.Goals as goal
 
@@ -131,3 +133,37 @@ returns-clause-told g c = λ honest agree.
     let bytes : end ≡ start ++ delete_groups_reply.written (deletions so.0) =
     rest ∙ ap (λ x. x ++ (array deleted_group).written so.0) c.in_ok-put_i32.ensures.ok ∙ append_assoc start (int32.written (pos 0)) ((array deleted_group).written so.0) ∙ ap (λ x. start ++ x) (reply_written so.0) in
     subst (λ (xs : List (List ℕ)). (results : List DeletedGroup) × ((end ≡ start ++ delete_groups_reply.written (deletions results)) × AreServed (IsGroupDeletionTold (CatalogFailed a b)) s xs t results)) c.as_slice-ids.ensures (so.0, (bytes, all))
+
+pub returns-in_err-write-clause-cut : goal.returns-in_err-write-clause-cut
+returns-in_err-write-clause-cut g c =
+    let log = g.L.PartitionLog.log in
+    let disk = g.S.Store.disk in
+    let a : Scene Seen = scene log disk c.args.parts.now c.args.shelf.now in
+    let b : Scene Seen = scene log disk c.loop-id.parts c.loop-id.shelf in
+    let d : Scene Seen = scene log disk c.delete_group.new.parts c.delete_group.new.shelf in
+    let ids = c.as_slice-ids.result.now in
+    let old = c.loop-id.groups in
+    let now = c.delete_group.new.groups in
+    let i = c.loop-id.id-index in
+    let t = c.id-item.result in
+    let start : World × Groups = (a.state.world, c.args.groups.now) in
+    let p : World × Groups = (b.state.world, old) in
+    let q : World × Groups = (d.state.world, now) in
+    let sent = to_z-of_z w16 c.delete_group.result (record { sfits = c.delete_group.type_inv }) in
+    let reply : DeletedGroup = record { group_id = c.new.result; error_code = to_z w16 (of_z w16 c.delete_group.result) } in
+    let first = c.loop-id.invariant.step in
+    let second = c.delete_group.ensures.step in
+    let is : WhereHonest a d (AreGroupDeletionsCut (CatalogFailed a d) start c.args.request.now q) = λ honest agree.
+    let both = honest_then a b d _ _ first second c.loop-id.invariant.answers
+    (deletion_told_so b d old now t c.as_str-id.result.now c.new.result c.delete_group.result reply.error_code second c.as_str-id.ensures c.new.ensures sent c.delete_group.ensures.told) honest agree in
+    let before = both.0 in
+    subst (λ (xs : List (List ℕ)). AreFirstServed (IsGroupDeletionTold (CatalogFailed a d)) start xs q) c.as_slice-ids.ensures (
+      i + 1,
+      (
+        before.0 ++ reply ∷ [],
+        served_next (IsGroupDeletionTold (CatalogFailed a d)) start p q ids i t before.0 reply c.loop-id-test.true c.id-item.is
+            (deletions_before a b d second (take i ids) start p before.0 before.1.1)
+            (deletion_behind a b d first p t q reply both.1),
+      ),
+    ) in
+    on_err _ is

@@ -7,7 +7,8 @@ use Rattle.kb_tenant_state.specs.Parts.{scene}
 use Rattle.kb_tenant_state.specs.Steps.{IsStep, Meets}
 use Rattle.kb_tenant.specs.Told.{CatalogFailed}
 use Rattle.kb_tenant.specs.Turns.{in_turn, written_behind, AreServed}
-use Rattle.kb_tenant_api.specs.Deletions.{deleted_entry, HaveGone, IsGroupDeletionTold}
+use Rattle.kb_tenant_api.specs.Acknowledged.{HaveGone, IsGroupDeletionTold}
+use Rattle.kb_tenant_api.specs.Deletions.{deleted_entry}
 use Rattle.kb_tenant_api.proofs.deletions.delete_each.Given as goal
 
 -- what was deleted and written, and what is still to be, is all

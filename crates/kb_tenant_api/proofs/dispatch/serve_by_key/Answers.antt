@@ -7,7 +7,8 @@ use Rattle.kb_tenant.specs.Entries.{describe_groups_entries, within}
 use Rattle.kb_api_group.specs.Layouts.{describe_groups_request, list_groups_request}
 use Rattle.kb_wire.specs.Codec.{whole}
 use Rattle.kb_tenant_api.proofs.Looking.{looked_groups, only_silent}
-use Rattle.kb_tenant_api.specs.Serve.{served, if_read, of_describe, of_list, AreGroupsBy, IsOutcome, IsServed}
+use Rattle.kb_tenant_api.specs.Acknowledged.{AreGroupsBy}
+use Rattle.kb_tenant_api.specs.Serve.{served, if_read, of_describe, of_list, IsOutcome, IsServed}
 use Rattle.kb_tenant_api.specs.declared.answer.Answer.TheVariants as answers
 use Rattle.kb_tenant_api.proofs.WaitersServed.{any_told, commit_waits, fewer_waits, heartbeat_waits, leave_waits_told, quiet_waits}
 use Rattle.kb_tenant_api.proofs.Answered.{commit_told, delete_told, is_no_commit, is_of_none, member_told, plainly_told}
@@ -232,14 +233,14 @@ returns-in_default-clause-waits g c = inr (quiet_waits c.args.request.now.connec
 pub returns-in-8-clause-told : goal.returns-in-8-clause-told
 returns-in-8-clause-told g c =
     let key : c.args.request.now.api_key ≡ OFFSET_COMMIT = search rules in
-    commit_told _ _ _ _ _ _ _ _ _ _ _ _ _ _ _ _ _ key c.commit_offsets.ensures.acknowledged
+    commit_told _ _ _ _ _ _ _ _ _ _ _ _ _ _ _ _ c.commit_offsets.result key c.commit_offsets.ensures.acknowledged c.commit_offsets.ensures.cut
 
 pub returns-in-11-clause-told : goal.returns-in-11-clause-told
 returns-in-11-clause-told g c =
     let w = world_of g.L.PartitionLog.log c.args.parts.now (g.S.Store.disk c.args.shelf.now.store).files in
     let request = c.args.request.now in
     let key : request.api_key ≡ JOIN_GROUP = search rules in
-    member_told _ _ _ _ _ _ _ _ _ _ _ _ _ _ _ _ _ _ (inl key)
+    member_told _ _ _ _ _ _ _ _ _ _ _ _ _ _ _ _ _ c.join_group.result (inl key)
     (served_join c.args.node.now w c.args.clock c.args.groups.now request.connection request.api_key request.api_version request.body.now key) (c.join_group.ensures.served w)
 
 pub returns-in-12-clause-told : goal.returns-in-12-clause-told
@@ -247,7 +248,7 @@ returns-in-12-clause-told g c =
     let w = world_of g.L.PartitionLog.log c.args.parts.now (g.S.Store.disk c.args.shelf.now.store).files in
     let request = c.args.request.now in
     let key : request.api_key ≡ HEARTBEAT = search rules in
-    member_told _ _ _ _ _ _ _ _ _ _ _ _ _ _ _ _ _ _ (inr (inl key))
+    member_told _ _ _ _ _ _ _ _ _ _ _ _ _ _ _ _ _ c.heartbeat.result (inr (inl key))
     (served_heartbeat c.args.node.now w c.args.clock c.args.groups.now request.connection request.api_key request.api_version request.body.now key) (c.heartbeat.ensures.served w)
 
 pub returns-in-13-clause-told : goal.returns-in-13-clause-told
@@ -255,7 +256,7 @@ returns-in-13-clause-told g c =
     let w = world_of g.L.PartitionLog.log c.args.parts.now (g.S.Store.disk c.args.shelf.now.store).files in
     let request = c.args.request.now in
     let key : request.api_key ≡ LEAVE_GROUP = search rules in
-    member_told _ _ _ _ _ _ _ _ _ _ _ _ _ _ _ _ _ _ (inr (inr (inl key)))
+    member_told _ _ _ _ _ _ _ _ _ _ _ _ _ _ _ _ _ c.leave_group.result (inr (inr (inl key)))
     (served_leave c.args.node.now w c.args.clock c.args.groups.now request.connection request.api_key request.api_version request.body.now key) (c.leave_group.ensures.served w)
 
 pub returns-in-14-clause-told : goal.returns-in-14-clause-told
@@ -263,7 +264,7 @@ returns-in-14-clause-told g c =
     let w = world_of g.L.PartitionLog.log c.args.parts.now (g.S.Store.disk c.args.shelf.now.store).files in
     let request = c.args.request.now in
     let key : request.api_key ≡ SYNC_GROUP = search rules in
-    member_told _ _ _ _ _ _ _ _ _ _ _ _ _ _ _ _ _ _ (inr (inr (inr (inl key))))
+    member_told _ _ _ _ _ _ _ _ _ _ _ _ _ _ _ _ _ c.sync_group.result (inr (inr (inr (inl key))))
     (served_sync c.args.node.now w c.args.clock c.args.groups.now request.connection request.api_key request.api_version request.body.now key) (c.sync_group.ensures.served w)
 
 pub returns-in-15-clause-told : goal.returns-in-15-clause-told
@@ -271,7 +272,7 @@ returns-in-15-clause-told g c =
     let w = world_of g.L.PartitionLog.log c.args.parts.now (g.S.Store.disk c.args.shelf.now.store).files in
     let request = c.args.request.now in
     let key : request.api_key ≡ DESCRIBE_GROUPS = search rules in
-    member_told _ _ _ _ _ _ _ _ _ _ _ _ _ _ _ _ _ _ (inr (inr (inr (inr (inl key)))))
+    member_told _ _ _ _ _ _ _ _ _ _ _ _ _ _ _ _ _ c.describe_groups.result (inr (inr (inr (inr (inl key)))))
     (served_describe c.args.node.now w c.args.clock c.args.groups.now request.connection request.api_key request.api_version request.body.now key) (c.describe_groups.ensures.served w)
 
 pub returns-in-16-clause-told : goal.returns-in-16-clause-told
@@ -279,13 +280,13 @@ returns-in-16-clause-told g c =
     let w = world_of g.L.PartitionLog.log c.args.parts.now (g.S.Store.disk c.args.shelf.now.store).files in
     let request = c.args.request.now in
     let key : request.api_key ≡ LIST_GROUPS = search rules in
-    member_told _ _ _ _ _ _ _ _ _ _ _ _ _ _ _ _ _ _ (inr (inr (inr (inr (inr key)))))
+    member_told _ _ _ _ _ _ _ _ _ _ _ _ _ _ _ _ _ c.list_groups.result (inr (inr (inr (inr (inr key)))))
     (served_list c.args.node.now w c.args.clock c.args.groups.now request.connection request.api_key request.api_version request.body.now key) (c.list_groups.ensures.served w)
 
 pub returns-in-42-clause-told : goal.returns-in-42-clause-told
 returns-in-42-clause-told g c =
     let key : c.args.request.now.api_key ≡ DELETE_GROUPS = search rules in
-    delete_told _ _ _ _ _ _ _ _ _ _ _ _ _ _ _ _ _ key c.delete_groups.ensures.acknowledged
+    delete_told _ _ _ _ _ _ _ _ _ _ _ _ _ _ _ _ c.delete_groups.result key c.delete_groups.ensures.acknowledged c.delete_groups.ensures.cut
 
 pub returns-in_default-clause-told : goal.returns-in_default-clause-told
 returns-in_default-clause-told g c = λ honest agree.

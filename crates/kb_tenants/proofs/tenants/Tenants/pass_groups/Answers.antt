@@ -52,7 +52,7 @@ returns-clause-partly g c = (
   groups_counted g.L.PartitionLog.log g.S.Store.disk g.met.L.PartitionLog.lawful c.args.self.now c.args.tenant c.index_mut-one.result.now c.pass.new.self
       c.requires.tenant c.index_mut-one.ensures.value c.requires.invariant c.count.new.parts
       (min (c.refusals-before.result + c.in-Some.refused) END) c.count.ensures
-      (PassGroups c.args.clock c.in-Some.refused) (inr (c.in-Some.ensures.groups, c.pass.ensures.members, c.pass.ensures.limits)),
+      (PassGroups c.args.clock c.in-Some.refused) (inr (c.in-Some.ensures.due, c.in-Some.ensures.groups, c.pass.ensures.members, c.pass.ensures.limits)),
   count_counted g.L.PartitionLog.log g.S.Store.disk g.met.L.PartitionLog.lawful c.args.self.now c.args.tenant c.index_mut-one.result.now c.pass.new.self
       c.requires.tenant c.index_mut-one.ensures.value c.requires.invariant c.count.new.parts
       (min (c.refusals-before.result + c.in-Some.refused) END) c.count.ensures

@@ -5,7 +5,8 @@ use Rattle.kb_tenant_state.specs.Parts.{world_of}
 use Rattle.kb_tenant_state.specs.Counts.{END, IsCalm}
 use Rattle.kb_tenant_api.specs.Waiters.{AreServed, IsWaitTold}
 use Rattle.kb_tenant_api.proofs.WaitersServed.{after_told}
-use Rattle.kb_tenant_api.specs.Serve.{has_released, served, AreGroupsAfter, IsOutcome}
+use Rattle.kb_tenant_api.specs.Acknowledged.{AreGroupsAfter}
+use Rattle.kb_tenant_api.specs.Serve.{has_released, served, IsOutcome}
 use Rattle.kb_tenant.specs.Told.{FailedBy}
 use Rattle.kb_tenants.specs.Counts.{with_store}
 use Rattle.kb_tenants.specs.Tenants.{IsTruthfulFor}

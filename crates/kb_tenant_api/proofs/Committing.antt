@@ -1,5 +1,5 @@
 -- What a commit comes to.
-use Rattle.std.proofs.Common.{◌≡◌, ◌∙◌, ℕ, ℤ, [], refl, ap, subst}
+use Rattle.std.proofs.Common.{◌≡◌, ◌∙◌, ℕ, ℤ, List, [], refl, ap, subst}
 use Rattle.std.specs.Prelude.{Option}
 use Rattle.kb_api_group.specs.Layouts.{offset_commit_reply}
 use Rattle.kb_api_group.specs.declared.offset_commit.OffsetCommitRequest.{OffsetCommitRequest}

@@ -56,8 +56,9 @@ class Place:
     def start(self, *flags, under=()):
         """A client of a broker that is started."""
         self.broker = Broker(self.program, self.room, self.more, flags=flags, under=under)
-        if not self.broker.listens():
-            raise Refused(self.broker.log())
+        while not self.broker.listens():
+            if self.broker.process.poll() is not None:
+                raise Refused(self.broker.log())
         return Client(self.broker.port)
 
     def stop(self):

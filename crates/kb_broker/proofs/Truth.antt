@@ -151,6 +151,7 @@ pub refused_turn : (H : Type 0) → H → (failed fails next : ℕ) (commands : 
     l.session m.session
     → m.session ≡ shut_down causes.Memory l.session → IsCountedAt l.number l.session.stage (put_with b i m us) c
     → SpeaksTruth b c
+unfolding is_turn
 refused_turn H honest failed fails next commands a b c i l m us e sound at number first turn told shut counted =
     let here = subst (λ (x : BrokerState). IsToldAt (FailedBy failed fails next) (λ t. 2 ^ 63 ≤ commands t + 1) x.setup x.clock l.number
     l.session.stage x.tenants us l.session m.session) e told in

@@ -23,7 +23,7 @@ loop-place-init g c = record {
   either = λ honest t. inl refl;
   grows = λ t. omega arith;
   failures = omega arith;
-  counted = λ t. (0, (omega arith, inl (omega arith)));
+  counted = λ t. (0, omega arith, inl (omega arith));
   untouched = λ t le. refl;
 }
 
@@ -36,7 +36,7 @@ loop-place-preserved g c =
     let place = c.loop-place.place in
     let first = c.args.broker.now in
     let mid = c.loop-place.broker in
-    let new = c.shorten_catalog.new.broker in
+    let new = c.shorten_catalog.new.self in
     let more = now.later.failures in
     let risen = before.failures in
     record {
@@ -67,16 +67,14 @@ loop-place-preserved g c =
       counted = λ t. ⊎_elim
           (λ (ne : t ≡ place → ⊥).
           let was = before.counted t in
-          let few = was.1.0 in
-          (was.0, (omega (arith, few, risen, more), subst (IsCountedOnce was.0 (refusals_of first.state t)) (sym (now.turn.counts t ne)) was.1.1)))
+          let few = was.1 in
+          (was.0, omega (arith, few, risen, more), subst (IsCountedOnce was.0 (refusals_of first.state t)) (sym (now.turn.counts t ne)) was.2))
           (λ (here : t ≡ place).
           let refused = (disk new.store).failures - (disk mid.store).failures in (
             refused,
-            (
-              omega (arith, risen, more),
-              subst (λ n. IsCountedOnce refused n (refusals_of new.state t)) (before.untouched t (omega (arith, here)))
-                  (subst (λ n. IsCountedOnce refused (refusals_of mid.state n) (refusals_of new.state n)) (sym here) done.counted),
-            ),
+            omega (arith, risen, more),
+            subst (λ n. IsCountedOnce refused n (refusals_of new.state t)) (before.untouched t (omega (arith, here)))
+                (subst (λ n. IsCountedOnce refused (refusals_of mid.state n) (refusals_of new.state n)) (sym here) done.counted),
           ))
           (other_or_here t place);
       untouched = λ t le. now.turn.counts t (λ here. omega (arith, le, here)) ∙ before.untouched t (omega (arith, le));

@@ -39,7 +39,7 @@ returns-2-clause-short g c = λ honest may.
       | then-may_shorten w ↦ subst P (sym (λ i. (w.opened-is i).broker)) (short_now disk first w.shorten_catalogs.new.broker w.shorten_catalogs.ensures.shortened)
       | else-may_shorten w ↦
           let refused : allows c.if-may_shorten.opened.strays.items ≡ false =
-          ap allows (λ i. (w.opened-is i).strays.items) ∙ sym c.may_shorten.ensures ∙ w.if-may_shorten.false in
+          ap allows (λ i. (w.opened-is i).strays.items) ∙ ap allows (sym c.deref-2.ensures.value) ∙ sym c.may_shorten.ensures ∙ w.if-may_shorten.false in
           absurd (true≢false (sym allowed ∙ refused))
     ] in
     let settled : P c.else-ne.opened.broker = elim c.else-ne.branch [

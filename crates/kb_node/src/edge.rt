@@ -11,6 +11,7 @@ ghost use Rattle.kb_node.specs.Waiting.{socket_at};
 
 mod beside;
 mod closing;
+mod rounds;
 mod serving;
 mod waiting;
 
@@ -19,6 +20,7 @@ use crate::committed::Committed;
 use crate::deadlines::Strangers;
 use crate::delays::Delays;
 use crate::doors::{BindCause, DoorFault, Doors};
+use crate::lanes::Lanes;
 use crate::limits::Limits;
 use crate::news::News;
 use crate::replies::shares_of;
@@ -31,7 +33,7 @@ use crate::turn::Turn;
 use crate::watch::Watch;
 use kb_broker::Broker;
 use kb_log::{ListLog, PartitionLog};
-use kb_shares::{Ledger, Turns};
+use kb_shares::Ledger;
 use kb_store::{Store, StoreFault};
 use std::alloc::{AllocError, Global};
 use std::io;
@@ -122,8 +124,8 @@ pub struct Edge<R: Net, S: Store, L: PartitionLog = ListLog> {
     is_beside_ready: bool,
     /// The connections whose sockets can go on, each once, but for those in line.
     ready: Vec<u64>,
-    /// Those of them that are in line for their turn, by holder.
-    line: Turns,
+    /// Those of them that are in line for their turn, by holder, those with long requests apart.
+    lanes: Lanes,
     /// Those of them that were asked in this turn, and are told.
     asked: Vec<u64>,
     /// An empty list, to be filled while another is gone through.
@@ -211,7 +213,7 @@ impl<R: Net, S: Store, L: PartitionLog + Drop> Edge<R, S, L> {
         let Ok(shares) = SocketShares::new(alloc, u64::from(limits.sockets), &[]) else {
             return Err(refused(DoorFault::Memory, broker));
         };
-        let Ok(line) = Turns::new(alloc, HOLDERS) else {
+        let Ok(lanes) = Lanes::new(alloc, HOLDERS) else {
             return Err(refused(DoorFault::Memory, broker));
         };
         let Ok(replies) = shares_of(alloc, u64::from(limits.output_bytes), 0) else {
@@ -244,7 +246,7 @@ impl<R: Net, S: Store, L: PartitionLog + Drop> Edge<R, S, L> {
             accepts: Accepts::Ready,
             is_beside_ready: false,
             ready: buffers.ready,
-            line,
+            lanes,
             asked: buffers.asked,
             spare: buffers.spare,
             news: buffers.news,
@@ -564,7 +566,8 @@ impl<R: Net, S: Store, L: PartitionLog + Drop> Edge<R, S, L> {
 
     /// The socket at a place can go on.
     fn queue(&mut self, place: usize)
-        ensures { seen self.new.host self.new.sockets.items ≡ seen self.old.host self.old.sockets.items }
+        ensures seen { seen self.new.host self.new.sockets.items ≡ seen self.old.host self.old.sockets.items }
+        ensures lanes { self.new.lanes ≡ self.old.lanes }
     {
         let Some(socket) = self.sockets.get_mut(place) else {
             return;

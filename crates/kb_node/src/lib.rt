@@ -16,6 +16,7 @@ mod edge;
 mod fault;
 mod firsts;
 mod input;
+mod lanes;
 mod limits;
 mod news;
 mod promises;

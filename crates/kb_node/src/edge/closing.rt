@@ -351,6 +351,7 @@ impl<R: Net, S: Store, L: PartitionLog + Drop> Edge<R, S, L> {
     /// Closes the socket of a connection.
     #[tactic(auto, using(crate::proofs::Goes::goes_then, crate::proofs::Goes::goes_none))]
     pub(super) fn close(&mut self, alloc: Global, number: u64, turn: &mut Turn)
+        ensures lanes { self.new.lanes ≡ self.old.lanes }
         ensures commits { self.new.host.commits ≡ self.old.host.commits }
         ensures store { self.new.host.broker.store ≡ self.old.host.broker.store }
         ensures released { holder_of number self.new.shares.sockets ≡ None }

@@ -23,6 +23,7 @@ use crate::doors::{BindCause, DoorFault, Doors};
 use crate::lanes::Lanes;
 use crate::limits::Limits;
 use crate::news::News;
+use crate::reader_waits::ReaderWaits;
 use crate::replies::shares_of;
 use crate::silences::Silences;
 use crate::socket::Socket;
@@ -117,6 +118,8 @@ pub struct Edge<R: Net, S: Store, L: PartitionLog = ListLog> {
     times: Times,
     /// What was counted of each tenant, by its place, where that is counted.
     traffic: Vec<TenantTraffic>,
+    /// How each tenant waits for its readers, by its place, where that is counted.
+    reader_waits: Vec<ReaderWaits>,
     /// Which sockets are ready. With none all are looked at in each turn.
     watch: Option<Watch>,
     accepts: Accepts,
@@ -242,6 +245,7 @@ impl<R: Net, S: Store, L: PartitionLog + Drop> Edge<R, S, L> {
                 u64::from(limits.idle_seconds) * 1000,
             ),
             traffic: Vec::new(alloc),
+            reader_waits: Vec::new(alloc),
             watch,
             accepts: Accepts::Ready,
             is_beside_ready: false,
@@ -294,6 +298,25 @@ impl<R: Net, S: Store, L: PartitionLog + Drop> Edge<R, S, L> {
         ensures { option_map (λ t. t.now) result ≡ slice_get self.now.traffic.items place }
     {
         self.traffic.get(place)
+    }
+
+    /// Counts from now on how so many tenants wait for those that read their replies, by their places. Memory is asked for here alone:
+    /// after an `Err` the edge is as before.
+    pub fn count_reader_waits(&mut self, alloc: Global, tenants: usize) -> Result<(), AllocError>
+        ensures ok { OnOk result (self.new.reader_waits.items ≡ replicate tenants (record { times = 0; bytes = 0 })) }
+        ensures err { OnErr result (self.new ≡ self.old) }
+        ensures host { self.new.host ≡ self.old.host }
+        ensures sockets { self.new.sockets ≡ self.old.sockets }
+    {
+        self.reader_waits = vec![in alloc; ReaderWaits::none(); tenants]?;
+        Ok(())
+    }
+
+    /// What was counted since [`Edge::count_reader_waits`], by the tenants' places.
+    pub fn reader_waits(&self) -> &[ReaderWaits]
+        ensures { result.now ≡ self.now.reader_waits.items }
+    {
+        &self.reader_waits
     }
 
     /// The port that is listened on.

@@ -1,5 +1,5 @@
 -- For whom the open sockets are counted.
-use Rattle.std.specs.Prelude.{◌≡◌, ℕ, List, Bool, not, ◌||◌, nat_eq, nat_lt, if◌then◌else◌, Option, Some, None}
+use Rattle.std.specs.Prelude.{◌≡◌, ◌≢◌, ℕ, List, Bool, not, ◌||◌, nat_eq, nat_lt, if◌then◌else◌, Option, Some, None}
 use Rattle.std.specs.List.{sum_by}
 use Rattle.std.specs.Map.{lookup, remove_entry, values_of}
 use Rattle.std.specs.BTreeMap.{is_at}
@@ -48,3 +48,14 @@ released connection s = record s {
 -- that has not logged in.
 abbrev pub may_bind : ℕ → ℕ → Seats → Bool
 may_bind connection tenant s = not (nat_lt tenant s.tenants) || has_room tenant 1 (released connection s).pool
+
+-- the seat with a tenant, where one let it in: only tenants with a share count theirs
+abbrev pub seat_among : ℕ → Option ℕ → Option ℕ
+seat_among tenants None = None
+seat_among tenants (Some tenant) = if nat_lt tenant tenants then Some tenant else None
+
+-- a connection has that seat from now on, and all others have theirs as before
+pub record IsGiven (connection : ℕ) (holder : Option ℕ) (old new : Seats) : Type 0 where
+  pub tenants : new.tenants ≡ old.tenants
+  pub seat : holder_of connection new.sockets ≡ holder
+  pub others : (n : ℕ) → n ≢ connection → holder_of n new.sockets ≡ holder_of n old.sockets

@@ -1,10 +1,10 @@
 //! For whom the open sockets are counted.
 
-ghost use Rattle.std.specs.Prelude.{◌≡◌, [], true, false, IfOk, OnErr, OnOk, None, nat_lt, length};
+ghost use Rattle.std.specs.Prelude.{◌≡◌, [], true, false, IfOk, OnErr, OnOk, None, Some, nat_lt, length, if◌then◌else◌};
 ghost use Rattle.std.specs.BTreeMap.{insert_entry};
 ghost use Rattle.std.specs.Ordering.{nat_cmp};
 ghost use Rattle.kb_node.specs.Replies.{place_of};
-ghost use Rattle.kb_node.specs.SocketShares.{count_of, holder_of, may_bind, released, without};
+ghost use Rattle.kb_node.specs.SocketShares.{count_of, holder_of, may_bind, released, seat_among, without, IsGiven};
 
 use kb_settings::{Settings, tenant_names};
 use kb_shares::{Budget, BudgetFault, Share};
@@ -61,7 +61,9 @@ impl SocketShares {
     }
 
     /// What the settings say of each tenant.
-    pub fn of(alloc: Global, settings: &Settings) -> Result<SocketShares, BudgetFault> {
+    pub fn of(alloc: Global, settings: &Settings) -> Result<SocketShares, BudgetFault>
+        ensures { IfOk result (λ it. it.sockets ≡ []) }
+    {
         let names = tenant_names(alloc, &settings.users)?;
         let mut shares = Vec::with_capacity(alloc, names.len())?;
         for name in &names {
@@ -109,6 +111,8 @@ impl SocketShares {
         ensures admitted { OnOk result (self.new.sockets
             ≡ insert_entry nat_cmp (without connection self.old.sockets) connection self.old.tenants) }
         ensures refused { OnErr result (self.new.sockets ≡ without connection self.old.sockets) }
+        ensures seat { OnOk result (IsGiven connection (Some self.old.tenants) self.old self.new) }
+        ensures none { OnErr result (IsGiven connection None self.old self.new) }
     {
         self.release(connection);
         let place = self.tenants;
@@ -133,6 +137,9 @@ impl SocketShares {
             → self.new.sockets ≡ insert_entry nat_cmp (without connection self.old.sockets) connection tenant) }
         ensures refused { IfOk result (λ is_in. is_in ≡ false → self.new ≡ released connection self.old) }
         ensures no_memory { OnErr result (self.new.sockets ≡ without connection self.old.sockets) }
+        ensures seat { IfOk result (λ is_in. IsGiven connection (seat_among self.old.tenants (if is_in then Some tenant else None))
+            self.old self.new) }
+        ensures none { OnErr result (IsGiven connection None self.old self.new) }
     {
         self.release(connection);
         if tenant >= self.tenants {
@@ -155,6 +162,7 @@ impl SocketShares {
     pub fn release(&mut self, connection: u64)
         ensures released { self.new ≡ released connection self.old }
         ensures gone { holder_of connection self.new.sockets ≡ None }
+        ensures none { IsGiven connection None self.old self.new }
     {
         if let Some(holder) = self.holders.remove(&connection) {
             self.budget.give_back(holder, 1);

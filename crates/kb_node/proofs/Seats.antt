@@ -1,9 +1,11 @@
 -- Each connection goes on to be counted for the holder that has its open socket, where a socket changes, comes or leaves.
-use Rattle.std.proofs.Common.{◌≡◌, ◌≢◌, ◌<◌, ◌≤◌, ◌∙◌, ℕ, List, [], ◌∷◌, ◌++◌, map, Bool, true, false, not, if◌then◌else◌, Option, Some, None, Result, IfSome, slice_get, slice_index_or, slice_set, length, vec_len, ⊎_elim, refl, sym, ap, subst, arith}
+use Rattle.std.proofs.Common.{◌≡◌, ◌≢◌, ◌<◌, ◌≤◌, ◌∙◌, ℕ, List, [], ◌∷◌, ◌++◌, map, Bool, true, false, not, if◌then◌else◌, Option, Some, None, Result, Ok, Err, slice_get, slice_index_or, slice_set, length, vec_len, ⊎_elim, refl, sym, ap, subst, arith}
 use Rattle.std.specs.List.{filter, remove}
 use Rattle.std.specs.declared.alloc.Global.{Global}
 use Rattle.std.specs.declared.vec.Vec.{Vec}
 use Rattle.std.proofs.lemmas.Bool.Decides.{eqb_tells}
+use Rattle.std.proofs.lemmas.Option.{slice_get-get_or}
+use Rattle.std.specs.Prelude.{OnErr, OnOk}
 use Rattle.kb_node.specs.declared.socket.Socket.{Socket}
 use Rattle.kb_node.specs.Commits.{Host}
 use Rattle.kb_node.specs.Cores.{seen}
@@ -11,6 +13,7 @@ use Rattle.kb_node.specs.Numbers.{IsInOrder, Rise, socket_of}
 use Rattle.kb_node.specs.Waiting.{socket_at}
 use Rattle.kb_node.specs.SocketShares.{IsGiven, Seats, holder_of, seat_among}
 use Rattle.kb_node.specs.Seats.{AreSeated, IsLeft, IsReseated, KeepsSeat, seat_in, seat_of}
+use Rattle.kb_node.proofs.Counts.{given_again}
 use Rattle.kb_node.proofs.Cores.{item_at}
 use Rattle.kb_node.proofs.Numbers.{behind_here, behind_other, find_here, find_is, left_out, none_above, numbers_of, remove_here, remove_other, rise_append, rise_filter, rise_remove, rise_set, rise_up, set_here, set_other}
 
@@ -53,6 +56,27 @@ module _ {T : Type 0} where
   -- its connection has a seat, and another socket takes its place
   pub given_seat : (a b : Seats) (s t : Socket T) (o : Option ℕ) → IsGiven s.connection o a b → seat_of a.tenants t ≡ o → IsReseated s t a b
   given_seat a b s t o given is = record { tenants = given.tenants; seat = λ had. given.seat ∙ sym is; others = given.others }
+
+  open_seat : (tenants : ℕ) (s : Socket T) → s.is_ended ≡ false → seat_in tenants (Some s) ≡ seat_of tenants s
+  open_seat tenants s is = ap (λ c. if c then None else seat_of tenants s) is
+
+  closed_seat : (tenants : ℕ) (s : Socket T) → s.is_ended ≡ true → seat_in tenants (Some s) ≡ None
+  closed_seat tenants s is = ap (λ c. if c then None else seat_of tenants s) is
+
+  left_seat : (b c : Seats) (t : Socket T) → holder_of t.connection b.sockets ≡ seat_of b.tenants t → IsLeft t b c
+      → holder_of t.connection c.sockets ≡ seat_in c.tenants (Some t)
+  left_seat b c t had left = left.seat ∙ ap (λ o. if t.is_ended then None else o) had
+      ∙ ap (λ m. seat_in m (Some t)) (sym left.tenants)
+
+is_not : (b : Bool) → not b ≡ false → b ≡ true
+is_not true h = refl
+is_not false h = absurd (let no : true ≡ false = h in cc)
+
+-- whichever it was that was answered
+pub given_any : {A E : Type 0} (r : Result A E) (n m : ℕ) (a b : Seats) → OnOk r (IsGiven n (Some m) a b) → OnErr r (IsGiven n None a b)
+    → (o : Option ℕ) × IsGiven n o a b
+given_any (Ok x) n m a b ok err = (Some m, ok)
+given_any (Err e) n m a b ok err = (None, err)
 
 -- 2. All of them
 
@@ -104,12 +128,6 @@ module _ {S T : Type 0} where
       → AreSeated h a v.items → AreSeated k a (slice_set v.items p t)
   stayed h k a v p s t lt is same tried seat w = changed h k a a v p s t lt is same tried refl (λ n ne. refl) (λ had. had ∙ sym seat) w
 
-  open_seat : (tenants : ℕ) (s : Socket T) → s.is_ended ≡ false → seat_in tenants (Some s) ≡ seat_of tenants s
-  open_seat tenants s is = ap (λ c. if c then None else seat_of tenants s) is
-
-  closed_seat : (tenants : ℕ) (s : Socket T) → s.is_ended ≡ true → seat_in tenants (Some s) ≡ None
-  closed_seat tenants s is = ap (λ c. if c then None else seat_of tenants s) is
-
   -- what is open and has logged in was seated, and stays open
   pub reseated : (h k : Host S) (a b : Seats) (v : Vec (Socket T) Global) (p : ℕ) (s t : Socket T) → p < vec_len v → s ≡ slice_index_or v.items p s
       → t.connection ≡ s.connection → k.tried ≡ h.tried → s.is_ended ≡ false → t.is_ended ≡ s.is_ended → IsReseated s t a b
@@ -117,11 +135,6 @@ module _ {S T : Type 0} where
   reseated h k a b v p s t lt is same tried is_open stays seats w = changed h k a b v p s t lt is same tried seats.tenants seats.others
       (λ had. seats.seat (had ∙ open_seat a.tenants s is_open) ∙ ap (λ m. seat_of m t) (sym seats.tenants)
       ∙ sym (open_seat b.tenants t (stays ∙ is_open))) w
-
-  left_seat : (b c : Seats) (t : Socket T) → holder_of t.connection b.sockets ≡ seat_of b.tenants t → IsLeft t b c
-      → holder_of t.connection c.sockets ≡ seat_in c.tenants (Some t)
-  left_seat b c t had left = left.seat ∙ ap (λ o. if t.is_ended then None else o) had
-      ∙ ap (λ m. seat_in m (Some t)) (sym left.tenants)
 
   -- it was served, and seated, and left its seat where it is closed
   pub served : (h k : Host S) (a b c : Seats) (v : Vec (Socket T) Global) (p : ℕ) (s t : Socket T) → p < vec_len v → s ≡ slice_index_or v.items p s
@@ -143,7 +156,7 @@ module _ {S T : Type 0} where
   pub kept_at : (h k : Host S) (a : Seats) (v : Vec (Socket T) Global) (p : ℕ) (s t : Socket T) → p < vec_len v → s ≡ slice_index_or v.items p s
       → k.tried ≡ h.tried → mark t ≡ mark s → AreSeated h a v.items → AreSeated k a (slice_set v.items p t)
   kept_at h k a v p s t lt is tried same w = stayed h k a v p s t lt is (ap (λ m. m.0) same) tried
-      (ap (λ m. if m.1.0 then None else (if m.1.1.0 then seat_among a.tenants m.1.1.1 else Some a.tenants)) same) w
+      (ap (λ m. if m.1 then None else (if m.2 then seat_among a.tenants m.3 else Some a.tenants)) same) w
 
   -- a seat is given back by a connection that has none
   pub given_back : (h : Host S) (a b : Seats) (n : ℕ) (xs : List (Socket T)) → IsGiven n None a b → seat_in a.tenants (socket_of n xs) ≡ None
@@ -196,10 +209,6 @@ module _ {S T : Type 0} where
             (eqb_tells n s.connection);
       }
 
-  is_not : (b : Bool) → not b ≡ false → b ≡ true
-  is_not true h = refl
-  is_not false h = absurd (let no : true ≡ false = h in cc)
-
   pub leave : (h : Host S) (a : Seats) (xs : List (Socket T)) → AreSeated h a xs → AreSeated h a (filter (λ s. not s.is_ended) xs)
   leave h a xs w =
       let r = rising h xs w.in_order in
@@ -223,3 +232,33 @@ module _ {S T : Type 0} where
   pub nobody : (h : Host S) (a b : Seats) (xs : List (Socket T)) (n : ℕ) (o : Option ℕ) → IsGiven n None a b
       → (IsInOrder (seen h xs) → socket_at o xs ≡ socket_of n xs) → seat_in a.tenants (socket_at o xs) ≡ None → AreSeated h a xs → AreSeated h b xs
   nobody h a b xs n o given found none w = given_back h a b n xs given (ap (seat_in a.tenants) (sym (found w.in_order)) ∙ none) w
+
+  -- the same where what is remembered of it changed, too
+  pub reseated_as : (h k : Host S) (a b : Seats) (v : Vec (Socket T) Global) (p : ℕ) (s t u : Socket T) → p < vec_len v
+      → s ≡ slice_index_or v.items p s → t.connection ≡ s.connection → k.tried ≡ h.tried → s.is_ended ≡ false → t.is_ended ≡ s.is_ended
+      → IsReseated s t a b → mark u ≡ mark t → AreSeated h a v.items → AreSeated k b (slice_set v.items p u)
+  reseated_as h k a b v p s t u lt is same tried is_open stays seats alike w = reseated h k a b v p s u lt is (ap (λ m. m.0) alike ∙ same) tried is_open
+      (ap (λ m. m.1) alike ∙ stays) (seated_then s t u a b b same seats (stays_seated b t u (ap (λ m. m.2) alike, ap (λ m. m.3) alike))) w
+
+  pub served_as : (h k : Host S) (a b c : Seats) (v : Vec (Socket T) Global) (p : ℕ) (s t u : Socket T) → p < vec_len v
+      → s ≡ slice_index_or v.items p s → t.connection ≡ s.connection → k.tried ≡ h.tried → s.is_ended ≡ false
+      → IsReseated s t a b → mark u ≡ mark t → IsLeft u b c → AreSeated h a v.items → AreSeated k c (slice_set v.items p u)
+  served_as h k a b c v p s t u lt is same tried is_open seats alike left w = served h k a b c v p s u lt is (ap (λ m. m.0) alike ∙ same) tried is_open
+      (seated_then s t u a b b same seats (stays_seated b t u (ap (λ m. m.2) alike, ap (λ m. m.3) alike))) left w
+
+  pub leaves_at : (h : Host S) (a : Seats) (xs ys zs : List (Socket T)) (p : ℕ) (s : Socket T) → p < length xs → s ≡ slice_index_or xs p s
+      → s.is_ended ≡ true → xs ≡ ys → zs ≡ remove ys p → AreSeated h a ys → AreSeated h a zs
+  leaves_at h a xs ys zs p s lt is ended same left w = subst (λ ws. AreSeated h a ws) (sym left)
+      (leaves h a ys p s (subst (λ ws. slice_get ws p ≡ Some s) same (slice_get-get_or xs p s lt ∙ sym (ap (λ y. Some y) is))) ended w)
+
+  pub comes_behind : (h k : Host S) (a b : Seats) (old mid new : List (Socket T)) (n : ℕ) (s : Socket T) → new ≡ mid ++ s ∷ [] → mid ≡ old
+      → h.tried < n → k.tried ≡ n → IsGiven n (Some a.tenants) a b → s.connection ≡ n → s.is_ended ≡ false → s.is_bound ≡ false
+      → AreSeated h a old → AreSeated k b new
+  comes_behind h k a b old mid new n s behind same lt tried given is is_open is_new w = subst (λ xs. AreSeated k b xs)
+      (sym (behind ∙ ap (λ xs. xs ++ s ∷ []) same)) (comes h k a b old n s lt tried given is is_open is_new w)
+
+  -- it could not be kept
+  pub not_kept : (h k : Host S) (a b c : Seats) (xs ys : List (Socket T)) (n : ℕ) (o : Option ℕ) → ys ≡ xs → h.tried < n → h.tried ≤ k.tried
+      → IsGiven n o a b → IsGiven n None b c → AreSeated h a xs → AreSeated k c ys
+  not_kept h k a b c xs ys n o same lt le one two w = subst (λ zs. AreSeated k c zs) (sym same)
+      (with_host h k c xs le (untried h a c n xs (given_again n o None a b c one two) lt w))

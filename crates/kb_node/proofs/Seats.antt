@@ -246,6 +246,12 @@ module _ {S T : Type 0} where
   served_as h k a b c v p s t u lt is same tried is_open seats alike left w = served h k a b c v p s u lt is (ap (λ m. m.0) alike ∙ same) tried is_open
       (seated_then s t u a b b same seats (stays_seated b t u (ap (λ m. m.2) alike, ap (λ m. m.3) alike))) left w
 
+  pub told_as : (h k : Host S) (a c : Seats) (v : Vec (Socket T) Global) (p : ℕ) (s t u : Socket T) → p < vec_len v → s ≡ slice_index_or v.items p s
+      → t.connection ≡ s.connection → k.tried ≡ h.tried → s.is_ended ≡ false → KeepsSeat s t → mark u ≡ mark t → IsLeft u a c
+      → AreSeated h a v.items → AreSeated k c (slice_set v.items p u)
+  told_as h k a c v p s t u lt is same tried is_open stays alike left w =
+      served_as h k a a c v p s t u lt is same tried is_open (stays_seated a s t stays) alike left w
+
   pub leaves_at : (h : Host S) (a : Seats) (xs ys zs : List (Socket T)) (p : ℕ) (s : Socket T) → p < length xs → s ≡ slice_index_or xs p s
       → s.is_ended ≡ true → xs ≡ ys → zs ≡ remove ys p → AreSeated h a ys → AreSeated h a zs
   leaves_at h a xs ys zs p s lt is ended same left w = subst (λ ws. AreSeated h a ws) (sym left)

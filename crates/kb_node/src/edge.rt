@@ -417,11 +417,19 @@ impl<R: Net, S: Store, L: PartitionLog + Drop> Edge<R, S, L> {
         }
         self.accepts = Accepts::Ready;
         for place in 0..self.sockets.len() {
-            if let Some(socket) = self.sockets.get_mut(place) {
-                socket.hear_any();
-            }
-            self.queue(place);
+            self.hear_at(place);
         }
+    }
+
+    /// The socket at a place may be ready.
+    fn hear_at(&mut self, place: usize)
+        ensures { seen self.new.host self.new.sockets.items ≡ seen self.old.host self.old.sockets.items }
+    {
+        let Some(socket) = self.sockets.get_mut(place) else {
+            return;
+        };
+        socket.hear_any();
+        self.queue(place);
     }
 
     /// Accepts the sockets that wait, at most as many as there may be.

@@ -1,7 +1,6 @@
 use Rattle.std.proofs.Common.{◌≡◌, sym, subst, ◌∙◌}
 use Rattle.kb_node.specs.SocketShares.{AreCounted}
 use Rattle.kb_node.proofs.Counts.{fewer, has_one}
-use Rattle.kb_node.proofs.Seats.{comes, leave, nobody}
 use Rattle.kb_node.proofs.socket_shares.SocketShares.release.Goals as goal
 
 pub give_back-requires : goal.give_back-requires

@@ -3,6 +3,7 @@ ghost use Rattle.std.specs.Prelude.{◌≡◌};
 ghost use Rattle.kb_tenant_state.specs.Fault.{code_of, of_log};
 
 use kb_log::LogFault;
+use kb_store::StoreFault;
 use kb_wire::ErrorCode;
 use std::alloc::AllocError;
 use thiserror::Error;
@@ -52,6 +53,16 @@ impl From<LogFault> for PartitionFault {
             LogFault::Store => PartitionFault::Store,
             LogFault::Memory => PartitionFault::Memory,
         }
+    }
+}
+
+impl From<StoreFault> for PartitionFault {
+    ghost use Rattle.kb_tenant_state.specs.declared.fault.PartitionFault.TheVariants.{Store};
+
+    ghost from_gives = { λ _ e. e ≡ Store };
+
+    fn from(_: StoreFault) -> PartitionFault {
+        PartitionFault::Store
     }
 }
 

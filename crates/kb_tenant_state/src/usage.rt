@@ -7,7 +7,7 @@ ghost use Rattle.kb_topics.specs.Known.{committed_at, topic_at};
 ghost use Rattle.kb_tenant_state.specs.Calls.{known_at};
 ghost use Rattle.kb_tenant_state.specs.Parts.{Agrees, IsSound, scene, world_of};
 ghost use Rattle.kb_tenant_state.specs.Steps.{IsStep, Meets};
-ghost use Rattle.kb_tenant_state.specs.Stored.{commits_to, offsets_in, offsets_to, partitions_in, stored_in, up_to_end, IsTold};
+ghost use Rattle.kb_tenant_state.specs.Stored.{commits_to, offsets_in, offsets_to, partitions_in, stored_in, stored_without, up_to_end, IsTold};
 ghost use Rattle.kb_tenant_state.specs.Stored.{text_of, text_size, texts_at, texts_by, texts_in, texts_of, texts_to};
 ghost use Rattle.kb_tenant_state.specs.Told.{IsWant, Tells};
 
@@ -107,6 +107,16 @@ pub(crate) fn more_stored(stored: Option<u64>, bytes: u64) -> Option<u64>
     ensures { result ≡ option_map (λ (n : ℕ). up_to_end (n + bytes)) stored }
 {
     Some(stored?.saturating_add(bytes))
+}
+
+/// What is known of the bytes of all batches, once some went; nothing where it is not known how many, or behind the greatest number.
+pub(crate) fn less_stored(stored: Option<u64>, lost: Result<u64, PartitionFault>) -> Option<u64>
+    ensures { result ≡ stored_without lost stored }
+{
+    match (stored?, lost) {
+        (u64::MAX, _) | (_, Err(_)) => None,
+        (stored, Ok(lost)) => Some(stored.saturating_sub(lost)),
+    }
 }
 
 impl<L: PartitionLog> Parts<L> {

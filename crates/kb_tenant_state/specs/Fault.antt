@@ -2,6 +2,8 @@
 use Rattle.std.specs.Prelude.{ℤ}
 use Rattle.kb_wire.specs.ErrorCode.{code_of as number}
 use Rattle.kb_wire.specs.declared.error_code.ErrorCode.TheVariants as codes
+use Rattle.kb_store.specs.declared.fault.StoreFault.{StoreFault}
+use Rattle.kb_store.specs.declared.fault.StoreFault.TheVariants as store
 use Rattle.kb_log.specs.declared.fault.LogFault.{LogFault}
 use Rattle.kb_log.specs.declared.fault.LogFault.TheVariants as log
 use Rattle.kb_tenant_state.specs.declared.fault.PartitionFault.{PartitionFault}
@@ -13,6 +15,11 @@ of_log log.Range = Range
 of_log log.Full = Full
 of_log log.Store = Store
 of_log log.Memory = Memory
+
+-- what is answered where the store refused
+abbrev pub of_store : StoreFault → PartitionFault
+of_store store.Device = Store
+of_store store.Memory = Memory
 
 -- the number of its error code
 abbrev pub code_of : PartitionFault → ℤ

@@ -1,6 +1,6 @@
 //! Why a call for a partition is refused.
 ghost use Rattle.std.specs.Prelude.{◌≡◌};
-ghost use Rattle.kb_tenant_state.specs.Fault.{code_of, of_log};
+ghost use Rattle.kb_tenant_state.specs.Fault.{code_of, of_log, of_store};
 
 use kb_log::LogFault;
 use kb_store::StoreFault;
@@ -57,12 +57,13 @@ impl From<LogFault> for PartitionFault {
 }
 
 impl From<StoreFault> for PartitionFault {
-    ghost use Rattle.kb_tenant_state.specs.declared.fault.PartitionFault.TheVariants.{Store};
+    ghost from_gives = { λ f e. e ≡ of_store f };
 
-    ghost from_gives = { λ _ e. e ≡ Store };
-
-    fn from(_: StoreFault) -> PartitionFault {
-        PartitionFault::Store
+    fn from(fault: StoreFault) -> PartitionFault {
+        match fault {
+            StoreFault::Device => PartitionFault::Store,
+            StoreFault::Memory => PartitionFault::Memory,
+        }
     }
 }
 

@@ -1,6 +1,6 @@
 -- What the partitions of a tenant are without those of a topic.
 use Rattle.std.proofs.Common.{◌≡◌, ◌∙◌, ◌⊎◌, ◌≤◌, inl, inr, ⊎_elim, ℕ, Bool, true, false, cond, List, [], ◌∷◌, Some, None, refl, sym, ap, length}
-use Rattle.std.specs.Prelude.{slice_get, Result, OnOk}
+use Rattle.std.specs.Prelude.{slice_get, Option, Result, Ok, Err, IfOk, OnOk}
 use Rattle.std.specs.FinMap.{get}
 use Rattle.std.specs.Ordering.{nat_cmp}
 use Rattle.std.specs.List.Sorted.{IsStrictlySortedBy}
@@ -10,16 +10,19 @@ use Rattle.std.specs.declared.alloc.Global.{Global}
 use Rattle.std.specs.declared.vec.Vec.{Vec}
 use Rattle.std.proofs.lemmas.Result.{on_ok_weaker}
 use Rattle.kb_store.specs.Disk.{Disk, Table, Files}
-use Rattle.kb_store.specs.declared.fault.StoreFault.{StoreFault}
 use Rattle.kb_log.specs.Apart.{Stays, other_stays}
 use Rattle.kb_log.specs.OnShelf.{Log, Accounts, Spares, IsLawfulLog, no_file}
 use Rattle.kb_producers.specs.Batches.{kept_all}
 use Rattle.kb_tenant_state.specs.Logs.{LogState, without_logs}
-use Rattle.kb_tenant_state.specs.Partitions.{Entries, Owned, OwnedBy, AreSound, AreNamed, AreStarted, partition_at, places_of, log_state, logs_of, scene_on}
+use Rattle.kb_tenant_state.specs.Partitions.{Agree, Entries, Owned, OwnedBy, AreSound, AreNamed, AreStarted, partition_at, places_of, log_state, logs_of, scene_on}
 use Rattle.kb_tenant_state.specs.Scene.{Frame, Settles}
-use Rattle.kb_tenant_state.specs.Topic.{AreApartLogs, OwnedAmong}
+use Rattle.kb_tenant_state.specs.Stored.{Went, bytes_in_all}
+use Rattle.kb_tenant_state.specs.Topic.{AgreeLogs, AreApartLogs, OwnedAmong, size_of_logs}
+use Rattle.kb_tenant_state.specs.declared.fault.PartitionFault.{PartitionFault}
 use Rattle.kb_tenant_state.specs.declared.partition.Partition.{Partition}
 use Rattle.kb_tenant_state.proofs.Changed.{found_at, shown}
+use Rattle.kb_tenant_state.proofs.Sized.{each_among, seen_sizes, sizes}
+use Rattle.kb_tenant_state.proofs.Sums.{total_removed}
 use Rattle.kb_tenant_state.proofs.Put.{cases, each_value, map_same, other_number, same_number, values_same}
 
 -- an entry is taken out before its value is looked at, or after
@@ -50,7 +53,7 @@ module _ {L : Type 0} (log : L → Log) (i : ℕ) (es : Entries L) (t : Vec (Par
     apart = λ p q x y a b ne. sound.apart i p i q x y (at_place p x a) (at_place q y b) (λ bad. ne bad.1);
   }
 
-  pub topic_gone : (r : Result (Unit {0}) StoreFault) (table : Table) → OnOk r ((file : ℕ) → OwnedAmong log t.items file → get table file ≡ None) → OnOk r ((file : ℕ) → OwnedBy log i es file → get table file ≡ None)
+  pub topic_gone : (r : Result ℕ PartitionFault) (table : Table) → OnOk r ((file : ℕ) → OwnedAmong log t.items file → get table file ≡ None) → OnOk r ((file : ℕ) → OwnedBy log i es file → get table file ≡ None)
   topic_gone r table = on_ok_weaker r (λ gone file o. gone file (record { number = o.number; partition = o.partition; at = sym (found_at es i o.number (Some t) there) ∙ o.at; own = o.own }))
 
   -- ---- the logs of the others
@@ -140,3 +143,24 @@ module _ {L : Type 0} (log : L → Log) (i : ℕ) (es : Entries L) (t : Vec (Par
         let state' : Partition L → LogState = λ y. log_state (log y.log) d'.files in
         values_same (shown log d.files) (shown log d'.files) es' ordered (λ j v a. map_same state state' v.items (λ q y b. same_state honest j q y (found_at es' j q (Some v) a ∙ b)))
         ∙ logs_without log i es es' d.files entries
+
+    -- what the topic's logs had went
+    pub removed_went : (r : Result ℕ PartitionFault) → IfOk r (λ n. d'.honest → AgreeLogs log t.items d.files → Went (size_of_logs log t.items d.files) 0 n)
+        → IfOk r (λ n. d'.honest → Agree log es d.files → Went (bytes_in_all (logs_of log es d.files)) (bytes_in_all (logs_of log es' d'.files)) n)
+    removed_went (Err f) size = tt
+    removed_went (Ok n) size = λ honest agree few.
+        let all : sizes log es' d.files + size_of_logs log t.items d.files ≡ sizes log es d.files =
+        ap (λ (fs : Entries L). sizes log fs d.files + size_of_logs log t.items d.files) entries
+        ∙ sym (ap (λ o. sizes log (remove_entry (is_at (nat_cmp i)) es) d.files + weight_of o) there)
+        ∙ total_removed (λ (v : Vec (Partition L) Global). size_of_logs log v.items d.files) weight_of refl (λ v. refl) (is_at (nat_cmp i)) es in
+        let left : bytes_in_all (logs_of log es' d'.files) ≡ sizes log es' d.files =
+        ap bytes_in_all (removed_logs honest ∙ sym (logs_without log i es es' d.files entries)) ∙ seen_sizes log es' d.files in
+        let was : bytes_in_all (logs_of log es d.files) ≡ sizes log es d.files = seen_sizes log es d.files in
+        omega (arith, all, left, was, few, size honest (agree_there agree) (omega (arith, all, was, few)))
+      where
+        weight_of : Option (Vec (Partition L) Global) → ℕ
+        weight_of None = 0
+        weight_of (Some v) = size_of_logs log v.items d.files
+
+        agree_there : Agree log es d.files → AgreeLogs log t.items d.files
+        agree_there a = each_among log (λ (x : Partition L). (log x.log).agrees d.files) t.items (λ q x at. a.each i q x (at_place q x at))

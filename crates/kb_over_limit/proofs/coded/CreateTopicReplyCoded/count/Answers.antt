@@ -1,0 +1,4 @@
+use Rattle.kb_over_limit.proofs.coded.CreateTopicReplyCoded.count.Goals as goal
+
+pub returns : goal.returns
+returns g c = (c.in_ok-entry.entry, (c.in_ok-entry.ensures, c.is_created.ensures))

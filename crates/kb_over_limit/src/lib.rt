@@ -1,0 +1,13 @@
+//! How many entries of a reply say that they are past a limit of their tenant.
+//!
+//! [`told`] goes over the body of a reply, without memory, and counts the entries that have the code of a limit ([`OverLimit`]). Which
+//! codes these are is Kafka's protocol guide, "Error codes": POLICY_VIOLATION, COORDINATOR_NOT_AVAILABLE, GROUP_MAX_SIZE_REACHED.
+//! What is counted is a function of what the body spells (`specs/Over.antt`).
+#![tactic(auto)]
+
+mod coded;
+mod over;
+mod replies;
+
+pub use over::OverLimit;
+pub use replies::told;

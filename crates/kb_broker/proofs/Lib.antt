@@ -1,3 +1,4 @@
+pub mod Bound
 pub mod Coherent
 pub mod Honest
 pub mod Once

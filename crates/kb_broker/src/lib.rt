@@ -29,7 +29,8 @@ pub use kb_tenants::TenantView;
 pub use limits::group_limits;
 pub use opening::{Listing, OpenFault, OpenRefused, Opened, names_in_order, places_of_names};
 pub use promises::{
-    limits_are_kept, listings_are_coherent, nobody_is_stranded, opened_alone_is_the_same,
+    connections_are_in_the_view, limits_are_kept, listings_are_coherent, nobody_is_stranded,
+    opened_alone_is_the_same,
 };
 pub use run::{Event, Written, run_both};
 pub use script::{ScriptFault, run_script, run_script_on};

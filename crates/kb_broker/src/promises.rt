@@ -18,6 +18,7 @@ ghost use Rattle.kb_isolation_spec.specs.Isolation.{IsIsolated, own_events, own_
 ghost use Rattle.kb_broker.specs.declared.opening.Listing.{Listing};
 ghost use Rattle.kb_broker.specs.declared.run.Event.{Event};
 ghost use Rattle.kb_broker.specs.declared.run.Written.{Written};
+ghost use Rattle.kb_broker.specs.Counts.{lines_of, waiting_lines};
 ghost use Rattle.kb_broker.specs.Hosts.{is_honest};
 ghost use Rattle.kb_broker.specs.Members.{numbered_from};
 ghost use Rattle.kb_broker.specs.Opening.{lists, opening_listing};
@@ -70,6 +71,16 @@ pub fn nobody_is_stranded()
     ensures shut { (t n : ℕ) (b : BrokerState) → NoneStranded b → IsLimitedIn (find_line n b.lines) → is_shut n b ≡ true
         → members_of b.tenants t n ≡ 0 }
     ensures elsewhere { (t n : ℕ) (b : BrokerState) → NoneStranded b → bound_to n b ≢ Some t → members_of b.tenants t n ≡ 0 }
+{}
+
+/// Which connections a tenant has, and which of them wait, is read off its view: all that are bound to it are in there. So on two
+/// brokers that give it the same view they are the same, as many and in the same order.
+#[tactic(auto, using(crate::proofs::Bound::bound_lines, crate::proofs::Bound::bound_waits))]
+pub fn connections_are_in_the_view()
+    ensures bound { (t : ℕ) (mine : ℕ → Bool) (es : List Happening) (b : BrokerState) → Mine t mine es b
+        → lines_of t (view_of t mine b).lines ≡ lines_of t b.lines }
+    ensures waiting { (t : ℕ) (mine : ℕ → Bool) (es : List Happening) (b : BrokerState) → Mine t mine es b
+        → waiting_lines t (view_of t mine b).lines ≡ waiting_lines t b.lines }
 {}
 
 /// Neither listing has a part of a release alone which some clients take for the whole: they infer a release from the list, and then

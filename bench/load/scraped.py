@@ -1,11 +1,14 @@
 #!/usr/bin/env python3
-"""A load on the broker with and without a scrape of its metrics each second, in turn, and the ratios.
+"""A load on the broker with and without scrapes of its metrics, in turn, and the ratios.
 
     bench/load/scraped.py KBROKER [PAIRS]
 
 It starts a broker with a tenant and puts the brief load of load.c on it twice as often as there are pairs, 10 where nothing is said. In one run of
-each pair a client asks for /metrics once a second. Which of the two comes first alternates. For each figure it prints the medians of both, the
+each pair a client asks for /metrics 50 times a second. Which of the two comes first alternates. For each figure it prints the medians of both, the
 mean of the pairs' ratios, and the standard error of that mean: within two of these the ratio is known.
+
+What one scrape a second does is less than a run can tell from the next. So the last columns are a fiftieth of what 50 do, with its error: in
+percent, how much worse the figure gets by one a second. A rate falls by as much for each page. A percentile may rise by less for the first.
 
 At last it asks for 200 pages, one after the other, and prints what processors were at work for one of them. The broker serves in one loop, so a
 page each second takes so much of each second from all else.
@@ -25,8 +28,11 @@ from metrics import page  # noqa: E402
 from wire import Broker, free_port  # noqa: E402
 
 
+SCRAPES = 50
+
+
 class Scraper:
-    """Asks for the page of metrics once a second, in a thread of its own."""
+    """Asks for the page of metrics so many times a second, in a thread of its own."""
 
     def __init__(self, port):
         self.port, self.pages, self.ended = port, 0, threading.Event()
@@ -39,7 +45,7 @@ class Scraper:
             status, _, body = page(self.port, "GET /metrics")
             assert status == 200 and b"kbroker_requests_total" in body, status
             self.pages += 1
-            due += 1
+            due = max(due + 1 / SCRAPES, time.monotonic() - 1)
 
     def stop(self):
         self.ended.set()
@@ -95,12 +101,16 @@ def page_cost(broker, metrics, count=200):
 
 def show(pairs):
     """Prints a line for each figure."""
-    print("what | without | with a scrape each second | ratio | its standard error")
+    print(f"what | without | with {SCRAPES} scrapes a second | ratio | its standard error | worse by one a second | its standard error")
     for what in pairs[0][0]:
         without, scraped = ([run[place][what] for run in pairs] for place in (0, 1))
         ratios = [b / a for a, b in zip(without, scraped)]
         error = statistics.stdev(ratios) / len(ratios) ** 0.5 if len(ratios) > 1 else float("nan")
-        print(f"{what} | {statistics.median(without):,.0f} | {statistics.median(scraped):,.0f} | {statistics.mean(ratios):.3f} | {error:.3f}")
+        worse = statistics.mean(ratios) - 1 if what.endswith("us") else 1 - statistics.mean(ratios)
+        print(
+            f"{what} | {statistics.median(without):,.0f} | {statistics.median(scraped):,.0f} | {statistics.mean(ratios):.3f} | {error:.3f}"
+            f" | {100 * worse / SCRAPES:.2f} % | {100 * error / SCRAPES:.2f} %"
+        )
 
 
 def main(words):

@@ -11,6 +11,7 @@ ghost use Rattle.kb_node.specs.Waiting.{socket_at};
 
 mod beside;
 mod closing;
+mod rounds;
 mod serving;
 mod waiting;
 
@@ -19,8 +20,10 @@ use crate::committed::Committed;
 use crate::deadlines::Strangers;
 use crate::delays::Delays;
 use crate::doors::{BindCause, DoorFault, Doors};
+use crate::lanes::Lanes;
 use crate::limits::Limits;
 use crate::news::News;
+use crate::reader_waits::ReaderWaits;
 use crate::replies::shares_of;
 use crate::silences::Silences;
 use crate::socket::Socket;
@@ -31,7 +34,7 @@ use crate::turn::Turn;
 use crate::watch::Watch;
 use kb_broker::Broker;
 use kb_log::{ListLog, PartitionLog};
-use kb_shares::{Ledger, Turns};
+use kb_shares::Ledger;
 use kb_store::{Store, StoreFault};
 use std::alloc::{AllocError, Global};
 use std::io;
@@ -115,6 +118,8 @@ pub struct Edge<R: Net, S: Store, L: PartitionLog = ListLog> {
     times: Times,
     /// What was counted of each tenant, by its place, where that is counted.
     traffic: Vec<TenantTraffic>,
+    /// How each tenant waits for its readers, by its place, where that is counted.
+    reader_waits: Vec<ReaderWaits>,
     /// Which sockets are ready. With none all are looked at in each turn.
     watch: Option<Watch>,
     accepts: Accepts,
@@ -122,8 +127,8 @@ pub struct Edge<R: Net, S: Store, L: PartitionLog = ListLog> {
     is_beside_ready: bool,
     /// The connections whose sockets can go on, each once, but for those in line.
     ready: Vec<u64>,
-    /// Those of them that are in line for their turn, by holder.
-    line: Turns,
+    /// Those of them that are in line for their turn, by holder, those with long requests apart.
+    lanes: Lanes,
     /// Those of them that were asked in this turn, and are told.
     asked: Vec<u64>,
     /// An empty list, to be filled while another is gone through.
@@ -211,7 +216,7 @@ impl<R: Net, S: Store, L: PartitionLog + Drop> Edge<R, S, L> {
         let Ok(shares) = SocketShares::new(alloc, u64::from(limits.sockets), &[]) else {
             return Err(refused(DoorFault::Memory, broker));
         };
-        let Ok(line) = Turns::new(alloc, HOLDERS) else {
+        let Ok(lanes) = Lanes::new(alloc, HOLDERS) else {
             return Err(refused(DoorFault::Memory, broker));
         };
         let Ok(replies) = shares_of(alloc, u64::from(limits.output_bytes), 0) else {
@@ -240,11 +245,12 @@ impl<R: Net, S: Store, L: PartitionLog + Drop> Edge<R, S, L> {
                 u64::from(limits.idle_seconds) * 1000,
             ),
             traffic: Vec::new(alloc),
+            reader_waits: Vec::new(alloc),
             watch,
             accepts: Accepts::Ready,
             is_beside_ready: false,
             ready: buffers.ready,
-            line,
+            lanes,
             asked: buffers.asked,
             spare: buffers.spare,
             news: buffers.news,
@@ -292,6 +298,25 @@ impl<R: Net, S: Store, L: PartitionLog + Drop> Edge<R, S, L> {
         ensures { option_map (λ t. t.now) result ≡ slice_get self.now.traffic.items place }
     {
         self.traffic.get(place)
+    }
+
+    /// Counts from now on how so many tenants wait for those that read their replies, by their places. Memory is asked for here alone:
+    /// after an `Err` the edge is as before.
+    pub fn count_reader_waits(&mut self, alloc: Global, tenants: usize) -> Result<(), AllocError>
+        ensures ok { OnOk result (self.new.reader_waits.items ≡ replicate tenants (record { times = 0; bytes = 0 })) }
+        ensures err { OnErr result (self.new ≡ self.old) }
+        ensures host { self.new.host ≡ self.old.host }
+        ensures sockets { self.new.sockets ≡ self.old.sockets }
+    {
+        self.reader_waits = vec![in alloc; ReaderWaits::none(); tenants]?;
+        Ok(())
+    }
+
+    /// What was counted since [`Edge::count_reader_waits`], by the tenants' places.
+    pub fn reader_waits(&self) -> &[ReaderWaits]
+        ensures { result.now ≡ self.now.reader_waits.items }
+    {
+        &self.reader_waits
     }
 
     /// The port that is listened on.
@@ -564,7 +589,8 @@ impl<R: Net, S: Store, L: PartitionLog + Drop> Edge<R, S, L> {
 
     /// The socket at a place can go on.
     fn queue(&mut self, place: usize)
-        ensures { seen self.new.host self.new.sockets.items ≡ seen self.old.host self.old.sockets.items }
+        ensures seen { seen self.new.host self.new.sockets.items ≡ seen self.old.host self.old.sockets.items }
+        ensures lanes { self.new.lanes ≡ self.old.lanes }
     {
         let Some(socket) = self.sockets.get_mut(place) else {
             return;

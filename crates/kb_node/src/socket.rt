@@ -184,6 +184,13 @@ impl<T: Read + Write + Drop> Socket<T> {
         self.input.begun()
     }
 
+    /// How many bytes of that request are still to be handed on.
+    pub fn left(&self) -> usize
+        ensures { result ≡ self.now.input.progress.left }
+    {
+        self.input.left()
+    }
+
     /// How many bytes the request in front has of which nothing was handed on: 0 where one is begun, or its size is not there.
     pub fn awaited(&self) -> usize
         ensures { result ≡ awaited self.now.input.progress.left (drop self.now.input.handed self.now.input.bytes.items) }

@@ -21,7 +21,7 @@ nobody_behind (suc n) = nobody_behind n
 -- where nobody is in line the lane stays, however many turns there are
 pub behind_nobody : (n : ℕ) (lane : Lines) → length lane ≡ 0 → behind n lane ≡ lane
 behind_nobody n [] none = nobody_behind n
-behind_nobody n (l ∷ lane) none = absurd (omega (none))
+behind_nobody n (l ∷ lane) none = absurd (omega (arith, none))
 
 -- one turn, and then those that are left
 pub behind_next : (n i : ℕ) (lane : Lines) → i < n → behind (n - (i + 1)) (after_next lane) ≡ behind (n - i) lane

@@ -20,7 +20,7 @@ returns-then-has_no_short-clause-lanes g c =
     let short = behind_left 256 c.loop.counter c.loop.self.lanes.short _ c.loop.invariant.0 none in
     λ i. record { short = short i; long = c.loop.invariant.1 i; short_rounds = c.loop.invariant.2 i }
 
-pub returns-clause-lanes : goal.returns-clause-lanes
-returns-clause-lanes g c =
+pub returns-after-loop-clause-lanes : goal.returns-after-loop-clause-lanes
+returns-after-loop-clause-lanes g c =
     let short = behind_done 256 c.loop.counter c.loop.self.lanes.short _ c.loop.invariant.0 (omega (arith, c.loop-test.false)) in
     λ i. record { short = short i; long = c.loop.invariant.1 i; short_rounds = c.loop.invariant.2 i }

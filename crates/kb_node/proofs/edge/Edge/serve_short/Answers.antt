@@ -21,7 +21,7 @@ returns-then-has_no_short-clause-lanes g c =
     let short = behind_left 16 c.loop.counter c.loop.self.lanes.short _ c.loop.invariant.1 none in
     λ i. record { short = short i; long = c.loop.invariant.2 i; short_rounds = c.loop.invariant.3 i }
 
-pub returns-clause-lanes : goal.returns-clause-lanes
-returns-clause-lanes g c =
+pub returns-after-loop-clause-lanes : goal.returns-after-loop-clause-lanes
+returns-after-loop-clause-lanes g c =
     let short = behind_done 16 c.loop.counter c.loop.self.lanes.short _ c.loop.invariant.1 (omega (arith, c.loop-test.false)) in
     λ i. record { short = short i; long = c.loop.invariant.2 i; short_rounds = c.loop.invariant.3 i }

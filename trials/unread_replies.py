@@ -5,10 +5,11 @@
 
 A broker may keep 1,048,576 bytes of unread replies. Three connections of one user ask for 8 MB each and never read, so that its tenant is
 asked for nothing. A Produce of another user of it that comes behind theirs has to be answered within 11 seconds, and one right behind it
-within 11 more. The log has to tell it. Another tenant's Produce is answered within a second. A client that asks for 8 MB and reads 2,048
+within 11 more. The log has to tell it, and that the tenant waits, once a second at most, and of no other tenant. Another tenant's Produce is answered within a second. A client that asks for 8 MB and reads 2,048
 bytes every half a second is not closed within 30 seconds, though its tenant waits.
 """
 
+import re
 import socket
 import struct
 import sys
@@ -33,6 +34,20 @@ SLOW = 30
 def closings(broker):
     """What the log tells of closed connections."""
     return [it for it in broker.log().splitlines() if "connections closed:" in it]
+
+
+def waits(broker):
+    """The tenants that wait for their readers by the log: for each line the second of the day, the tenant and the bytes."""
+    form = r"T(\d+):(\d+):([\d.]+)Z tenant (\S+) waits for its readers: (\d+) bytes of replies are not read"
+    lines = re.findall(form, broker.log())
+    return [(int(h) * 3600 + int(m) * 60 + float(s), tenant, int(n)) for h, m, s, tenant, n in lines]
+
+
+def are_told(lines):
+    """Whether lines tell of the tenant `a` alone, of some bytes, and a second apart."""
+    times = [it[0] for it in lines]
+    apart = all((after - before) % 86400 > 0.9 for before, after in zip(times, times[1:]))
+    return bool(lines) and apart and all(tenant == "a" and count > 0 for _, tenant, count in lines)
 
 
 def ask_for(client, topic):
@@ -105,12 +120,13 @@ def looked_at(broker):
         client.produce(b"big", batch(b"x" * 1_000_000))
     times = unread(broker)
     time.sleep(2)
-    told = closings(broker)
+    told, waiting = closings(broker), waits(broker)
     print(f"beside {UNREAD} that do not read, another tenant's Produce is answered after {times[0]:.1f} s, and their own after")
     print(f"{' and '.join(f'{it:.1f}' for it in times[1:]) or 'never'} s; {told}")
+    print(f"the log tells {len(waiting)} times that their tenant waits, the first time for {waiting[0][2] if waiting else 0} bytes")
     lasted, got, is_open = slow(broker)
     print(f"one that reads slowly is served for {lasted:.0f} s, and gets {got} bytes; it is {'not ' if is_open else ''}closed")
-    return len(times) == 3 and times[0] < 1 and max(times) < STALL and bool(told) and lasted >= SLOW and is_open
+    return len(times) == 3 and times[0] < 1 and max(times) < STALL and bool(told) and are_told(waiting) and lasted >= SLOW and is_open
 
 
 def main(program):

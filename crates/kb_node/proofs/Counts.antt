@@ -1,16 +1,18 @@
 -- How many sockets are counted for a holder, after one more and one less.
-use Rattle.std.proofs.Common.{◌≡◌, ◌≢◌, ◌≤◌, ◌+◌, ℕ, arith, Option, None, Some, if◌then◌else◌, nat_eq, unwrap_or, option_map, List, [], ◌∷◌, map, slice_index_or, zero, suc, refl, subst, sym, ap, ⊎_elim}
+use Rattle.std.proofs.Common.{◌≡◌, ◌≢◌, ◌≤◌, ◌+◌, ◌∙◌, ℕ, arith, Bool, false, Option, None, Some, if◌then◌else◌, nat_eq, unwrap_or, option_map, List, [], ◌∷◌, map, slice_index_or, zero, suc, refl, subst, sym, ap, ⊎_elim}
 use Rattle.std.specs.Ordering.{nat_cmp}
 use Rattle.std.specs.Map.{keys_of}
 use Rattle.std.specs.BTreeMap.{insert_entry, is_at}
 use Rattle.std.specs.List.Sorted.{IsStrictlySortedBy}
+use Rattle.std.specs.Cmp.{unsigned_tied}
+use Rattle.std.proofs.lemmas.Bool.{ne_eqb}
 use Rattle.std.proofs.lemmas.Bool.Decides.{eqb_tells, nat_tests}
 use Rattle.std.proofs.lemmas.Cmp.{nat_cmp_total}
 use Rattle.std.proofs.lemmas.Map.Entries.{sum_by-remove_entry, sum_by-insert_entry}
 use Rattle.kb_shares.specs.declared.share.Share.{Share}
 use Rattle.kb_shares.specs.Holder.{idle}
 use Rattle.kb_shares.specs.Shares.{Pool, fresh, holder_at, used_by}
-use Rattle.kb_node.specs.SocketShares.{AreCounted, Counted, count_of, holder_of, without}
+use Rattle.kb_node.specs.SocketShares.{AreCounted, Counted, IsGiven, Seats, count_of, holder_of, without}
 
 -- whether that is the holder, as a number
 abbrev is_its : ℕ → ℕ → ℕ
@@ -72,3 +74,19 @@ unused (s ∷ ss) (suc i) d = unused ss i d
 -- no socket is counted at first
 pub fresh_counted : (total : ℕ) (shares : List Share) → AreCounted (fresh total shares) []
 fresh_counted total shares = record { used = λ i. unused shares i (record { own = 0; most = 0 }) }
+
+-- a connection has a seat where a map was changed at its number alone
+apart : (connection n : ℕ) → n ≢ connection → is_at (nat_cmp connection) n ≡ false
+apart connection n ne = unsigned_tied connection n ∙ ne_eqb connection n (λ e. ne (sym e))
+
+pub given : (connection : ℕ) (o : Option ℕ) (old new : Seats) → new.tenants ≡ old.tenants → holder_of connection new.sockets ≡ o
+    → ((n : ℕ) → is_at (nat_cmp connection) n ≡ false → holder_of n new.sockets ≡ holder_of n old.sockets) → IsGiven connection o old new
+given connection o old new tenants seat others = record { tenants = tenants; seat = seat; others = λ n ne. others n (apart connection n ne) }
+
+-- one seat after another, of one connection
+pub given_again : (connection : ℕ) (o p : Option ℕ) (a b c : Seats) → IsGiven connection o a b → IsGiven connection p b c → IsGiven connection p a c
+given_again connection o p a b c one two = record {
+  tenants = two.tenants ∙ one.tenants;
+  seat = two.seat;
+  others = λ n ne. two.others n ne ∙ one.others n ne;
+}

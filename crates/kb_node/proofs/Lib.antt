@@ -11,3 +11,4 @@ pub mod Waiting
 pub mod Told
 pub mod PutBack
 pub mod Isolated
+pub mod Seats

@@ -1,14 +1,35 @@
--- The least of some moments, one after another.
-use Rattle.std.proofs.Common.{◌≡◌, ◌<◌, ◌+◌, ℕ, List, [], ◌∷◌, zero, suc, min, map, drop, length, slice_index_or, add-one, refl, subst, sym, arith}
-use Rattle.kb_node.specs.Waiting.{least}
+-- The least of some moments, one after another, and turns, one after another.
+use Rattle.std.proofs.Common.{◌≡◌, ◌<◌, ◌≤◌, ◌+◌, ◌-◌, ◌∙◌, ℕ, List, [], ◌∷◌, zero, suc, min, map, drop, length, slice_index_or, add-one, ap, refl, subst, sym, arith}
+use Rattle.kb_shares.specs.Turns.{Lines, after_next}
+use Rattle.kb_node.specs.Waiting.{behind, least}
 
-behind : (f : ℕ → ℕ) (xs : List ℕ) (i a : ℕ) → i < length xs
+least_behind : (f : ℕ → ℕ) (xs : List ℕ) (i a : ℕ) → i < length xs
     → least (min a (f (slice_index_or xs i 0))) (map f (drop (suc i) xs)) ≡ least a (map f (drop i xs))
-behind f [] i a lt = absurd (omega (arith, lt))
-behind f (x ∷ xs) zero a lt = refl
-behind f (x ∷ xs) (suc i) a lt = behind f xs i a (omega (arith, lt))
+least_behind f [] i a lt = absurd (omega (arith, lt))
+least_behind f (x ∷ xs) zero a lt = refl
+least_behind f (x ∷ xs) (suc i) a lt = least_behind f xs i a (omega (arith, lt))
 
 pub least_step : (f : ℕ → ℕ) (xs : List ℕ) (i a : ℕ) → i < length xs
     → least (min a (f (slice_index_or xs i 0))) (map f (drop (i + 1) xs)) ≡ least a (map f (drop i xs))
 least_step f xs i a lt =
-    subst (λ j. least (min a (f (slice_index_or xs i 0))) (map f (drop j xs)) ≡ least a (map f (drop i xs))) (sym (add-one i)) (behind f xs i a lt)
+    subst (λ j. least (min a (f (slice_index_or xs i 0))) (map f (drop j xs)) ≡ least a (map f (drop i xs))) (sym (add-one i)) (least_behind f xs i a lt)
+
+nobody_behind : (n : ℕ) → behind n [] ≡ []
+nobody_behind zero = refl
+nobody_behind (suc n) = nobody_behind n
+
+-- where nobody is in line the lane stays, however many turns there are
+pub behind_nobody : (n : ℕ) (lane : Lines) → length lane ≡ 0 → behind n lane ≡ lane
+behind_nobody n [] none = nobody_behind n
+behind_nobody n (l ∷ lane) none = absurd (omega (arith, none))
+
+-- one turn, and then those that are left
+pub behind_next : (n i : ℕ) (lane : Lines) → i < n → behind (n - (i + 1)) (after_next lane) ≡ behind (n - i) lane
+behind_next n i lane lt = ap (λ k. behind k lane) (let it : suc (n - (i + 1)) ≡ n - i = omega (arith, lt) in it)
+
+-- what is left where nobody is in line, or no turn is left
+pub behind_left : (n i : ℕ) (lane all : Lines) → behind (n - i) lane ≡ all → length lane ≡ 0 → lane ≡ all
+behind_left n i lane all is none = sym (behind_nobody (n - i) lane none) ∙ is
+
+pub behind_done : (n i : ℕ) (lane all : Lines) → behind (n - i) lane ≡ all → n ≤ i → lane ≡ all
+behind_done n i lane all is le = ap (λ k. behind k lane) (let it : 0 ≡ n - i = omega (arith, le) in it) ∙ is

@@ -1,11 +1,12 @@
 -- How long an edge waits, and for what.
-use Rattle.std.specs.Prelude.{ℕ, ◌-◌, ◌^◌, ◌&&◌, ◌||◌, min, length, List, [], ◌∷◌, Bool, true, false, not, map, nat_eq, nat_le, nat_lt, slice_get, if◌then◌else◌, Option, Some, None}
+use Rattle.std.specs.Prelude.{ℕ, zero, suc, ◌+◌, ◌-◌, ◌^◌, ◌&&◌, ◌||◌, min, length, List, [], ◌∷◌, Bool, true, false, not, map, nat_eq, nat_le, nat_lt, slice_get, if◌then◌else◌, Option, Some, None}
 use Rattle.kb_shares.specs.Shares.{Pool, has_room, piece_for}
-use Rattle.kb_shares.specs.Turns.{Lines}
+use Rattle.kb_shares.specs.Turns.{Lines, after_next, joined}
 use Rattle.kb_isolation_spec.specs.declared.login.Login.{Login}
 use Rattle.kb_isolation_spec.specs.declared.login.Login.TheVariants as logins
 use Rattle.kb_node.specs.declared.edge.Accepts.{Accepts}
 use Rattle.kb_node.specs.declared.edge.Accepts.TheVariants as accepts
+use Rattle.kb_node.specs.declared.lanes.Lanes.{Lanes}
 use Rattle.kb_node.specs.declared.socket.Socket.{Socket}
 use Rattle.kb_node.specs.Deadlines.{Stalls, first_stall, patience}
 use Rattle.kb_node.specs.Carries.{unhanded_of}
@@ -63,21 +64,53 @@ is_ready accepts.Ready = true
 is_ready accepts.Waiting = false
 is_ready accepts.Refused = false
 
+abbrev pub is_nobody : Lanes → Bool
+is_nobody lanes = nat_eq (length lanes.short) 0 && nat_eq (length lanes.long) 0
+
 -- an accept may find a socket, one is in line, or one of those that can go on may be asked
-abbrev pub is_busy : Accepts → Lines → Bool → Bool
-is_busy accepts line may_ask = is_ready accepts || not (nat_eq (length line) 0) || may_ask
+abbrev pub is_busy : Accepts → Lanes → Bool → Bool
+is_busy accepts lanes may_ask = is_ready accepts || not (is_nobody lanes) || may_ask
 
 -- 4. Whose turn it is
 
--- the request is long that a socket has begun: 65,536 bytes or more
+-- The next piece of a socket may end a long request: one of 65,536 bytes or more, of which no more than so many are still to be handed on.
 abbrev pub is_long : {T : Type 0} → Option (Socket T) → Bool
 is_long None = false
-is_long (Some s) = nat_le 65536 s.input.progress.size
+is_long (Some s) = nat_le 65536 s.input.progress.size && nat_le s.input.progress.left 65536
 
--- a round goes on behind the next turn: somebody has it, whose request is not long
-abbrev pub goes_on : {T : Type 0} → List (Socket T) → Option ℕ → Bool
-goes_on sockets None = false
-goes_on sockets (Some n) = not (is_long (socket_of n sockets))
+-- A connection stands in line behind the others of its holder, in the long lane or in the short one.
+abbrev pub in_lane : Bool → ℕ → ℕ → Lanes → Lanes
+in_lane is_long holder n lanes =
+    if is_long then record lanes { long = joined holder n lanes.long } else record lanes { short = joined holder n lanes.short }
+
+-- A round is one turn of the long lane: somebody is in line there, and nobody in the short lane, or that had two rounds since.
+abbrev pub takes_long : Lanes → Bool
+takes_long lanes = not (nat_eq (length lanes.long) 0) && (nat_eq (length lanes.short) 0 || nat_le 2 lanes.short_rounds)
+
+-- how many rounds of the short lane there were behind it since one of the long lane was: 2 at most
+abbrev pub rounds_behind : Lanes → ℕ
+rounds_behind lanes = if takes_long lanes then 0 else min (lanes.short_rounds + 1) 2
+
+-- a lane behind so many turns
+abbrev pub behind : ℕ → Lines → Lines
+behind zero lane = lane
+behind (suc n) lane = behind n (after_next lane)
+
+-- The lanes behind a round: one left the long lane, or the next 16 the short one.
+abbrev pub behind_round : Lanes → Lanes
+behind_round lanes =
+    if takes_long lanes then record lanes { long = after_next lanes.long; short_rounds = rounds_behind lanes }
+    else record lanes { short = behind 16 lanes.short; short_rounds = rounds_behind lanes }
+
+-- how many bytes the request has that a socket has begun
+abbrev pub begun_by : {T : Type 0} → Option (Socket T) → ℕ
+begun_by None = 0
+begun_by (Some s) = s.input.progress.size
+
+-- how many of so many bytes are left behind the next turn of the long lane: none where nobody has it
+abbrev pub room_behind : {T : Type 0} → ℕ → Option ℕ → List (Socket T) → ℕ
+room_behind room None sockets = 0
+room_behind room (Some n) sockets = room - begun_by (socket_of n sockets)
 
 abbrev pub socket_at : {T : Type 0} → Option ℕ → List (Socket T) → Option (Socket T)
 socket_at None sockets = None

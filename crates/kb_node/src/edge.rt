@@ -1,16 +1,19 @@
 //! A broker on a network. A turn waits for no peer.
 
-ghost use Rattle.std.specs.Prelude.{◌≡◌, ◌≤◌, ◌<◌, ◌*◌, ◌^◌, Err, None, Some, IfOk, IfErr, IfSome, OnErr, OnOk};
+ghost use Rattle.std.specs.Prelude.{◌≡◌, ◌≤◌, ◌<◌, ◌*◌, ◌^◌, [], Err, None, Some, IfOk, IfErr, IfSome, OnErr, OnOk};
 ghost use Rattle.std.specs.Prelude.{option_map, replicate, slice_get, vec_len};
-ghost use Rattle.kb_isolation_spec.specs.Machine.{Moment, Opens};
+ghost use Rattle.kb_isolation_spec.specs.Machine.{Moment};
 ghost use Rattle.kb_node.specs.Cores.{cores, seen};
 ghost use Rattle.kb_node.specs.Moves.{Goes, IsJoined, IsRunOf, IsTurn};
 ghost use Rattle.kb_node.specs.Numbers.{IsInOrder, socket_of};
+ghost use Rattle.kb_node.specs.Seats.{AreSeated, AreSeated-prop};
+ghost use Rattle.kb_node.specs.SocketShares.{IsGiven};
 ghost use Rattle.kb_node.specs.Traffic.{Happens};
 ghost use Rattle.kb_node.specs.Waiting.{socket_at};
 
 mod beside;
 mod closing;
+mod rounds;
 mod serving;
 mod waiting;
 
@@ -19,8 +22,10 @@ use crate::committed::Committed;
 use crate::deadlines::Strangers;
 use crate::delays::Delays;
 use crate::doors::{BindCause, DoorFault, Doors};
+use crate::lanes::Lanes;
 use crate::limits::Limits;
 use crate::news::News;
+use crate::reader_waits::ReaderWaits;
 use crate::replies::shares_of;
 use crate::silences::Silences;
 use crate::socket::Socket;
@@ -31,7 +36,7 @@ use crate::turn::Turn;
 use crate::watch::Watch;
 use kb_broker::Broker;
 use kb_log::{ListLog, PartitionLog};
-use kb_shares::{Ledger, Turns};
+use kb_shares::Ledger;
 use kb_store::{Store, StoreFault};
 use std::alloc::{AllocError, Global};
 use std::io;
@@ -115,6 +120,8 @@ pub struct Edge<R: Net, S: Store, L: PartitionLog = ListLog> {
     times: Times,
     /// What was counted of each tenant, by its place, where that is counted.
     traffic: Vec<TenantTraffic>,
+    /// How each tenant waits for its readers, by its place, where that is counted.
+    reader_waits: Vec<ReaderWaits>,
     /// Which sockets are ready. With none all are looked at in each turn.
     watch: Option<Watch>,
     accepts: Accepts,
@@ -122,8 +129,8 @@ pub struct Edge<R: Net, S: Store, L: PartitionLog = ListLog> {
     is_beside_ready: bool,
     /// The connections whose sockets can go on, each once, but for those in line.
     ready: Vec<u64>,
-    /// Those of them that are in line for their turn, by holder.
-    line: Turns,
+    /// Those of them that are in line for their turn, by holder, those with long requests apart.
+    lanes: Lanes,
     /// Those of them that were asked in this turn, and are told.
     asked: Vec<u64>,
     /// An empty list, to be filled while another is gone through.
@@ -135,6 +142,7 @@ pub struct Edge<R: Net, S: Store, L: PartitionLog = ListLog> {
     /// Whether its moment left something due, as it does with what was refused.
     is_left_due: bool,
     ghost within: { vec_len sockets ≤ limit },
+    ghost seated: { AreSeated host shares sockets.items } by { AreSeated-prop host shares sockets.items },
 }
 
 impl<R: Net, S: Store, L: PartitionLog + Drop> Edge<R, S, L> {
@@ -211,7 +219,7 @@ impl<R: Net, S: Store, L: PartitionLog + Drop> Edge<R, S, L> {
         let Ok(shares) = SocketShares::new(alloc, u64::from(limits.sockets), &[]) else {
             return Err(refused(DoorFault::Memory, broker));
         };
-        let Ok(line) = Turns::new(alloc, HOLDERS) else {
+        let Ok(lanes) = Lanes::new(alloc, HOLDERS) else {
             return Err(refused(DoorFault::Memory, broker));
         };
         let Ok(replies) = shares_of(alloc, u64::from(limits.output_bytes), 0) else {
@@ -240,11 +248,12 @@ impl<R: Net, S: Store, L: PartitionLog + Drop> Edge<R, S, L> {
                 u64::from(limits.idle_seconds) * 1000,
             ),
             traffic: Vec::new(alloc),
+            reader_waits: Vec::new(alloc),
             watch,
             accepts: Accepts::Ready,
             is_beside_ready: false,
             ready: buffers.ready,
-            line,
+            lanes,
             asked: buffers.asked,
             spare: buffers.spare,
             news: buffers.news,
@@ -256,7 +265,8 @@ impl<R: Net, S: Store, L: PartitionLog + Drop> Edge<R, S, L> {
     /// Sets what tenants may have of the sockets, and of the bytes of replies and of requests, all for the same tenants. Until then each
     /// may have all sockets, and all share the bytes as one.
     pub fn share(&mut self, shares: SocketShares, replies: Ledger, inputs: Ledger)
-        requires { vec_len self.old.sockets ≡ 0 }
+        requires empty { vec_len self.old.sockets ≡ 0 }
+        requires none { shares.sockets ≡ [] }
         ensures shares { self.new.shares ≡ shares }
         ensures replies { self.new.replies ≡ replies }
         ensures inputs { self.new.inputs ≡ inputs }
@@ -292,6 +302,25 @@ impl<R: Net, S: Store, L: PartitionLog + Drop> Edge<R, S, L> {
         ensures { option_map (λ t. t.now) result ≡ slice_get self.now.traffic.items place }
     {
         self.traffic.get(place)
+    }
+
+    /// Counts from now on how so many tenants wait for those that read their replies, by their places. Memory is asked for here alone:
+    /// after an `Err` the edge is as before.
+    pub fn count_reader_waits(&mut self, alloc: Global, tenants: usize) -> Result<(), AllocError>
+        ensures ok { OnOk result (self.new.reader_waits.items ≡ replicate tenants (record { times = 0; bytes = 0 })) }
+        ensures err { OnErr result (self.new ≡ self.old) }
+        ensures host { self.new.host ≡ self.old.host }
+        ensures sockets { self.new.sockets ≡ self.old.sockets }
+    {
+        self.reader_waits = vec![in alloc; ReaderWaits::none(); tenants]?;
+        Ok(())
+    }
+
+    /// What was counted since [`Edge::count_reader_waits`], by the tenants' places.
+    pub fn reader_waits(&self) -> &[ReaderWaits]
+        ensures { result.now ≡ self.now.reader_waits.items }
+    {
+        &self.reader_waits
     }
 
     /// The port that is listened on.
@@ -413,11 +442,19 @@ impl<R: Net, S: Store, L: PartitionLog + Drop> Edge<R, S, L> {
         }
         self.accepts = Accepts::Ready;
         for place in 0..self.sockets.len() {
-            if let Some(socket) = self.sockets.get_mut(place) {
-                socket.hear_any();
-            }
-            self.queue(place);
+            self.hear_at(place);
         }
+    }
+
+    /// The socket at a place may be ready.
+    fn hear_at(&mut self, place: usize)
+        ensures { seen self.new.host self.new.sockets.items ≡ seen self.old.host self.old.sockets.items }
+    {
+        let Some(socket) = self.sockets.get_mut(place) else {
+            return;
+        };
+        socket.hear_any();
+        self.queue(place);
     }
 
     /// Accepts the sockets that wait, at most as many as there may be.
@@ -505,42 +542,17 @@ impl<R: Net, S: Store, L: PartitionLog + Drop> Edge<R, S, L> {
         }
         self.sockets.reserve(1)?;
         self.strangers.admit(connection, self.clock)?;
-        if self.keep(alloc, connection).is_err() {
-            return Err(self.refuse(connection));
+        if self.shares.admit(connection).is_err() {
+            return Err(refuse(&mut self.strangers, &mut self.shares, connection));
+        }
+        if self.host.connect(alloc, connection).is_err() {
+            return Err(refuse(&mut self.strangers, &mut self.shares, connection));
         }
         let mut socket = Socket::new(alloc, connection, peer, stream);
         // there is room for each socket once
         socket.is_queued = self.ready.push(connection).is_ok();
         self.sockets.push_reserved(socket);
         Ok(())
-    }
-
-    /// Opens a connection, and counts its socket.
-    #[tactic(auto, using(crate::proofs::Goes::goes_then, crate::proofs::Goes::goes_none))]
-    fn keep(&mut self, alloc: Global, connection: u64) -> Result<(), AllocError>
-        requires last { self.old.host.broker.state.last < connection }
-        requires new { self.old.host.tried < connection }
-        ensures opened { OnOk result (Happens S.disk (Opens connection) self.old.host.broker self.new.host.broker) }
-        ensures tried { OnOk result (self.new.host.tried ≡ connection) }
-        ensures goes { Goes S.disk R.Stream.contents R.Stream.remaining (seen self.old.host self.old.sockets.items)
-            (seen self.new.host self.new.sockets.items) }
-        ensures sockets { self.new.sockets ≡ self.old.sockets }
-        ensures limit { self.new.limit ≡ self.old.limit }
-    {
-        if self.shares.admit(connection).is_err() {
-            return Err(AllocError);
-        }
-        self.host.connect(alloc, connection)
-    }
-
-    /// A connection could not be kept for want of memory.
-    fn refuse(&mut self, connection: u64) -> io::Error
-        ensures host { self.new.host ≡ self.old.host }
-        ensures sockets { self.new.sockets ≡ self.old.sockets }
-    {
-        self.strangers.forget(connection);
-        self.shares.release(connection);
-        io::Error::from(ErrorKind::OutOfMemory)
     }
 
     /// The place of a connection's socket, if one carries it.
@@ -564,7 +576,8 @@ impl<R: Net, S: Store, L: PartitionLog + Drop> Edge<R, S, L> {
 
     /// The socket at a place can go on.
     fn queue(&mut self, place: usize)
-        ensures { seen self.new.host self.new.sockets.items ≡ seen self.old.host self.old.sockets.items }
+        ensures seen { seen self.new.host self.new.sockets.items ≡ seen self.old.host self.old.sockets.items }
+        ensures lanes { self.new.lanes ≡ self.old.lanes }
     {
         let Some(socket) = self.sockets.get_mut(place) else {
             return;
@@ -595,6 +608,15 @@ impl<R: Net, S: Store, L: PartitionLog + Drop> Edge<R, S, L> {
             }
         }
     }
+}
+
+/// A connection could not be kept for want of memory, and is counted for nobody.
+fn refuse(strangers: &mut Strangers, shares: &mut SocketShares, connection: u64) -> io::Error
+    ensures { IsGiven connection None shares.old shares.new }
+{
+    strangers.forget(connection);
+    shares.release(connection);
+    io::Error::from(ErrorKind::OutOfMemory)
 }
 
 /// An edge that was not bound.

@@ -124,6 +124,13 @@ impl Input {
         self.progress.size
     }
 
+    /// How many bytes of that request are still to be handed on.
+    pub fn left(&self) -> usize
+        ensures { result ≡ self.now.progress.left }
+    {
+        self.progress.left
+    }
+
     /// How many bytes the request in front has of which nothing was handed on: 0 where one is begun, or its size is not there.
     pub fn awaited(&self) -> usize
         ensures { result ≡ awaited self.now.progress.left (drop self.now.handed self.now.bytes.items) }

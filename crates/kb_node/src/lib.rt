@@ -16,9 +16,11 @@ mod edge;
 mod fault;
 mod firsts;
 mod input;
+mod lanes;
 mod limits;
 mod news;
 mod promises;
+mod reader_waits;
 mod replies;
 mod script;
 mod silences;
@@ -44,6 +46,7 @@ pub use news::{LoginAttempt, News};
 pub use promises::{
     a_turn_goes_on_with_the_run, sockets_stand_by_number, turns_are_a_run, turns_keep_tenants_apart,
 };
+pub use reader_waits::ReaderWaits;
 pub use replies::{input_shares, reply_shares};
 pub use script::{play_script, play_script_on, play_script_with};
 pub use socket_shares::SocketShares;

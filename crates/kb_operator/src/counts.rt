@@ -8,6 +8,15 @@ pub struct TenantRefusals {
     pub by_disk: u64,
 }
 
+/// How a tenant waits for those that read its replies.
+#[derive(Clone, Copy, Debug, PartialEq, Eq)]
+pub struct Unread {
+    /// How often a socket of it was not asked, since too many bytes of its replies were not read.
+    pub waits: u64,
+    /// How many bytes these were the last time.
+    pub bytes: u64,
+}
+
 /// What a broker counts of what it refuses. Tenants are named by their places in the order of their names.
 pub trait RefusalCounts {
     /// Whether it refused nothing yet.
@@ -18,6 +27,9 @@ pub trait RefusalCounts {
 
     /// How many sockets it closed since the tenant at a place may have no more.
     fn sockets_of_tenant(&self, place: usize) -> u64;
+
+    /// How the tenant at a place waits for those that read its replies.
+    fn unread_of_tenant(&self, place: usize) -> Unread;
 
     /// How many requests it refused before a login.
     fn before_login(&self) -> u64;

@@ -5,6 +5,7 @@ ghost use Rattle.std.specs.Prelude.{◌≤◌, ◌^◌};
 mod logins;
 mod refusals;
 mod shut;
+mod unread;
 
 use crate::bucket::Bucket;
 use crate::counts::RefusalCounts;
@@ -15,7 +16,7 @@ use kb_settings::{Settings, Sync, tenant_names};
 use kb_start::{Deleted, StrayCounts, Total};
 use std::alloc::{AllocError, Global};
 
-/// A tenant, and how many of its refusals were told, and of its sockets that were closed.
+/// A tenant, and how much was told of its refusals, of its sockets that were closed, and of its waits.
 #[derive(Drop)]
 struct Tenant {
     name: String,
@@ -27,6 +28,8 @@ struct Tenant {
     /// Those of them that the disk refused.
     by_disk: Tally,
     sockets: Tally,
+    /// How often it waited for those that read its replies.
+    waits: Tally,
 }
 
 /// A user who may log in.
@@ -287,6 +290,7 @@ impl Journal {
             self.lines.catch_up(now);
             self.tell_turned_away(alloc, now);
             self.tell_closed(alloc, now, broker);
+            self.tell_unread(alloc, now, broker);
             self.tell_refusals(alloc, now, broker);
         }
     }
@@ -360,6 +364,7 @@ fn tenants_of(alloc: Global, settings: &Settings) -> Result<Vec<Tenant>, AllocEr
             refusals: Tally::default(),
             by_disk: Tally::default(),
             sockets: Tally::default(),
+            waits: Tally::default(),
         })?;
     }
     Ok(tenants)

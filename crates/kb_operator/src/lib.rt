@@ -32,7 +32,7 @@ mod sums;
 
 pub use address::{address_text, addresses_text, listen_fault};
 pub use changed::last_change;
-pub use counts::{RefusalCounts, TenantRefusals};
+pub use counts::{RefusalCounts, TenantRefusals, Unread};
 pub use deleted::find_deleted;
 pub use disk::{disk_text, tell_disk};
 pub use fault::OperatorFault;

@@ -37,6 +37,8 @@ pub fn listen<S: Store + Drop, L: PartitionLog + Drop>(
     match Edge::watching(rt, alloc, broker, &address, Limits::of(settings)) {
         Ok(mut edge) => {
             edge.share(shares, replies, inputs);
+            let tenants = edge.broker().tenants_len();
+            edge.count_reader_waits(alloc, tenants)?;
             Ok(edge)
         }
         Err(refused) => Err(not_bound(alloc, &address, &refused)),

@@ -120,7 +120,7 @@ fn play_on<S: Store + Drop, L: PartitionLog + Drop, R: BufRead, W: Write>(
 {
     let alloc = rt.alloc();
     let played = play_script_on(alloc, &mut broker, reader, writer);
-    journal.tell_refusals(alloc, now(rt), &CountsOf(&broker, &[]));
+    journal.tell_refusals(alloc, now(rt), &CountsOf(&broker, &[], &[]));
     match played {
         // What was refused, the store may have refused.
         Err(NodeFault::Script(ScriptFault::Memory)) if broker.into_store().failures() > 0 => {

@@ -7,15 +7,19 @@ use crate::causes::text_of;
 use kb_broker::Broker;
 use kb_isolation_spec::Login;
 use kb_log::PartitionLog;
-use kb_node::{Edge, Store, Turn};
-use kb_operator::{Closed, Journal, RefusalCounts, TenantRefusals};
+use kb_node::{Edge, ReaderWaits, Store, Turn};
+use kb_operator::{Closed, Journal, RefusalCounts, TenantRefusals, Unread};
 use kb_server_log::{Tick, now};
 use kb_tenants::TenantView;
 use std::net::Net;
 
-/// What a broker counts of what it refuses, and an edge of the sockets that it closed, by tenant.
+/// What a broker counts of what it refuses, and an edge of the sockets that it closed, and of waits for readers, by tenant.
 #[derive(Drop)]
-pub struct CountsOf<'a, S: Store, L: PartitionLog + Drop>(pub &'a Broker<S, L>, pub &'a [u64]);
+pub struct CountsOf<'a, S: Store, L: PartitionLog + Drop>(
+    pub &'a Broker<S, L>,
+    pub &'a [u64],
+    pub &'a [ReaderWaits],
+);
 
 impl<'a, S: Store, L: PartitionLog + Drop> RefusalCounts for CountsOf<'a, S, L> {
     fn is_calm(&self) -> bool {
@@ -28,6 +32,16 @@ impl<'a, S: Store, L: PartitionLog + Drop> RefusalCounts for CountsOf<'a, S, L> 
 
     fn sockets_of_tenant(&self, place: usize) -> u64 {
         self.1.get(place).copied().unwrap_or(0)
+    }
+
+    fn unread_of_tenant(&self, place: usize) -> Unread {
+        match self.2.get(place) {
+            Some(waits) => Unread {
+                waits: waits.times,
+                bytes: waits.bytes,
+            },
+            None => Unread { waits: 0, bytes: 0 },
+        }
     }
 
     fn before_login(&self) -> u64 {
@@ -85,7 +99,7 @@ pub fn tell_turn<R: Net, S: Store, L: PartitionLog + Drop>(
     if let Some(notice) = tick.told {
         journal.tell_clock(alloc, now, notice);
     }
-    let counts = CountsOf(edge.broker(), edge.refused_sockets());
+    let counts = CountsOf(edge.broker(), edge.refused_sockets(), edge.reader_waits());
     journal.count_closed(Closed {
         strangers: turn.strangers,
         unread: turn.unread,

@@ -1,10 +1,13 @@
 //! Which sockets an edge closes.
 
-ghost use Rattle.std.specs.Prelude.{◌≡◌, ◌<◌, None, vec_len};
+ghost use Rattle.std.specs.Prelude.{◌≡◌, ◌<◌, true, None, IfSome, slice_get, slice_set, vec_len};
 ghost use Rattle.kb_node.specs.Cores.{seen};
 ghost use Rattle.kb_node.specs.Moves.{Goes};
 ghost use Rattle.std.specs.Bool.{OnTrue};
-ghost use Rattle.kb_shares.specs.Ledger.{let_go};
+ghost use Rattle.kb_shares.specs.Ledger.{amount_of, let_go};
+ghost use Rattle.kb_shares.specs.Shares.{has_room};
+ghost use Rattle.kb_node.specs.Replies.{place_of};
+ghost use Rattle.kb_node.specs.ReaderWaits.{waited};
 ghost use Rattle.kb_isolation_spec.specs.Calls.{login_of};
 ghost use Rattle.kb_node.specs.SocketShares.{count_of, holder_of, released};
 ghost use Rattle.kb_node.specs.Waiting.{user_in};
@@ -104,10 +107,13 @@ impl<R: Net, S: Store, L: PartitionLog + Drop> Edge<R, S, L> {
         }
     }
 
-    /// The same for the one of these sockets at a place, where it may not be asked.
+    /// The same for the one of these sockets at a place, where it may not be asked. That its holder waits for its readers is counted.
     #[tactic(auto, using(crate::proofs::Goes::goes_then, crate::proofs::Goes::goes_none))]
     fn make_way_for(&mut self, alloc: Global, at: usize, turn: &mut Turn)
-        ensures { Goes S.disk R.Stream.contents R.Stream.remaining (seen self.old.host self.old.sockets.items)
+        // Nothing is counted where it may be asked.
+        ensures asked { IfSome (slice_get self.old.ready.items at) (λ n. has_room (place_of n self.old.shares) 1
+            self.old.replies.pool ≡ true → self.new.reader_waits ≡ self.old.reader_waits) }
+        ensures goes { Goes S.disk R.Stream.contents R.Stream.remaining (seen self.old.host self.old.sockets.items)
             (seen self.new.host self.new.sockets.items) }
     {
         let Some(number) = self.ready.get(at).copied() else {
@@ -117,7 +123,20 @@ impl<R: Net, S: Store, L: PartitionLog + Drop> Edge<R, S, L> {
             return;
         }
         let holder = self.shares.holder(number);
+        self.note_reader_wait(holder);
         self.make_way(alloc, holder, turn);
+    }
+
+    /// Counts that a socket of a holder is not asked, with the bytes that are counted of its holder's replies.
+    fn note_reader_wait(&mut self, holder: usize)
+        ensures seen { seen self.new.host self.new.sockets.items ≡ seen self.old.host self.old.sockets.items }
+        ensures counted { IfSome (slice_get self.old.reader_waits.items holder) (λ w. self.new.reader_waits.items
+            ≡ slice_set self.old.reader_waits.items holder (waited (amount_of holder self.old.replies.bookings) w)) }
+    {
+        let bytes = self.replies.used(holder);
+        if let Some(waits) = self.reader_waits.get_mut(holder) {
+            waits.count(bytes);
+        }
     }
 
     /// Closes those sockets of a holder that take nothing of their replies for longest, until it may ask for more.
@@ -351,6 +370,7 @@ impl<R: Net, S: Store, L: PartitionLog + Drop> Edge<R, S, L> {
     /// Closes the socket of a connection.
     #[tactic(auto, using(crate::proofs::Goes::goes_then, crate::proofs::Goes::goes_none))]
     pub(super) fn close(&mut self, alloc: Global, number: u64, turn: &mut Turn)
+        ensures lanes { self.new.lanes ≡ self.old.lanes }
         ensures commits { self.new.host.commits ≡ self.old.host.commits }
         ensures store { self.new.host.broker.store ≡ self.old.host.broker.store }
         ensures released { holder_of number self.new.shares.sockets ≡ None }
@@ -360,11 +380,12 @@ impl<R: Net, S: Store, L: PartitionLog + Drop> Edge<R, S, L> {
         ensures goes { Goes S.disk R.Stream.contents R.Stream.remaining (seen self.old.host self.old.sockets.items)
             (seen self.new.host self.new.sockets.items) }
     {
+        let place = self.place_of(number);
         self.strangers.forget(number);
         self.shares.release(number);
         self.replies.release(number);
         self.inputs.release(number);
-        if let Some(place) = self.place_of(number)
+        if let Some(place) = place
             && let Some(socket) = self.sockets.get_mut(place)
             && !socket.is_ended()
         {

@@ -1,21 +1,24 @@
 //! How an edge serves its sockets.
 
-ghost use Rattle.std.specs.Prelude.{◌≡◌, ◌≢◌, ◌-◌, min, true, false, None, Some, IfErr, IfSome, OnOk, slice_get, slice_set, vec_len};
+ghost use Rattle.std.specs.Prelude.{◌≡◌, ◌-◌, true, false, None, Some, IfErr, IfSome, OnOk, slice_get, slice_set, vec_len};
 ghost use Rattle.kb_node.specs.Moves.{Goes};
 ghost use Rattle.kb_node.specs.Cores.{seen};
 ghost use Rattle.kb_node.specs.Commits.{may_tell, tells_at_once};
 ghost use Rattle.kb_shares.specs.Ledger.{set_to};
 ghost use Rattle.kb_shares.specs.Shares.{has_room};
-ghost use Rattle.kb_shares.specs.Turns.{joined, next};
-ghost use Rattle.kb_node.specs.Numbers.{IsInOrder};
+ghost use Rattle.kb_shares.specs.Turns.{after_next, next};
+ghost use Rattle.kb_node.specs.Numbers.{IsInOrder, socket_of};
+ghost use Rattle.kb_node.specs.Seats.{IsLeft};
 ghost use Rattle.kb_node.specs.TenantTraffic.{with_traffic};
 ghost use Rattle.kb_node.specs.Replies.{kept_for, place_of};
-ghost use Rattle.kb_node.specs.Waiting.{goes_on, is_long, socket_at};
+ghost use Rattle.kb_node.specs.Waiting.{begun_by, behind, room_behind};
 
 use crate::committed::Committed;
+use crate::edge::Edge;
 use crate::edge::closing::note_reply;
-use crate::edge::{Edge, HOLDERS};
 use crate::socket::{Next, Socket};
+use crate::socket_shares::SocketShares;
+use crate::tenant_traffic::TenantTraffic;
 use crate::times::Times;
 use crate::turn::Turn;
 use kb_log::PartitionLog;
@@ -24,19 +27,15 @@ use std::alloc::{AllocError, Global};
 use std::io::{Read, Write};
 use std::mem;
 use std::net::Net;
-use std::time::Duration;
 
-/// How many rounds a turn has at most where replies go out at once.
-const ROUNDS: usize = 64;
+/// How many rounds a turn has at most where replies go out at once. Behind it others are accepted, and what is due is done.
+const ROUNDS: usize = 16;
 
-/// How many sockets are served in a round at most, a request each. Behind it the system is asked who else can go on.
-const ROUND: usize = 16;
-
-/// A request of so many bytes is long: it is the last of its round.
-const LONG: usize = 65_536;
-
-/// How many sockets are asked at most in a turn whose replies wait for a commit.
+/// How many sockets with little to be done are asked at most in a turn whose replies wait for a commit.
 const TOGETHER: usize = 256;
+
+/// Behind them sockets with long requests are asked in such a turn until their requests have so many bytes together.
+const LONG_TOGETHER: u64 = 524_288;
 
 /// What was seen of a socket, and of a turn, before the socket was served.
 #[derive(Clone, Copy)]
@@ -73,52 +72,10 @@ impl<R: Net, S: Store, L: PartitionLog + Drop> Edge<R, S, L> {
     {
         self.line_up(alloc, true);
         for _ in 0..ROUNDS {
-            if self.line.is_empty() {
+            if self.lanes.is_empty() {
                 break;
             }
             self.serve_round(alloc, turn);
-        }
-    }
-
-    /// A round of these. Then those stand in line, too, who can go on now.
-    #[tactic(auto, using(crate::proofs::Goes::goes_then, crate::proofs::Goes::goes_none))]
-    fn serve_round(&mut self, alloc: Global, turn: &mut Turn)
-        requires { tells_at_once self.old.host.commits ≡ true }
-        ensures commits { tells_at_once self.new.host.commits ≡ true }
-        ensures goes { Goes S.disk R.Stream.contents R.Stream.remaining (seen self.old.host self.old.sockets.items)
-            (seen self.new.host self.new.sockets.items) }
-    {
-        self.serve(alloc, turn);
-        self.hear_speakers();
-        self.listen(Duration::ZERO);
-        self.line_up(alloc, false);
-    }
-
-    /// The sockets that can go on stand in line for their turns, all of them or those alone that may be asked. Where there is no memory for
-    /// that, they go on later.
-    fn line_up(&mut self, alloc: Global, is_for_all: bool)
-        ensures { seen self.new.host self.new.sockets.items ≡ seen self.old.host self.old.sockets.items }
-    {
-        let spare = mem::replace(&mut self.spare, Vec::new(alloc));
-        let mut round = mem::replace(&mut self.ready, spare);
-        for number in &round {
-            self.line_up_one(*number, is_for_all);
-        }
-        round.clear();
-        self.spare = round;
-    }
-
-    /// The socket of a connection stands in line behind the others of its holder, or stays among those that can go on.
-    fn line_up_one(&mut self, number: u64, is_for_all: bool)
-        ensures seen { seen self.new.host self.new.sockets.items ≡ seen self.old.host self.old.sockets.items }
-        ensures waits { self.new.line ≢ self.old.line
-            → self.new.line ≡ joined (min (place_of number self.old.shares) 256) number self.old.line }
-    {
-        let holder = self.shares.holder(number).min(HOLDERS - 1);
-        let is_in_line = (is_for_all || self.can_ask(number)) && self.line.push(holder, number);
-        if !is_in_line {
-            // there is room for each socket once
-            let _ = self.ready.push(number);
         }
     }
 
@@ -144,58 +101,12 @@ impl<R: Net, S: Store, L: PartitionLog + Drop> Edge<R, S, L> {
         Ok(())
     }
 
-    /// The next sockets in line are served once, a round of them. It ends behind one whose request is long, so that whoever became ready
-    /// meanwhile waits for one such request at most.
-    #[tactic(auto, using(crate::proofs::Goes::goes_then, crate::proofs::Goes::goes_none))]
-    fn serve(&mut self, alloc: Global, turn: &mut Turn)
-        requires { tells_at_once self.old.host.commits ≡ true }
-        ensures commits { tells_at_once self.new.host.commits ≡ true }
-        ensures goes { Goes S.disk R.Stream.contents R.Stream.remaining (seen self.old.host self.old.sockets.items)
-            (seen self.new.host self.new.sockets.items) }
-    {
-        for _ in 0..ROUND {
-            if !self.serve_next(alloc, turn) {
-                break;
-            }
-        }
-    }
-
-    /// Serves the next socket in line once, and answers whether the round goes on behind it: there was one, whose request is not long.
-    #[tactic(auto, using(crate::proofs::Goes::goes_then, crate::proofs::Goes::goes_none))]
-    fn serve_next(&mut self, alloc: Global, turn: &mut Turn) -> bool
-        requires { tells_at_once self.old.host.commits ≡ true }
-        ensures commits { tells_at_once self.new.host.commits ≡ true }
-        ensures goes_on { IsInOrder (seen self.old.host self.old.sockets.items)
-            → result ≡ goes_on self.old.sockets.items (next self.old.line) }
-        ensures goes { Goes S.disk R.Stream.contents R.Stream.remaining (seen self.old.host self.old.sockets.items)
-            (seen self.new.host self.new.sockets.items) }
-    {
-        let Some(number) = self.line.next() else {
-            return false;
-        };
-        let is_long = self.is_long(self.place_of(number));
-        self.serve_one(alloc, number, turn);
-        !is_long
-    }
-
-    /// Whether the request is long that the socket at a place has begun, where there is one.
-    fn is_long(&self, place: Option<usize>) -> bool
-        ensures { result ≡ is_long (socket_at place self.now.sockets.items) }
-    {
-        let Some(place) = place else {
-            return false;
-        };
-        match self.sockets.get(place) {
-            Some(socket) => socket.begun() >= LONG,
-            None => false,
-        }
-    }
-
     /// Serves the socket of a connection once.
     #[tactic(auto, using(crate::proofs::Goes::goes_then, crate::proofs::Goes::goes_none, crate::proofs::Goes::goes_carried))]
-    fn serve_one(&mut self, alloc: Global, number: u64, turn: &mut Turn)
+    pub(super) fn serve_one(&mut self, alloc: Global, number: u64, turn: &mut Turn)
         requires { tells_at_once self.old.host.commits ≡ true }
         ensures commits { tells_at_once self.new.host.commits ≡ true }
+        ensures lanes { self.new.lanes ≡ self.old.lanes }
         // Nothing is handed on where its holder has too much that is unread.
         ensures unasked { has_room (place_of number self.old.shares) 1 self.old.replies.pool ≡ false
             → self.new.host.broker.store ≡ self.old.host.broker.store }
@@ -224,29 +135,98 @@ impl<R: Net, S: Store, L: PartitionLog + Drop> Edge<R, S, L> {
             &mut self.news,
             turn,
         );
-        self.count(place, before, turn);
+        count(&mut self.traffic, socket, &self.shares, before, turn);
+        leave(socket, &mut self.shares);
         self.note(alloc, place, before, next, turn);
     }
 
-    /// Hands on a request of the next sockets in line, while so little of its holder is awaited that it may ask for more. All are told,
-    /// and those that were not asked come first in the next turn.
+    /// Hands on a request of the next sockets in line, while so little of its holder is awaited that it may ask for more: first of those in
+    /// the short lane, and then of some in the long one. All are told, and those that were not asked come first in the next turn.
     #[tactic(auto, using(crate::proofs::Goes::goes_then, crate::proofs::Goes::goes_none))]
     fn hand_on(&mut self, alloc: Global, turn: &mut Turn)
         ensures { Goes S.disk R.Stream.contents R.Stream.remaining (seen self.old.host self.old.sockets.items)
             (seen self.new.host self.new.sockets.items) }
     {
         self.line_up(alloc, true);
+        self.hand_on_short(alloc, turn);
+        self.hand_on_long(alloc, turn);
+    }
+
+    /// The same for those of the short lane, as many as a turn has at most.
+    #[tactic(auto, using(crate::proofs::Goes::goes_then, crate::proofs::Goes::goes_none))]
+    fn hand_on_short(&mut self, alloc: Global, turn: &mut Turn)
+        ensures lanes { self.new.lanes ≡ record self.old.lanes { short = behind 256 self.old.lanes.short } }
+        ensures goes { Goes S.disk R.Stream.contents R.Stream.remaining (seen self.old.host self.old.sockets.items)
+            (seen self.new.host self.new.sockets.items) }
+    {
         for _ in 0..TOGETHER {
-            let Some(number) = self.line.next() else {
+            if self.lanes.has_no_short() {
                 break;
-            };
+            }
+            self.hand_on_first(alloc, turn);
+        }
+    }
+
+    /// The same for the one of the short lane whose turn it is.
+    #[tactic(auto, using(crate::proofs::Goes::goes_then, crate::proofs::Goes::goes_none))]
+    fn hand_on_first(&mut self, alloc: Global, turn: &mut Turn)
+        ensures lanes { self.new.lanes ≡ record self.old.lanes { short = after_next self.old.lanes.short } }
+        ensures goes { Goes S.disk R.Stream.contents R.Stream.remaining (seen self.old.host self.old.sockets.items)
+            (seen self.new.host self.new.sockets.items) }
+    {
+        if let Some(number) = self.lanes.next_short() {
             self.hand_on_next(alloc, number, turn);
+        }
+    }
+
+    /// The same for those of the long lane, until their requests have too many bytes together.
+    #[tactic(auto, using(crate::proofs::Goes::goes_then, crate::proofs::Goes::goes_none))]
+    fn hand_on_long(&mut self, alloc: Global, turn: &mut Turn)
+        ensures short { self.new.lanes.short ≡ self.old.lanes.short }
+        ensures goes { Goes S.disk R.Stream.contents R.Stream.remaining (seen self.old.host self.old.sockets.items)
+            (seen self.new.host self.new.sockets.items) }
+    {
+        let mut room = LONG_TOGETHER;
+        for _ in 0..TOGETHER {
+            room = self.hand_on_within(alloc, room, turn);
+            if room == 0 {
+                break;
+            }
+        }
+    }
+
+    /// The same for the one of the long lane whose turn it is, where so many bytes more may be handed on. It answers how many may then:
+    /// none where nobody was in line.
+    #[tactic(auto, using(crate::proofs::Goes::goes_then, crate::proofs::Goes::goes_none))]
+    fn hand_on_within(&mut self, alloc: Global, room: u64, turn: &mut Turn) -> u64
+        ensures room { IsInOrder (seen self.old.host self.old.sockets.items)
+            → result ≡ room_behind room (next self.old.lanes.long) self.old.sockets.items }
+        ensures lanes { self.new.lanes ≡ record self.old.lanes { long = after_next self.old.lanes.long } }
+        ensures goes { Goes S.disk R.Stream.contents R.Stream.remaining (seen self.old.host self.old.sockets.items)
+            (seen self.new.host self.new.sockets.items) }
+    {
+        let Some(number) = self.lanes.next_long() else {
+            return 0;
+        };
+        let begun = self.begun_on(number);
+        self.hand_on_next(alloc, number, turn);
+        room.saturating_sub(begun)
+    }
+
+    /// How many bytes the request has that the socket of a connection has begun.
+    fn begun_on(&self, number: u64) -> u64
+        ensures { IsInOrder (seen self.now.host self.now.sockets.items) → result ≡ begun_by (socket_of number self.now.sockets.items) }
+    {
+        match self.socket_of(number) {
+            Some(socket) => socket.begun() as u64,
+            None => 0,
         }
     }
 
     /// The same for the one whose turn it is.
     #[tactic(auto, using(crate::proofs::Goes::goes_then, crate::proofs::Goes::goes_none))]
     fn hand_on_next(&mut self, alloc: Global, number: u64, turn: &mut Turn)
+        ensures lanes { self.new.lanes ≡ self.old.lanes }
         // Nothing is handed on where its holder has too much that is unread.
         ensures unasked { has_room (place_of number self.old.shares) 1 self.old.replies.pool ≡ false
             → self.new.host.broker.store ≡ self.old.host.broker.store }
@@ -262,6 +242,7 @@ impl<R: Net, S: Store, L: PartitionLog + Drop> Edge<R, S, L> {
     fn put_in_line(&mut self, number: u64, was_asked: bool)
         ensures asked { was_asked ≡ true → self.new.ready ≡ self.old.ready }
         ensures unasked { was_asked ≡ false → self.new.asked ≡ self.old.asked }
+        ensures lanes { self.new.lanes ≡ self.old.lanes }
         ensures seen { seen self.new.host self.new.sockets.items ≡ seen self.old.host self.old.sockets.items }
     {
         // there is room for each socket once
@@ -276,6 +257,7 @@ impl<R: Net, S: Store, L: PartitionLog + Drop> Edge<R, S, L> {
     #[tactic(auto, using(crate::proofs::Goes::goes_then, crate::proofs::Goes::goes_none, crate::proofs::Goes::goes_carried))]
     fn hand_on_one(&mut self, alloc: Global, number: u64, may_ask: bool, turn: &mut Turn)
         ensures unasked { may_ask ≡ false → self.new.host.broker.store ≡ self.old.host.broker.store }
+        ensures lanes { self.new.lanes ≡ self.old.lanes }
         ensures goes { Goes S.disk R.Stream.contents R.Stream.remaining (seen self.old.host self.old.sockets.items)
             (seen self.new.host self.new.sockets.items) }
     {
@@ -299,7 +281,7 @@ impl<R: Net, S: Store, L: PartitionLog + Drop> Edge<R, S, L> {
             most,
             turn,
         );
-        self.count(place, before, turn);
+        count(&mut self.traffic, socket, &self.shares, before, turn);
         if !self.note_written(alloc, place, before, turn) {
             return;
         }
@@ -358,41 +340,15 @@ impl<R: Net, S: Store, L: PartitionLog + Drop> Edge<R, S, L> {
         }
         let before = Before::of(socket, turn);
         let next = socket.tell(alloc, &mut self.host, &mut self.news, turn);
-        self.count(place, before, turn);
+        count(&mut self.traffic, socket, &self.shares, before, turn);
+        leave(socket, &mut self.shares);
         self.note(alloc, place, before, next, turn);
-    }
-
-    /// Counts for its tenant what was read and written of the socket at a place since it was served, and its request where the API key of
-    /// one came. One that was not told before that it has logged in is counted for nobody.
-    fn count(&mut self, place: usize, before: Before, turn: &Turn)
-        ensures seen { seen self.new.host self.new.sockets.items ≡ seen self.old.host self.old.sockets.items }
-        ensures stranger { before.is_stranger ≡ true → self.new.traffic ≡ self.old.traffic }
-        ensures counted { before.is_stranger ≡ false → IfSome (slice_get self.old.sockets.items place)
-            (λ s. let holder = place_of s.connection self.old.shares in IfSome (slice_get self.old.traffic.items holder)
-            (λ t. self.new.traffic.items ≡ slice_set self.old.traffic.items holder
-            (with_traffic s.heading.key (turn.now.read - before.read) (turn.now.written - before.written) t))) }
-    {
-        let Some(socket) = self.sockets.get_mut(place) else {
-            return;
-        };
-        let key = socket.take_key();
-        if before.is_stranger {
-            return;
-        }
-        let holder = self.shares.holder(socket.connection());
-        let Some(traffic) = self.traffic.get_mut(holder) else {
-            return;
-        };
-        if let Some(key) = key {
-            traffic.count_request(key);
-        }
-        let read = turn.read.saturating_sub(before.read);
-        traffic.count_bytes(read, turn.written.saturating_sub(before.written));
     }
 
     /// Notes what became of the socket at a place, which was served: whether its login failed, and whether it can go on.
     #[tactic(auto, using(crate::proofs::Goes::goes_then, crate::proofs::Goes::goes_none))]
     fn note(&mut self, alloc: Global, place: usize, before: Before, next: Next, turn: &mut Turn)
+        ensures lanes { self.new.lanes ≡ self.old.lanes }
         ensures commits { self.new.host.commits ≡ self.old.host.commits }
         ensures store { self.new.host.broker.store ≡ self.old.host.broker.store }
         ensures goes { Goes S.disk R.Stream.contents R.Stream.remaining (seen self.old.host self.old.sockets.items)
@@ -413,7 +369,8 @@ impl<R: Net, S: Store, L: PartitionLog + Drop> Edge<R, S, L> {
 
     /// The socket at a place can go on, where it waits for nothing.
     fn queue_next(&mut self, place: usize, next: Next)
-        ensures { seen self.new.host self.new.sockets.items ≡ seen self.old.host self.old.sockets.items }
+        ensures seen { seen self.new.host self.new.sockets.items ≡ seen self.old.host self.old.sockets.items }
+        ensures lanes { self.new.lanes ≡ self.old.lanes }
     {
         if next == Next::Turn {
             self.queue(place);
@@ -422,7 +379,8 @@ impl<R: Net, S: Store, L: PartitionLog + Drop> Edge<R, S, L> {
 
     /// Notes whether the socket at a place has logged in or ended.
     fn note_served(&mut self, place: usize, before: Before)
-        ensures { seen self.new.host self.new.sockets.items ≡ seen self.old.host self.old.sockets.items }
+        ensures seen { seen self.new.host self.new.sockets.items ≡ seen self.old.host self.old.sockets.items }
+        ensures lanes { self.new.lanes ≡ self.old.lanes }
     {
         let Some(socket) = self.sockets.get_mut(place) else {
             return;
@@ -432,7 +390,6 @@ impl<R: Net, S: Store, L: PartitionLog + Drop> Edge<R, S, L> {
             self.strangers.forget(socket.connection());
         }
         if socket.is_ended() {
-            self.shares.release(socket.connection());
             self.replies.release(socket.connection());
             self.times
                 .forget(socket.connection(), socket.begun, socket.looked);
@@ -447,6 +404,7 @@ impl<R: Net, S: Store, L: PartitionLog + Drop> Edge<R, S, L> {
     /// and it is closed.
     #[tactic(auto, using(crate::proofs::Goes::goes_then, crate::proofs::Goes::goes_none))]
     fn note_denied(&mut self, alloc: Global, place: usize, turn: &mut Turn) -> bool
+        ensures lanes { self.new.lanes ≡ self.old.lanes }
         ensures commits { self.new.host.commits ≡ self.old.host.commits }
         ensures store { self.new.host.broker.store ≡ self.old.host.broker.store }
         ensures goes { Goes S.disk R.Stream.contents R.Stream.remaining (seen self.old.host self.old.sockets.items)
@@ -471,6 +429,7 @@ impl<R: Net, S: Store, L: PartitionLog + Drop> Edge<R, S, L> {
     /// closed.
     #[tactic(auto, using(crate::proofs::Goes::goes_then, crate::proofs::Goes::goes_none))]
     fn note_written(&mut self, alloc: Global, place: usize, before: Before, turn: &mut Turn) -> bool
+        ensures lanes { self.new.lanes ≡ self.old.lanes }
         ensures commits { self.new.host.commits ≡ self.old.host.commits }
         ensures store { self.new.host.broker.store ≡ self.old.host.broker.store }
         ensures booked { result ≡ true → IfSome (slice_get self.old.sockets.items place) (λ s. self.new.replies
@@ -505,6 +464,7 @@ impl<R: Net, S: Store, L: PartitionLog + Drop> Edge<R, S, L> {
     /// where that cannot be noted, and it is closed.
     #[tactic(auto, using(crate::proofs::Goes::goes_then, crate::proofs::Goes::goes_none))]
     fn note_input(&mut self, alloc: Global, place: usize, before: Before, turn: &mut Turn) -> bool
+        ensures lanes { self.new.lanes ≡ self.old.lanes }
         ensures commits { self.new.host.commits ≡ self.old.host.commits }
         ensures store { self.new.host.broker.store ≡ self.old.host.broker.store }
         ensures booked { result ≡ true → IfSome (slice_get self.old.sockets.items place) (λ s. self.new.inputs
@@ -525,6 +485,44 @@ impl<R: Net, S: Store, L: PartitionLog + Drop> Edge<R, S, L> {
             return false;
         }
         true
+    }
+}
+
+/// Counts for its tenant what was read and written of a socket since it was served, and its request where the API key of one came. One that
+/// was not told before that it has logged in is counted for nobody.
+fn count<T: Read + Write + Drop>(
+    traffic: &mut [TenantTraffic],
+    socket: &mut Socket<T>,
+    shares: &SocketShares,
+    before: Before,
+    turn: &Turn,
+)
+    ensures socket { socket.new ≡ record socket.old { heading = record socket.old.heading { key = None } } }
+    ensures stranger { before.is_stranger ≡ true → traffic.new ≡ traffic.old }
+    ensures counted { before.is_stranger ≡ false → let holder = place_of socket.old.connection shares.now in
+        IfSome (slice_get traffic.old holder) (λ t. traffic.new ≡ slice_set traffic.old holder
+        (with_traffic socket.old.heading.key (turn.now.read - before.read) (turn.now.written - before.written) t)) }
+{
+    let key = socket.take_key();
+    if before.is_stranger {
+        return;
+    }
+    let Some(traffic) = traffic.get_mut(shares.holder(socket.connection())) else {
+        return;
+    };
+    if let Some(key) = key {
+        traffic.count_request(key);
+    }
+    let read = turn.read.saturating_sub(before.read);
+    traffic.count_bytes(read, turn.written.saturating_sub(before.written));
+}
+
+/// A socket whose connection is closed is counted no longer.
+fn leave<T: Read + Write + Drop>(socket: &Socket<T>, shares: &mut SocketShares)
+    ensures { IsLeft socket.now shares.old shares.new }
+{
+    if socket.is_ended() {
+        shares.release(socket.connection());
     }
 }
 

@@ -13,7 +13,7 @@ ghost use Rattle.kb_node.specs.Deadlines.{first_deadline, first_end};
 ghost use Rattle.kb_node.specs.Numbers.{IsInOrder, socket_of};
 ghost use Rattle.kb_node.specs.Replies.{place_of};
 ghost use Rattle.kb_node.specs.Waiting.{first_stall_of, least, quiet_millis, stall_of, wait_millis};
-ghost use Rattle.kb_node.specs.Waiting.{fits, is_busy, may_be_asked};
+ghost use Rattle.kb_node.specs.Waiting.{fits, is_busy, is_nobody, may_be_asked};
 
 use crate::deadlines::patience;
 use crate::doors::DOOR;
@@ -37,10 +37,10 @@ impl<R: Net, S: Store, L: PartitionLog + Drop> Edge<R, S, L> {
     /// bound without a watch does not wait.
     pub fn wait(&mut self)
         ensures seen { seen self.new.host self.new.sockets.items ≡ seen self.old.host self.old.sockets.items }
-        ensures busy { IsInOrder (seen self.old.host self.old.sockets.items) → is_busy self.old.accepts self.old.line (list_any
+        ensures busy { IsInOrder (seen self.old.host self.old.sockets.items) → is_busy self.old.accepts self.old.lanes (list_any
             (may_be_asked self.old.shares self.old.replies.pool self.old.inputs.pool self.old.sockets.items) self.old.ready.items) ≡ true
             → IfSome self.new.watch (λ w. as_nanos w.longest ≡ 0) }
-        ensures quiet { IsInOrder (seen self.old.host self.old.sockets.items) → is_busy self.old.accepts self.old.line (list_any
+        ensures quiet { IsInOrder (seen self.old.host self.old.sockets.items) → is_busy self.old.accepts self.old.lanes (list_any
             (may_be_asked self.old.shares self.old.replies.pool self.old.inputs.pool self.old.sockets.items) self.old.ready.items) ≡ false
             → IfSome self.new.watch (λ w. (next : ℕ)
             × (is_honest S.disk self.old.host.broker → IsQuietBefore next self.old.host.broker.state)
@@ -60,10 +60,10 @@ impl<R: Net, S: Store, L: PartitionLog + Drop> Edge<R, S, L> {
 
     /// How long is waited at most: not at all where there is something to do at once.
     fn longest(&self) -> Duration
-        ensures busy { IsInOrder (seen self.now.host self.now.sockets.items) → is_busy self.now.accepts self.now.line (list_any
+        ensures busy { IsInOrder (seen self.now.host self.now.sockets.items) → is_busy self.now.accepts self.now.lanes (list_any
             (may_be_asked self.now.shares self.now.replies.pool self.now.inputs.pool self.now.sockets.items) self.now.ready.items) ≡ true
             → as_nanos result ≡ 0 }
-        ensures quiet { IsInOrder (seen self.now.host self.now.sockets.items) → is_busy self.now.accepts self.now.line (list_any
+        ensures quiet { IsInOrder (seen self.now.host self.now.sockets.items) → is_busy self.now.accepts self.now.lanes (list_any
             (may_be_asked self.now.shares self.now.replies.pool self.now.inputs.pool self.now.sockets.items) self.now.ready.items) ≡ false
             → (next : ℕ) × (is_honest S.disk self.now.host.broker → IsQuietBefore next self.now.host.broker.state)
             × (as_nanos result ≡ wait_millis self.now.accepts (quiet_millis (least next (next_commit self.now.host.commits
@@ -101,13 +101,13 @@ impl<R: Net, S: Store, L: PartitionLog + Drop> Edge<R, S, L> {
     /// Whether there is something to do at once: an accept may find a socket, or a socket that can go on may be asked.
     fn is_busy(&self) -> bool
         ensures accepts { self.now.accepts ≡ Ready → result ≡ true }
-        ensures line { self.now.line ≢ [] → result ≡ true }
-        ensures nobody { self.now.accepts ≢ Ready → self.now.line ≡ [] → self.now.ready.items ≡ [] → result ≡ false }
-        ensures exact { IsInOrder (seen self.now.host self.now.sockets.items) → result ≡ is_busy self.now.accepts self.now.line
+        ensures lanes { is_nobody self.now.lanes ≡ false → result ≡ true }
+        ensures nobody { self.now.accepts ≢ Ready → is_nobody self.now.lanes ≡ true → self.now.ready.items ≡ [] → result ≡ false }
+        ensures exact { IsInOrder (seen self.now.host self.now.sockets.items) → result ≡ is_busy self.now.accepts self.now.lanes
             (list_any (may_be_asked self.now.shares self.now.replies.pool self.now.inputs.pool self.now.sockets.items)
             self.now.ready.items) }
     {
-        self.accepts == Accepts::Ready || !self.line.is_empty() || self.can_ask_any()
+        self.accepts == Accepts::Ready || !self.lanes.is_empty() || self.can_ask_any()
     }
 
     /// Whether one of the sockets that can go on may be asked.

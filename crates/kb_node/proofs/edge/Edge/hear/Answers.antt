@@ -4,5 +4,5 @@ use Rattle.kb_node.proofs.Cores.{same_at}
 use Rattle.kb_node.proofs.edge.Edge.hear.Goals as goal
 
 pub returns-in-Some-get_mut : goal.returns-in-Some-get_mut
-returns-in-Some-get_mut g c = c.queue.ensures ∙ same_at _ c.args.self.now.sockets c.in-Some.place c.in-Some-get_mut.socket.now c.hear.new.self
+returns-in-Some-get_mut g c = c.queue.ensures.seen ∙ same_at _ c.args.self.now.sockets c.in-Some.place c.in-Some-get_mut.socket.now c.hear.new.self
     (c.in-Some-get_mut.ensures.variant.0 refl) c.in-Some-get_mut.ensures.value (ap core c.hear.ensures)

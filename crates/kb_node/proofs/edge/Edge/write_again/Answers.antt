@@ -16,4 +16,4 @@ pub returns : goal.returns
 returns g c = goes_then (goes_noted _ c.args.self.now.sockets c.in-Some.place c.in-Some-get_mut.socket.now c.write_on.new.self c.note_reply-noted.new.socket _ _ _ _
     c.note_reply-noted.ensures (c.in-Some-get_mut.ensures.variant.0 refl) c.in-Some-get_mut.ensures.value c.write_on.ensures.connection
     c.write_on.ensures.written.0 c.write_on.ensures.written.1 c.write_on.ensures.written.2 c.write_on.ensures.unhanded c.write_on.ensures.over)
-    (goes_then (goes_still c.count_written.ensures) (goes_still c.queue.ensures))
+    (goes_then (goes_still c.count_written.ensures) (goes_still c.queue.ensures.seen))

@@ -81,7 +81,7 @@ given_any (Err e) n m a b ok err = (None, err)
 -- 2. All of them
 
 module _ {S T : Type 0} where
-  rising : (h : Host S) (xs : List (Socket T)) → IsInOrder (seen h xs) → Rise 0 h.tried (map number xs)
+  pub rising : (h : Host S) (xs : List (Socket T)) → IsInOrder (seen h xs) → Rise 0 h.tried (map number xs)
   rising h xs r = subst (λ ns. Rise 0 h.tried ns) (numbers_of xs) r
 
   ordered : (h : Host S) (xs : List (Socket T)) → Rise 0 h.tried (map number xs) → IsInOrder (seen h xs)

@@ -103,7 +103,7 @@ impl<R: Net, S: Store, L: PartitionLog + Drop> Edge<R, S, L> {
         ensures accepts { self.now.accepts ≡ Ready → result ≡ true }
         ensures lanes { is_nobody self.now.lanes ≡ false → result ≡ true }
         ensures nobody { self.now.accepts ≢ Ready → is_nobody self.now.lanes ≡ true → self.now.ready.items ≡ [] → result ≡ false }
-        ensures exact { IsInOrder (seen self.now.host self.now.sockets.items) → result ≡ is_busy self.now.accepts self.now.line
+        ensures exact { IsInOrder (seen self.now.host self.now.sockets.items) → result ≡ is_busy self.now.accepts self.now.lanes
             (list_any (may_be_asked self.now.shares self.now.replies.pool self.now.inputs.pool self.now.sockets.items)
             self.now.ready.items) }
     {

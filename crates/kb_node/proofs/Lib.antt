@@ -12,3 +12,4 @@ pub mod Told
 pub mod PutBack
 pub mod Isolated
 pub mod Seats
+pub mod Many

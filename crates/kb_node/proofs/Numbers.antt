@@ -144,7 +144,7 @@ module _ {X : Type 0} (number : X → ℕ) where
       (λ other. find_is n xs s (sym (is_not n x xs other.1) ∙ at))
       (eqb_tells (number x) n)
 
-  none_below : (low last n : ℕ) (xs : List X) → Rise low last (map number xs) → n ≤ low → find (λ x. nat_eq (number x) n) xs ≡ None
+  pub none_below : (low last n : ℕ) (xs : List X) → Rise low last (map number xs) → n ≤ low → find (λ x. nat_eq (number x) n) xs ≡ None
   none_below low last n [] r le = refl
   none_below low last n (x ∷ xs) r le = is_not n x xs (λ e. absurd (omega (arith, e, r.0, le)))
       ∙ none_below (number x) last n xs r.1 (omega (arith, r.0, le))

@@ -57,6 +57,20 @@ module _ {T : Type 0} where
   pub given_seat : (a b : Seats) (s t : Socket T) (o : Option ℕ) → IsGiven s.connection o a b → seat_of a.tenants t ≡ o → IsReseated s t a b
   given_seat a b s t o given is = record { tenants = given.tenants; seat = λ had. given.seat ∙ sym is; others = given.others }
 
+  -- what was seen of it where branches joined
+  pub joined_at : (s t u : Socket T) (a b c : Seats) → u ≡ t → c ≡ b → (t.connection ≡ s.connection) × IsReseated s t a b
+      → (u.connection ≡ s.connection) × IsReseated s u a c
+  joined_at s t u a b c same seats h = subst (λ v. (v.connection ≡ s.connection) × IsReseated s v a c) (sym same)
+      (subst (λ d. (t.connection ≡ s.connection) × IsReseated s t a d) (sym seats) h)
+
+  -- and then it told what there was to say
+  pub joined_then : (s m t u : Socket T) (a b : Seats) → m.connection ≡ s.connection → KeepsSeat s m → (t.connection ≡ m.connection) × IsReseated m t a b
+      → KeepsSeat t u → IsReseated s u a b
+  joined_then s m t u a b is before h behind = seated_between s m t u a b is before h.1 h.0 behind
+
+  pub mark_of : (s t : Socket T) → t.connection ≡ s.connection → t.is_ended ≡ s.is_ended → KeepsSeat s t → mark t ≡ mark s
+  mark_of s t number ended k = λ i. (number i, ended i, k.0 i, k.1 i)
+
   open_seat : (tenants : ℕ) (s : Socket T) → s.is_ended ≡ false → seat_in tenants (Some s) ≡ seat_of tenants s
   open_seat tenants s is = ap (λ c. if c then None else seat_of tenants s) is
 
@@ -81,7 +95,7 @@ given_any (Err e) n m a b ok err = (None, err)
 -- 2. All of them
 
 module _ {S T : Type 0} where
-  rising : (h : Host S) (xs : List (Socket T)) → IsInOrder (seen h xs) → Rise 0 h.tried (map number xs)
+  pub rising : (h : Host S) (xs : List (Socket T)) → IsInOrder (seen h xs) → Rise 0 h.tried (map number xs)
   rising h xs r = subst (λ ns. Rise 0 h.tried ns) (numbers_of xs) r
 
   ordered : (h : Host S) (xs : List (Socket T)) → Rise 0 h.tried (map number xs) → IsInOrder (seen h xs)
@@ -177,6 +191,10 @@ module _ {S T : Type 0} where
 
   pub none_yet : (h : Host S) (a : Seats) → a.sockets ≡ [] → AreSeated {T = T} h a []
   none_yet h a is = record { in_order = omega arith; seated = λ n. ap (λ ss. holder_of n ss) is }
+
+  pub nobody_seated : (h : Host S) (a : Seats) (xs : List (Socket T)) → length xs ≡ 0 → a.sockets ≡ [] → AreSeated h a xs
+  nobody_seated h a [] none is = none_yet h a is
+  nobody_seated h a (x ∷ xs) none is = absurd (omega (arith, none))
 
   pub comes : (h k : Host S) (a b : Seats) (xs : List (Socket T)) (n : ℕ) (s : Socket T) → h.tried < n → k.tried ≡ n → IsGiven n (Some a.tenants) a b
       → s.connection ≡ n → s.is_ended ≡ false → s.is_bound ≡ false → AreSeated h a xs → AreSeated k b (xs ++ s ∷ [])

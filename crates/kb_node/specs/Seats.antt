@@ -1,6 +1,7 @@
 -- Which holder has the socket of each connection.
-use Rattle.std.specs.Prelude.{◌≡◌, ◌≢◌, ℕ, List, map, if◌then◌else◌, Option, Some, None}
+use Rattle.std.specs.Prelude.{◌≡◌, ◌≢◌, ◌&&◌, ℕ, List, map, Bool, false, not, nat_eq, if◌then◌else◌, Option, Some, None}
 use Rattle.std.specs.Coded.{Coded-set, coded_option, coded_ℕ}
+use Rattle.std.specs.List.{count_by}
 use Rattle.kb_node.specs.declared.socket.Socket.{Socket}
 use Rattle.kb_node.specs.Commits.{Host}
 use Rattle.kb_node.specs.Cores.{cores, seen}
@@ -21,6 +22,19 @@ seat_in tenants (Some s) = if s.is_ended then None else seat_of tenants s
 pub record AreSeated {S T : Type 0} (host : Host S) (seats : Seats) (sockets : List (Socket T)) : Type 0 where
   pub in_order : IsInOrder (seen host sockets)
   pub seated : (n : ℕ) → holder_of n seats.sockets ≡ seat_in seats.tenants (socket_of n sockets)
+
+-- that tenant let it in
+abbrev pub is_let_in_by : ℕ → Option ℕ → Bool
+is_let_in_by tenant None = false
+is_let_in_by tenant (Some t) = nat_eq t tenant
+
+-- how many of the sockets are open and bound to a tenant, which let them in
+abbrev pub open_with : {T : Type 0} → ℕ → List (Socket T) → ℕ
+open_with tenant sockets = count_by (λ s. not s.is_ended && (s.is_bound && is_let_in_by tenant s.tenant)) sockets
+
+-- how many of them are open and have not logged in
+abbrev pub open_strangers : {T : Type 0} → List (Socket T) → ℕ
+open_strangers sockets = count_by (λ s. not s.is_ended && not s.is_bound) sockets
 
 -- a socket whose connection is open has changed, and its seat with it: no other seat did
 pub record IsReseated {T : Type 0} (s t : Socket T) (old new : Seats) : Type 0 where

@@ -1,6 +1,7 @@
 //! A socket and the connection that it carries.
 
-ghost use Rattle.std.specs.Prelude.{◌≡◌, ◌≢◌, ◌≤◌, ◌<◌, ◌+◌, ◌-◌, ◌||◌, ◌&&◌, not, true, false, None, Some, drop, [], vec_len, IfSome, nat_lt};
+ghost use Rattle.std.specs.Prelude.{◌≡◌, ◌≢◌, ◌≤◌, ◌<◌, ◌+◌, ◌-◌, ◌||◌, ◌&&◌, not, true, false, drop, [], vec_len, nat_lt};
+ghost use Rattle.std.specs.Prelude.{None, Some, IfSome};
 ghost use Rattle.std.specs.BTreeMap.{insert_entry};
 ghost use Rattle.std.specs.Ordering.{nat_cmp};
 ghost use Rattle.kb_isolation_spec.specs.Broker.{bound_to};
@@ -284,21 +285,17 @@ impl<T: Read + Write + Drop> Socket<T> {
         } }
         // Its seat is the one that it has in the shares.
         ensures seat { IsReseated self.old self.new shares.old shares.new }
-        // The tenant that let it in is the one that the broker says.
-        ensures let_in { self.old.is_bound ≡ false → result ≡ true
-            → IfSome (bound_to self.old.connection broker.now.state) (λ tenant. self.new.tenant ≡ Some tenant) }
-        ensures refused { result ≡ false → self.new.is_over ≡ true }
-        ensures stays { result ≡ true → self.new.is_over ≡ self.old.is_over }
+        ensures stays { (result ≡ true → self.new.is_over ≡ self.old.is_over) × (result ≡ false → self.new.is_over ≡ true) }
         ensures unbound { bound_to self.old.connection broker.now.state ≡ None → (result ≡ true) × (shares.new ≡ shares.old) }
         // It is counted as over a limit only where the tenant may not have it.
         ensures limit { turn.new ≢ turn.old
             → IfSome (bound_to self.old.connection broker.now.state) (λ tenant. may_bind self.old.connection tenant shares.old ≡ false) }
         ensures allowed { self.old.is_bound ≡ false → result ≡ true
             → IfSome (bound_to self.old.connection broker.now.state) (λ tenant. may_bind self.old.connection tenant shares.old ≡ true) }
-        // From then on it is counted for the tenant that the broker says, where that has a share, and for nobody else.
+        // From then on it is bound to the tenant that the broker says, and counted for it, where that has a share, and for nobody else.
         ensures counted { self.old.is_bound ≡ false → result ≡ true → IfSome (bound_to self.old.connection broker.now.state) (λ tenant.
-            nat_lt tenant shares.old.tenants ≡ true → shares.new.sockets
-            ≡ insert_entry nat_cmp (without self.old.connection shares.old.sockets) self.old.connection tenant) }
+            (self.new.tenant ≡ Some tenant) × (nat_lt tenant shares.old.tenants ≡ true → shares.new.sockets
+            ≡ insert_entry nat_cmp (without self.old.connection shares.old.sockets) self.old.connection tenant)) }
         ensures once { self.old.is_bound ≡ true → shares.new ≡ shares.old }
         ensures read { turn.new.read ≡ turn.old.read }
     {

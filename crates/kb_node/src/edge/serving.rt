@@ -503,18 +503,17 @@ fn count<T: Read + Write + Drop>(
         IfSome (slice_get traffic.old holder) (λ t. traffic.new ≡ slice_set traffic.old holder
         (with_traffic socket.old.heading.key (turn.now.read - before.read) (turn.now.written - before.written) t)) }
 {
+    let holder = shares.holder(socket.connection());
     let key = socket.take_key();
     if before.is_stranger {
         return;
     }
-    let Some(traffic) = traffic.get_mut(shares.holder(socket.connection())) else {
+    let Some(traffic) = traffic.get_mut(holder) else {
         return;
     };
-    if let Some(key) = key {
-        traffic.count_request(key);
-    }
     let read = turn.read.saturating_sub(before.read);
-    traffic.count_bytes(read, turn.written.saturating_sub(before.written));
+    let written = turn.written.saturating_sub(before.written);
+    traffic.count(key, read, written);
 }
 
 /// A socket whose connection is closed is counted no longer.

@@ -311,9 +311,9 @@ impl<T: Read + Write + Drop> Socket<T> {
         ensures ended { self.new.is_ended ≡ self.old.is_ended }
         ensures numbers { numbers host.new.broker.state ≡ numbers host.old.broker.state }
         ensures read { turn.new.read ≡ turn.old.read }
-        ensures unchanged { self.old.written < vec_len self.old.output → host.new ≡ host.old }
-        // A failed login is not answered before its time.
-        ensures held { is_held self.old.may_answer self.old.connection host.old.broker.state ≡ true → host.new ≡ host.old }
+        // Nothing is taken before all is written, and a failed login is not answered before its time.
+        ensures held { (self.old.written < vec_len self.old.output → host.new ≡ host.old)
+            × (is_held self.old.may_answer self.old.connection host.old.broker.state ≡ true → host.new ≡ host.old) }
     {
         if self.unwritten() == 0 && !self.is_held(host.broker()) {
             self.take_output(alloc, host);

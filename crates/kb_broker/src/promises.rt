@@ -75,7 +75,6 @@ pub fn nobody_is_stranded()
 
 /// Which connections a tenant has, and which of them wait, is read off its view: all that are bound to it are in there. So on two
 /// brokers that give it the same view they are the same, as many and in the same order.
-#[tactic(auto, using(crate::proofs::Bound::bound_lines, crate::proofs::Bound::bound_waits))]
 pub fn connections_are_in_the_view()
     ensures bound { (t : ℕ) (mine : ℕ → Bool) (es : List Happening) (b : BrokerState) → Mine t mine es b
         → lines_of t (view_of t mine b).lines ≡ lines_of t b.lines }

@@ -223,7 +223,7 @@ impl<R: Net, S: Store, L: PartitionLog + Drop> Edge<R, S, L> {
         }
     }
 
-    /// The same for the one whose turn it is.
+    /// The same for the socket of a connection.
     #[tactic(auto, using(crate::proofs::Goes::goes_then, crate::proofs::Goes::goes_none))]
     fn hand_on_next(&mut self, alloc: Global, number: u64, turn: &mut Turn)
         ensures lanes { self.new.lanes ≡ self.old.lanes }

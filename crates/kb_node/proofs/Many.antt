@@ -72,15 +72,15 @@ as_many number f holder low last es (x ∷ xs) none d r all =
     let n = number x in
     let here : holder_of n es ≡ f (Some x) = all n ∙ ap f (is_it number n x xs refl) in
     let rest = as_many number f holder n last (without n es) xs none (apart_without (is_at (nat_cmp n)) es d) r.1 (λ k. ⊎_elim
-        (λ e. left_of n k es d ∙ ap (λ b. cond b None (holder_of k es)) (subst (λ j. is_at (nat_cmp n) j ≡ true) (sym e.1) (itself n)) ∙ sym none
-        ∙ ap f (sym (none_below number n last k xs r.1 (omega (arith, e.1)))))
-        (λ e. left_of n k es d ∙ ap (λ b. cond b None (holder_of k es)) (apart n k e.1) ∙ all k ∙ ap f (is_not number k x xs (λ f. e.1 (sym f))))
-        (eqb_tells k n)) in
+    (λ e. left_of n k es d ∙ ap (λ b. cond b None (holder_of k es)) (subst (λ j. is_at (nat_cmp n) j ≡ true) (sym e.1) (itself n)) ∙ sym none
+    ∙ ap f (sym (none_below number n last k xs r.1 (omega (arith, e.1)))))
+    (λ e. left_of n k es d ∙ ap (λ b. cond b None (holder_of k es)) (apart n k e.1) ∙ all k ∙ ap f (is_not number k x xs (λ f. e.1 (sym f))))
+    (eqb_tells k n)) in
     let whole : count_of holder (without n es) + its holder (holder_of n es) ≡ count_of holder es =
-        sum_by-remove_entry (λ h. if nat_eq h holder then 1 else 0) (is_at (nat_cmp n)) es in
+    sum_by-remove_entry (λ h. if nat_eq h holder then 1 else 0) (is_at (nat_cmp n)) es in
     let its_here : its holder (holder_of n es) ≡ its holder (f (Some x)) = ap (its holder) here in
     let one : sum_by (λ x. its holder (f (Some x))) (x ∷ xs) ≡ its holder (f (Some x)) + sum_by (λ x. its holder (f (Some x))) xs =
-        sum_by-cons (λ x. its holder (f (Some x))) x xs in
+    sum_by-cons (λ x. its holder (f (Some x))) x xs in
     omega (arith, whole, rest, its_here, one)
 
 -- 3. Of tenants, and of those that have not logged in

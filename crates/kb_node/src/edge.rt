@@ -191,6 +191,7 @@ impl<R: Net, S: Store, L: PartitionLog + Drop> Edge<R, S, L> {
     }
 
     /// Listens on the addresses.
+    #[tactic(auto, using(crate::proofs::Seats::nobody_seated))]
     fn open(
         net: &R,
         alloc: Global,
@@ -264,6 +265,7 @@ impl<R: Net, S: Store, L: PartitionLog + Drop> Edge<R, S, L> {
 
     /// Sets what tenants may have of the sockets, and of the bytes of replies and of requests, all for the same tenants. Until then each
     /// may have all sockets, and all share the bytes as one.
+    #[tactic(auto, using(crate::proofs::Seats::nobody_seated))]
     pub fn share(&mut self, shares: SocketShares, replies: Ledger, inputs: Ledger)
         requires empty { vec_len self.old.sockets ≡ 0 }
         requires none { shares.sockets ≡ [] }

@@ -1,6 +1,6 @@
 use Rattle.kb_node.proofs.Seats.{closed}
 use Rattle.std.proofs.Common.{refl, ◌≡◌, true, arith}
-use Rattle.kb_node.proofs.Goes.{goes_carried, goes_none}
+use Rattle.kb_node.proofs.Goes.{goes_carried}
 use Rattle.kb_node.proofs.edge.Edge.close.Goals as goal
 
 pub returns-then-not-is_ended-clause-goes : goal.returns-then-not-is_ended-clause-goes
@@ -15,6 +15,3 @@ invariant_of-self-else-not-is_ended-clause-seated g c = let ended : c.in-Some-ge
 pub invariant_of-self-2-clause-seated : goal.invariant_of-self-2-clause-seated
 invariant_of-self-2-clause-seated g c = closed _ c.close.new.host c.args.self.now.shares c.release.new.self c.args.self.now.sockets c.in-Some.place c.args.number c.in-Some-get_mut.socket.now c.close.new.self (c.in-Some-get_mut.ensures.variant.0 refl) c.in-Some-get_mut.ensures.value
     c.close.ensures.connection c.close.ensures.tried c.in-Some.ensures.found c.close.ensures.ended c.release.ensures.none c.args.self.now.seated
-
-pub returns-in_default-clause-goes : goal.returns-in_default-clause-goes
-returns-in_default-clause-goes g c = goes_none _

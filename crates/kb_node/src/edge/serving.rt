@@ -491,7 +491,7 @@ impl<R: Net, S: Store, L: PartitionLog + Drop> Edge<R, S, L> {
 /// Counts for its tenant what was read and written of a socket since it was served, and its request where the API key of one came. One that
 /// was not told before that it has logged in is counted for nobody.
 fn count<T: Read + Write + Drop>(
-    traffic: &mut [TenantTraffic],
+    traffic: &mut Vec<TenantTraffic>,
     socket: &mut Socket<T>,
     shares: &SocketShares,
     before: Before,
@@ -500,7 +500,7 @@ fn count<T: Read + Write + Drop>(
     ensures socket { socket.new ≡ record socket.old { heading = record socket.old.heading { key = None } } }
     ensures stranger { before.is_stranger ≡ true → traffic.new ≡ traffic.old }
     ensures counted { before.is_stranger ≡ false → let holder = place_of socket.old.connection shares.now in
-        IfSome (slice_get traffic.old holder) (λ t. traffic.new ≡ slice_set traffic.old holder
+        IfSome (slice_get traffic.old.items holder) (λ t. traffic.new.items ≡ slice_set traffic.old.items holder
         (with_traffic socket.old.heading.key (turn.now.read - before.read) (turn.now.written - before.written) t)) }
 {
     let holder = shares.holder(socket.connection());

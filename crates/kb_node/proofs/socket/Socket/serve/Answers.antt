@@ -36,7 +36,7 @@ returns-clause-seat g c =
       | then-may_ask+then-can_ask+then-take_seat w ↦ joined_at s w.write_output-then-take_seat.new.self _ a w.take_seat.new.shares _ w.self-is w.shares-is (
         w.write_output-then-take_seat.ensures.connection ∙ w.take_seat.ensures.connection ∙ w.ask.ensures.connection,
         seated_between s w.ask.new.self w.take_seat.new.self w.write_output-then-take_seat.new.self a w.take_seat.new.shares w.ask.ensures.connection
-            w.ask.ensures.seat w.take_seat.ensures.seat w.write_output-then-take_seat.ensures.connection w.write_output-then-take_seat.ensures.seat,
+            w.ask.ensures.seat w.take_seat.ensures.seat w.take_seat.ensures.connection w.write_output-then-take_seat.ensures.seat,
       )
       | then-may_ask+then-can_ask+else-take_seat w ↦ joined_at s w.take_seat.new.self _ a w.take_seat.new.shares _ w.self-is w.shares-is (
         w.take_seat.ensures.connection ∙ w.ask.ensures.connection,

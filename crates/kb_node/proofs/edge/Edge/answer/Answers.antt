@@ -12,6 +12,3 @@ returns-clause-well g c = no_fault c.serve_at_once.new.self.host.commits c.serve
 
 pub invariant_of-self-clause-seated : goal.invariant_of-self-clause-seated
 invariant_of-self-clause-seated g c = same_host c.args.self.now.host c.commit_in_time.new.self c.args.self.now.shares c.args.self.now.sockets.items c.commit_in_time.ensures.tried c.args.self.now.seated
-
-pub invariant_of-self-2-clause-seated : goal.invariant_of-self-2-clause-seated
-invariant_of-self-2-clause-seated g c = same_host c.args.self.now.host c.commit_in_time.new.self c.args.self.now.shares c.args.self.now.sockets.items c.commit_in_time.ensures.tried c.args.self.now.seated

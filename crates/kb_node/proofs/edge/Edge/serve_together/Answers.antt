@@ -16,6 +16,3 @@ returns-clause-well g c = ap (λ x. x.fault) (c.tell_asked.ensures.commits ∙ c
 
 pub invariant_of-self-clause-seated : goal.invariant_of-self-clause-seated
 invariant_of-self-clause-seated g c = same_host c.hear_speakers.new.self.host c.commit.new.self c.hear_speakers.new.self.shares c.hear_speakers.new.self.sockets.items c.commit.ensures.tried c.hear_speakers.new.self.seated
-
-pub invariant_of-self-2-clause-seated : goal.invariant_of-self-2-clause-seated
-invariant_of-self-2-clause-seated g c = same_host c.hear_speakers.new.self.host c.commit.new.self c.hear_speakers.new.self.shares c.hear_speakers.new.self.sockets.items c.commit.ensures.tried c.hear_speakers.new.self.seated

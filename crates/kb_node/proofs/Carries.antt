@@ -222,7 +222,7 @@ module _ {S T : Type 0} (disk : S → Disk) (contents remaining : T → Option (
 
   -- a socket that was asked, and then looked at for its tenant
   pub seated : (old mid new : Socket T) (from to : OnStore S) → Carries disk contents remaining old mid from to → mid.connection ≡ old.connection → mid.is_ended ≡ false
-      → new ≡ record mid { is_bound = new.is_bound; is_over = new.is_over } → (mid.is_over ≡ true → new.is_over ≡ true) → StaysOpen old new from to
+      → new ≡ record mid { is_bound = new.is_bound; tenant = new.tenant; is_over = new.is_over } → (mid.is_over ≡ true → new.is_over ≡ true) → StaysOpen old new from to
   seated old mid new from to one same unended is over = record {
     carries = carries_then old mid new from to to one (stays mid new to to refl (ap (λ s. s.stream) is) (ap (λ s. drop s.written s.output.items) is)
         (ap (λ s. drop s.input.handed s.input.bytes.items) is) over) same unended;

@@ -18,7 +18,7 @@ same_in [] p s t at same = refl
 same_in (x ∷ xs) zero s t at same = ap (λ c. c ∷ cores xs) (same ∙ sym (ap core (some_is x s at)))
 same_in (x ∷ xs) (suc p) s t at same = ap (λ c. core x ∷ c) (same_in xs p s t at same)
 
-item_at : {A : Type 0} (v : Vec A Global) (p : ℕ) (x : A) → p < vec_len v → x ≡ slice_index_or v.items p x → slice_get v.items p ≡ Some x
+pub item_at : {A : Type 0} (v : Vec A Global) (p : ℕ) (x : A) → p < vec_len v → x ≡ slice_index_or v.items p x → slice_get v.items p ≡ Some x
 item_at v p x lt is = slice_get-get_or v.items p x (omega (arith, lt, v.ok.0)) ∙ sym (ap (λ y. Some y) is)
 
 -- of one only what is remembered of its turns changed

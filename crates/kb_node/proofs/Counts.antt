@@ -1,16 +1,18 @@
 -- How many sockets are counted for a holder, after one more and one less.
-use Rattle.std.proofs.Common.{◌≡◌, ◌≢◌, ◌≤◌, ◌+◌, ℕ, arith, Option, None, Some, if◌then◌else◌, nat_eq, unwrap_or, option_map, List, [], ◌∷◌, map, slice_index_or, zero, suc, refl, subst, sym, ap, ⊎_elim}
+use Rattle.std.proofs.Common.{◌≡◌, ◌≢◌, ◌≤◌, ◌+◌, ◌∙◌, ℕ, arith, Bool, false, Option, None, Some, if◌then◌else◌, nat_eq, unwrap_or, option_map, List, [], ◌∷◌, map, slice_index_or, zero, suc, refl, subst, sym, ap, ⊎_elim}
 use Rattle.std.specs.Ordering.{nat_cmp}
 use Rattle.std.specs.Map.{keys_of}
 use Rattle.std.specs.BTreeMap.{insert_entry, is_at}
 use Rattle.std.specs.List.Sorted.{IsStrictlySortedBy}
+use Rattle.std.specs.Cmp.{unsigned_tied}
+use Rattle.std.proofs.lemmas.Bool.{ne_eqb}
 use Rattle.std.proofs.lemmas.Bool.Decides.{eqb_tells, nat_tests}
 use Rattle.std.proofs.lemmas.Cmp.{nat_cmp_total}
 use Rattle.std.proofs.lemmas.Map.Entries.{sum_by-remove_entry, sum_by-insert_entry}
 use Rattle.kb_shares.specs.declared.share.Share.{Share}
 use Rattle.kb_shares.specs.Holder.{idle}
 use Rattle.kb_shares.specs.Shares.{Pool, fresh, holder_at, used_by}
-use Rattle.kb_node.specs.SocketShares.{AreCounted, Counted, count_of, holder_of, without}
+use Rattle.kb_node.specs.SocketShares.{AreCounted, Counted, IsGiven, Seats, count_of, holder_of, without}
 
 -- whether that is the holder, as a number
 abbrev is_its : ℕ → ℕ → ℕ
@@ -42,8 +44,10 @@ has_one pool connection h sockets counted is = omega (arith, counted.used h, cou
 
 -- all are counted still where one is counted no longer, and given back by its holder
 pub fewer : (old new : Pool) (connection h : ℕ) (sockets : Counted) → AreCounted old sockets → holder_of connection sockets ≡ Some h
+    → IsStrictlySortedBy nat_cmp (keys_of (without connection sockets))
     → used_by h new + 1 ≡ used_by h old → ((i : ℕ) → i ≢ h → holder_at i new ≡ holder_at i old) → AreCounted new (without connection sockets)
-fewer old new connection h sockets counted is used others = record {
+fewer old new connection h sockets counted is ordered used others = record {
+  ordered = ordered;
   used = λ i. ⊎_elim
       (λ same. subst (λ (k : ℕ). used_by k new ≡ count_of k (without connection sockets)) (sym same.1)
       (omega (arith, used, counted.used h, count_less h connection h sockets is, itself h)))
@@ -53,9 +57,11 @@ fewer old new connection h sockets counted is used others = record {
 
 -- all are counted where one more is, and taken by its holder
 pub more : (old new : Pool) (connection h : ℕ) (sockets : Counted) → AreCounted old sockets → IsStrictlySortedBy nat_cmp (keys_of sockets)
+    → IsStrictlySortedBy nat_cmp (keys_of (insert_entry nat_cmp sockets connection h))
     → holder_of connection sockets ≡ None → used_by h new ≡ used_by h old + 1 → ((i : ℕ) → i ≢ h → holder_at i new ≡ holder_at i old)
     → AreCounted new (insert_entry nat_cmp sockets connection h)
-more old new connection h sockets counted sorted is used others = record {
+more old new connection h sockets counted sorted ordered is used others = record {
+  ordered = ordered;
   used = λ i. ⊎_elim
       (λ same. subst (λ (k : ℕ). used_by k new ≡ count_of k (insert_entry nat_cmp sockets connection h)) (sym same.1)
       (omega (arith, used, counted.used h, count_more h connection h sockets sorted is, itself h)))
@@ -69,6 +75,28 @@ unused [] i d = refl
 unused (s ∷ ss) zero d = refl
 unused (s ∷ ss) (suc i) d = unused ss i d
 
+none_counted : (total : ℕ) (shares : List Share) → AreCounted (fresh total shares) []
+unfolding IsStrictlySortedBy
+none_counted total shares = record { ordered = tt; used = λ i. unused shares i (record { own = 0; most = 0 }) }
+
 -- no socket is counted at first
-pub fresh_counted : (total : ℕ) (shares : List Share) → AreCounted (fresh total shares) []
-fresh_counted total shares = record { used = λ i. unused shares i (record { own = 0; most = 0 }) }
+pub fresh_counted : (total : ℕ) (shares : List Share) (pool : Pool) (sockets : Counted) → pool ≡ fresh total shares → sockets ≡ []
+    → AreCounted pool sockets
+fresh_counted total shares pool sockets is none = subst (λ ss. AreCounted pool ss) (sym none)
+    (subst (λ p. AreCounted p []) (sym is) (none_counted total shares))
+
+-- a connection has a seat where a map was changed at its number alone
+pub apart : (connection n : ℕ) → n ≢ connection → is_at (nat_cmp connection) n ≡ false
+apart connection n ne = unsigned_tied connection n ∙ ne_eqb connection n (λ e. ne (sym e))
+
+pub given : (connection : ℕ) (o : Option ℕ) (old new : Seats) → new.tenants ≡ old.tenants → holder_of connection new.sockets ≡ o
+    → ((n : ℕ) → is_at (nat_cmp connection) n ≡ false → holder_of n new.sockets ≡ holder_of n old.sockets) → IsGiven connection o old new
+given connection o old new tenants seat others = record { tenants = tenants; seat = seat; others = λ n ne. others n (apart connection n ne) }
+
+-- one seat after another, of one connection
+pub given_again : (connection : ℕ) (o p : Option ℕ) (a b c : Seats) → IsGiven connection o a b → IsGiven connection p b c → IsGiven connection p a c
+given_again connection o p a b c one two = record {
+  tenants = two.tenants ∙ one.tenants;
+  seat = two.seat;
+  others = λ n ne. two.others n ne ∙ one.others n ne;
+}

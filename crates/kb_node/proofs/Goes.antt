@@ -61,6 +61,14 @@ module _ {S T : Type 0} {disk : S → Disk} {contents remaining : T → Option (
     );
   }
 
+  -- and then only what is remembered of its turns changed
+  pub goes_carried_as : (h k : Host S) (v : Vec (Socket T) Global) (p : ℕ) (s t u : Socket T) → core u ≡ core t → p < vec_len v
+      → s ≡ slice_index_or v.items p s → t.connection ≡ s.connection → k.tried ≡ h.tried → Carries disk contents remaining s t h.broker k.broker
+      → Goes disk contents remaining (seen h v.items) (seen k (slice_set v.items p u))
+  goes_carried_as h k v p s t u same_core lt is same tried c = goes_same
+      (ap (λ cs. record { host = k; sockets = cs }) (set_at v.items p u ∙ ap (λ x. slice_set (cores v.items) p x) same_core ∙ sym (set_at v.items p t)))
+      (goes_carried h k v p s t lt is same tried c)
+
   pub goes_left : (h : Host S) (xs ys : List (Socket T)) → cores ys ≡ open_ones (cores xs) → Goes disk contents remaining (seen h xs) (seen h ys)
   goes_left h xs ys left = record { moves = Leave ∷ []; done = (seen h ys, (refl, left), refl) }
 

@@ -11,3 +11,5 @@ pub mod Waiting
 pub mod Told
 pub mod PutBack
 pub mod Isolated
+pub mod Seats
+pub mod Many

@@ -4,7 +4,7 @@ use Rattle.std.specs.List.{find, filter, remove}
 use Rattle.std.specs.Result.{result_ok}
 use Rattle.std.specs.List.Sorted.{IsSearchInRange, IsBinarySearchResult, IsNonDecreasingBy}
 use Rattle.std.specs.Ordering.{nat_cmp, ordering_index}
-use Rattle.std.proofs.lemmas.Bool.Decides.{nat_tests}
+use Rattle.std.proofs.lemmas.Bool.Decides.{eqb_tells, nat_tests}
 use Rattle.std.proofs.lemmas.Cmp.{ranked}
 use Rattle.kb_store.specs.Disk.{Disk}
 use Rattle.kb_node.specs.declared.socket.Socket.{Socket}
@@ -50,10 +50,10 @@ module _ {X : Type 0} (number : X → ℕ) where
 
   -- 2. What is found
 
-  is_it : (n : ℕ) (x : X) (xs : List X) → number x ≡ n → find (λ y. nat_eq (number y) n) (x ∷ xs) ≡ Some x
+  pub is_it : (n : ℕ) (x : X) (xs : List X) → number x ≡ n → find (λ y. nat_eq (number y) n) (x ∷ xs) ≡ Some x
   is_it n x xs is = grind (arith, nat_tests)
 
-  is_not : (n : ℕ) (x : X) (xs : List X) → number x ≢ n → find (λ y. nat_eq (number y) n) (x ∷ xs) ≡ find (λ y. nat_eq (number y) n) xs
+  pub is_not : (n : ℕ) (x : X) (xs : List X) → number x ≢ n → find (λ y. nat_eq (number y) n) (x ∷ xs) ≡ find (λ y. nat_eq (number y) n) xs
   is_not n x xs is = grind (arith, nat_tests)
 
   found : (n low last : ℕ) (xs : List X) (i : ℕ) (d : X) → Rise low last (map number xs) → i < length xs
@@ -120,13 +120,115 @@ module _ {X : Type 0} (number : X → ℕ) where
   rise_append low last [] x r lt = (omega (arith, r, lt), omega arith)
   rise_append low last (y ∷ xs) x r lt = (r.0, rise_append (number y) last xs x r.1 lt)
 
+  -- 4. What is found after a change
+
+  is_above : (low last : ℕ) (xs : List X) (p : ℕ) (s : X) → Rise low last (map number xs) → slice_get xs p ≡ Some s → low < number s
+  is_above low last [] p s r at = absurd (let no : None ≡ Some s = at in cc)
+  is_above low last (x ∷ xs) zero s r at = subst (λ y. low < number y) (some_is x s at) r.0
+  is_above low last (x ∷ xs) (suc p) s r at = let h = is_above (number x) last xs p s r.1 at in omega (arith, h, r.0)
+
+  -- the one at a place is found by its number
+  pub find_here : (low last : ℕ) (xs : List X) (p : ℕ) (s : X) → Rise low last (map number xs) → slice_get xs p ≡ Some s
+      → find (λ x. nat_eq (number x) (number s)) xs ≡ Some s
+  find_here low last [] p s r at = absurd (let no : None ≡ Some s = at in cc)
+  find_here low last (x ∷ xs) zero s r at = is_it (number s) x xs (ap number (some_is x s at)) ∙ at
+  find_here low last (x ∷ xs) (suc p) s r at =
+      let h = is_above (number x) last xs p s r.1 at in
+      is_not (number s) x xs (λ e. absurd (omega (arith, h, e))) ∙ find_here (number x) last xs p s r.1 at
+
+  -- and what is found has that number
+  pub find_is : (n : ℕ) (xs : List X) (s : X) → find (λ x. nat_eq (number x) n) xs ≡ Some s → number s ≡ n
+  find_is n [] s at = absurd (let no : None ≡ Some s = at in cc)
+  find_is n (x ∷ xs) s at = ⊎_elim
+      (λ same. ap number (sym (some_is x s (sym (is_it n x xs same.1) ∙ at))) ∙ same.1)
+      (λ other. find_is n xs s (sym (is_not n x xs other.1) ∙ at))
+      (eqb_tells (number x) n)
+
+  pub none_below : (low last n : ℕ) (xs : List X) → Rise low last (map number xs) → n ≤ low → find (λ x. nat_eq (number x) n) xs ≡ None
+  none_below low last n [] r le = refl
+  none_below low last n (x ∷ xs) r le = is_not n x xs (λ e. absurd (omega (arith, e, r.0, le)))
+      ∙ none_below (number x) last n xs r.1 (omega (arith, r.0, le))
+
+  -- nobody has a number above the last
+  pub none_above : (low last n : ℕ) (xs : List X) → Rise low last (map number xs) → last < n → find (λ x. nat_eq (number x) n) xs ≡ None
+  none_above low last n [] r lt = refl
+  none_above low last n (x ∷ xs) r lt =
+      let h = rises_by (number x) last (map number xs) r.1 in
+      is_not n x xs (λ e. absurd (omega (arith, e, h, lt))) ∙ none_above (number x) last n xs r.1 lt
+
+  pub get_set : (xs : List X) (p : ℕ) (s t : X) → slice_get xs p ≡ Some s → slice_get (slice_set xs p t) p ≡ Some t
+  get_set [] p s t at = absurd (let no : None ≡ Some s = at in cc)
+  get_set (x ∷ xs) zero s t at = refl
+  get_set (x ∷ xs) (suc p) s t at = get_set xs p s t at
+
+  pub set_here : (low last : ℕ) (xs : List X) (p : ℕ) (s t : X) → Rise low last (map number xs) → slice_get xs p ≡ Some s → number t ≡ number s
+      → find (λ x. nat_eq (number x) (number s)) (slice_set xs p t) ≡ Some t
+  set_here low last xs p s t r at same = subst (λ n. find (λ x. nat_eq (number x) n) (slice_set xs p t) ≡ Some t) same
+      (find_here low last (slice_set xs p t) p t (rise_set low last xs p s t r at same) (get_set xs p s t at))
+
+  pub set_other : (n : ℕ) (xs : List X) (p : ℕ) (s t : X) → slice_get xs p ≡ Some s → number t ≡ number s → n ≢ number s
+      → find (λ x. nat_eq (number x) n) (slice_set xs p t) ≡ find (λ x. nat_eq (number x) n) xs
+  set_other n [] p s t at same ne = refl
+  set_other n (x ∷ xs) zero s t at same ne = is_not n t xs (λ e. ne (sym e ∙ same))
+      ∙ sym (is_not n x xs (λ e. ne (sym e ∙ ap number (some_is x s at))))
+  set_other n (x ∷ xs) (suc p) s t at same ne = ap (λ o. cond (nat_eq (number x) n) (Some x) o) (set_other n xs p s t at same ne)
+
+  pub remove_here : (low last : ℕ) (xs : List X) (p : ℕ) (s : X) → Rise low last (map number xs) → slice_get xs p ≡ Some s
+      → find (λ x. nat_eq (number x) (number s)) (remove xs p) ≡ None
+  remove_here low last [] p s r at = absurd (let no : None ≡ Some s = at in cc)
+  remove_here low last (x ∷ xs) zero s r at =
+      let is = ap number (some_is x s at) in none_below (number x) last (number s) xs r.1 (omega (arith, is))
+  remove_here low last (x ∷ xs) (suc p) s r at =
+      let h = is_above (number x) last xs p s r.1 at in
+      is_not (number s) x (remove xs p) (λ e. absurd (omega (arith, h, e))) ∙ remove_here (number x) last xs p s r.1 at
+
+  pub remove_other : (n : ℕ) (xs : List X) (p : ℕ) (s : X) → slice_get xs p ≡ Some s → n ≢ number s
+      → find (λ x. nat_eq (number x) n) (remove xs p) ≡ find (λ x. nat_eq (number x) n) xs
+  remove_other n [] p s at ne = absurd (let no : None ≡ Some s = at in cc)
+  remove_other n (x ∷ xs) zero s at ne = sym (is_not n x xs (λ e. ne (sym e ∙ ap number (some_is x s at))))
+  remove_other n (x ∷ xs) (suc p) s at ne = ap (λ o. cond (nat_eq (number x) n) (Some x) o) (remove_other n xs p s at ne)
+
+  pub behind_here : (low last : ℕ) (xs : List X) (x : X) → Rise low last (map number xs) → last < number x
+      → find (λ y. nat_eq (number y) (number x)) (xs ++ x ∷ []) ≡ Some x
+  behind_here low last [] x r lt = is_it (number x) x [] refl
+  behind_here low last (y ∷ xs) x r lt =
+      let h = rises_by (number y) last (map number xs) r.1 in
+      is_not (number x) y (xs ++ x ∷ []) (λ e. absurd (omega (arith, e, h, lt))) ∙ behind_here (number y) last xs x r.1 lt
+
+  pub behind_other : (n : ℕ) (xs : List X) (x : X) → n ≢ number x
+      → find (λ y. nat_eq (number y) n) (xs ++ x ∷ []) ≡ find (λ y. nat_eq (number y) n) xs
+  behind_other n [] x ne = is_not n x [] (λ e. ne (sym e))
+  behind_other n (y ∷ xs) x ne = ap (λ o. cond (nat_eq (number y) n) (Some y) o) (behind_other n xs x ne)
+
+  -- one is left out, or not, that counts for nothing where it is
+  module _ {Y : Type 0} (f : Option X → Y) (n : ℕ) where
+    one_left : (b e : Bool) (x : X) (xs ys : List X) → nat_eq (number x) n ≡ e → (b ≡ false → f (Some x) ≡ f None)
+        → (e ≡ true → find (λ x. nat_eq (number x) n) ys ≡ None)
+        → f (find (λ x. nat_eq (number x) n) ys) ≡ f (find (λ x. nat_eq (number x) n) xs)
+        → f (find (λ x. nat_eq (number x) n) (cond b (x ∷ ys) ys)) ≡ f (find (λ x. nat_eq (number x) n) (x ∷ xs))
+    one_left true true x xs ys is none gone rest = ap (λ c. f (cond c (Some x) (find (λ x. nat_eq (number x) n) ys))) is
+        ∙ sym (ap (λ c. f (cond c (Some x) (find (λ x. nat_eq (number x) n) xs))) is)
+    one_left true false x xs ys is none gone rest = ap (λ c. f (cond c (Some x) (find (λ x. nat_eq (number x) n) ys))) is ∙ rest
+        ∙ sym (ap (λ c. f (cond c (Some x) (find (λ x. nat_eq (number x) n) xs))) is)
+    one_left false true x xs ys is none gone rest = ap f (gone refl) ∙ sym (none refl)
+        ∙ sym (ap (λ c. f (cond c (Some x) (find (λ x. nat_eq (number x) n) xs))) is)
+    one_left false false x xs ys is none gone rest = rest ∙ sym (ap (λ c. f (cond c (Some x) (find (λ x. nat_eq (number x) n) xs))) is)
+
+    pub left_out : (low last : ℕ) (xs : List X) (test : X → Bool) → ((x : X) → test x ≡ false → f (Some x) ≡ f None)
+        → Rise low last (map number xs) → f (find (λ x. nat_eq (number x) n) (filter test xs)) ≡ f (find (λ x. nat_eq (number x) n) xs)
+    left_out low last [] test none r = refl
+    left_out low last (x ∷ xs) test none r = one_left (test x) (nat_eq (number x) n) x xs (filter test xs) refl (none x)
+        (λ e. none_below (number x) last n (filter test xs) (rise_filter (number x) last xs test r.1)
+        (let is : number x ≡ n = grind (arith, nat_tests, e) in omega (arith, is)))
+        (left_out (number x) last xs test none r.1)
+
 pub rise_up : (low last more : ℕ) (ns : List ℕ) → last ≤ more → Rise low last ns → Rise low more ns
 rise_up low last more [] le r = omega (arith, le, r)
 rise_up low last more (n ∷ ns) le r = (r.0, rise_up n last more ns le r.1)
 
--- 4. Sockets
+-- 5. Sockets
 
-numbers_of : {T : Type 0} (xs : List (Socket T)) → map (λ c. c.connection) (cores xs) ≡ map (λ s. s.connection) xs
+pub numbers_of : {T : Type 0} (xs : List (Socket T)) → map (λ c. c.connection) (cores xs) ≡ map (λ s. s.connection) xs
 numbers_of [] = refl
 numbers_of (x ∷ xs) = ap (λ ns. x.connection ∷ ns) (numbers_of xs)
 
@@ -145,7 +247,7 @@ searched_place {S} {T} h xs ls n r o same is rises within found =
     (subst (λ p. socket_at p ls ≡ socket_of n ls) (sym is)
     (in_them h.tried ls n r (subst (λ (ys : List (Socket T)). Rise 0 h.tried (map (λ s. s.connection) ys)) (sym same) ordered) within found))
 
--- 5. Turns
+-- 6. Turns
 
 moved : {S T : Type 0} (x : Seen S T) (tried : ℕ) (cs : List (Core T)) → x.host.tried ≡ tried → x.sockets ≡ cs
     → Rise 0 tried (map (λ c. c.connection) cs) → IsInOrder x

@@ -1,7 +1,8 @@
 -- For whom the open sockets are counted.
 use Rattle.std.specs.Prelude.{◌≡◌, ◌≢◌, ℕ, List, Bool, not, ◌||◌, nat_eq, nat_lt, if◌then◌else◌, Option, Some, None}
 use Rattle.std.specs.List.{sum_by}
-use Rattle.std.specs.Map.{lookup, remove_entry, values_of}
+use Rattle.std.specs.List.Sorted.{IsStrictlySortedBy}
+use Rattle.std.specs.Map.{keys_of, lookup, remove_entry, values_of}
 use Rattle.std.specs.BTreeMap.{is_at}
 use Rattle.std.specs.Ordering.{nat_cmp}
 use Rattle.kb_shares.specs.Shares.{Pool, used_by, given_back, has_room}
@@ -20,8 +21,9 @@ pub record Seats : Type 0 where
 abbrev pub count_of : ℕ → Counted → ℕ
 count_of holder sockets = sum_by (λ h. if nat_eq h holder then 1 else 0) (values_of sockets)
 
--- each holder has as many as are counted for it
+-- each socket is counted once, and each holder has as many as are counted for it
 pub record AreCounted (pool : Pool) (sockets : Counted) : Type 0 where
+  pub ordered : IsStrictlySortedBy nat_cmp (keys_of sockets)
   pub used : (holder : ℕ) → used_by holder pool ≡ count_of holder sockets
 
 -- for whom the socket of a connection is counted

@@ -1,11 +1,13 @@
 //! A broker on a network. A turn waits for no peer.
 
-ghost use Rattle.std.specs.Prelude.{◌≡◌, ◌≤◌, ◌<◌, ◌*◌, ◌^◌, Err, None, Some, IfOk, IfErr, IfSome, OnErr, OnOk};
+ghost use Rattle.std.specs.Prelude.{◌≡◌, ◌≤◌, ◌<◌, ◌*◌, ◌^◌, [], Err, None, Some, IfOk, IfErr, IfSome, OnErr, OnOk};
 ghost use Rattle.std.specs.Prelude.{option_map, replicate, slice_get, vec_len};
-ghost use Rattle.kb_isolation_spec.specs.Machine.{Moment, Opens};
+ghost use Rattle.kb_isolation_spec.specs.Machine.{Moment};
 ghost use Rattle.kb_node.specs.Cores.{cores, seen};
 ghost use Rattle.kb_node.specs.Moves.{Goes, IsJoined, IsRunOf, IsTurn};
 ghost use Rattle.kb_node.specs.Numbers.{IsInOrder, socket_of};
+ghost use Rattle.kb_node.specs.Seats.{AreSeated, AreSeated-prop};
+ghost use Rattle.kb_node.specs.SocketShares.{IsGiven};
 ghost use Rattle.kb_node.specs.Traffic.{Happens};
 ghost use Rattle.kb_node.specs.Waiting.{socket_at};
 
@@ -140,6 +142,7 @@ pub struct Edge<R: Net, S: Store, L: PartitionLog = ListLog> {
     /// Whether its moment left something due, as it does with what was refused.
     is_left_due: bool,
     ghost within: { vec_len sockets ≤ limit },
+    ghost seated: { AreSeated host shares sockets.items } by { AreSeated-prop host shares sockets.items },
 }
 
 impl<R: Net, S: Store, L: PartitionLog + Drop> Edge<R, S, L> {
@@ -188,6 +191,7 @@ impl<R: Net, S: Store, L: PartitionLog + Drop> Edge<R, S, L> {
     }
 
     /// Listens on the addresses.
+    #[tactic(auto, using(crate::proofs::Seats::nobody_seated))]
     fn open(
         net: &R,
         alloc: Global,
@@ -261,8 +265,10 @@ impl<R: Net, S: Store, L: PartitionLog + Drop> Edge<R, S, L> {
 
     /// Sets what tenants may have of the sockets, and of the bytes of replies and of requests, all for the same tenants. Until then each
     /// may have all sockets, and all share the bytes as one.
+    #[tactic(auto, using(crate::proofs::Seats::nobody_seated))]
     pub fn share(&mut self, shares: SocketShares, replies: Ledger, inputs: Ledger)
-        requires { vec_len self.old.sockets ≡ 0 }
+        requires empty { vec_len self.old.sockets ≡ 0 }
+        requires none { shares.sockets ≡ [] }
         ensures shares { self.new.shares ≡ shares }
         ensures replies { self.new.replies ≡ replies }
         ensures inputs { self.new.inputs ≡ inputs }
@@ -438,11 +444,19 @@ impl<R: Net, S: Store, L: PartitionLog + Drop> Edge<R, S, L> {
         }
         self.accepts = Accepts::Ready;
         for place in 0..self.sockets.len() {
-            if let Some(socket) = self.sockets.get_mut(place) {
-                socket.hear_any();
-            }
-            self.queue(place);
+            self.hear_at(place);
         }
+    }
+
+    /// The socket at a place may be ready.
+    fn hear_at(&mut self, place: usize)
+        ensures { seen self.new.host self.new.sockets.items ≡ seen self.old.host self.old.sockets.items }
+    {
+        let Some(socket) = self.sockets.get_mut(place) else {
+            return;
+        };
+        socket.hear_any();
+        self.queue(place);
     }
 
     /// Accepts the sockets that wait, at most as many as there may be.
@@ -530,42 +544,17 @@ impl<R: Net, S: Store, L: PartitionLog + Drop> Edge<R, S, L> {
         }
         self.sockets.reserve(1)?;
         self.strangers.admit(connection, self.clock)?;
-        if self.keep(alloc, connection).is_err() {
-            return Err(self.refuse(connection));
+        if self.shares.admit(connection).is_err() {
+            return Err(refuse(&mut self.strangers, &mut self.shares, connection));
+        }
+        if self.host.connect(alloc, connection).is_err() {
+            return Err(refuse(&mut self.strangers, &mut self.shares, connection));
         }
         let mut socket = Socket::new(alloc, connection, peer, stream);
         // there is room for each socket once
         socket.is_queued = self.ready.push(connection).is_ok();
         self.sockets.push_reserved(socket);
         Ok(())
-    }
-
-    /// Opens a connection, and counts its socket.
-    #[tactic(auto, using(crate::proofs::Goes::goes_then, crate::proofs::Goes::goes_none))]
-    fn keep(&mut self, alloc: Global, connection: u64) -> Result<(), AllocError>
-        requires last { self.old.host.broker.state.last < connection }
-        requires new { self.old.host.tried < connection }
-        ensures opened { OnOk result (Happens S.disk (Opens connection) self.old.host.broker self.new.host.broker) }
-        ensures tried { OnOk result (self.new.host.tried ≡ connection) }
-        ensures goes { Goes S.disk R.Stream.contents R.Stream.remaining (seen self.old.host self.old.sockets.items)
-            (seen self.new.host self.new.sockets.items) }
-        ensures sockets { self.new.sockets ≡ self.old.sockets }
-        ensures limit { self.new.limit ≡ self.old.limit }
-    {
-        if self.shares.admit(connection).is_err() {
-            return Err(AllocError);
-        }
-        self.host.connect(alloc, connection)
-    }
-
-    /// A connection could not be kept for want of memory.
-    fn refuse(&mut self, connection: u64) -> io::Error
-        ensures host { self.new.host ≡ self.old.host }
-        ensures sockets { self.new.sockets ≡ self.old.sockets }
-    {
-        self.strangers.forget(connection);
-        self.shares.release(connection);
-        io::Error::from(ErrorKind::OutOfMemory)
     }
 
     /// The place of a connection's socket, if one carries it.
@@ -621,6 +610,15 @@ impl<R: Net, S: Store, L: PartitionLog + Drop> Edge<R, S, L> {
             }
         }
     }
+}
+
+/// A connection could not be kept for want of memory, and is counted for nobody.
+fn refuse(strangers: &mut Strangers, shares: &mut SocketShares, connection: u64) -> io::Error
+    ensures { IsGiven connection None shares.old shares.new }
+{
+    strangers.forget(connection);
+    shares.release(connection);
+    io::Error::from(ErrorKind::OutOfMemory)
 }
 
 /// An edge that was not bound.

@@ -1,6 +1,7 @@
 //! A socket and the connection that it carries.
 
-ghost use Rattle.std.specs.Prelude.{◌≡◌, ◌≢◌, ◌≤◌, ◌<◌, ◌+◌, ◌-◌, ◌||◌, ◌&&◌, not, true, false, None, drop, [], vec_len, IfSome, nat_lt};
+ghost use Rattle.std.specs.Prelude.{◌≡◌, ◌≢◌, ◌≤◌, ◌<◌, ◌+◌, ◌-◌, ◌||◌, ◌&&◌, not, true, false, drop, [], vec_len, nat_lt};
+ghost use Rattle.std.specs.Prelude.{None, Some, IfSome};
 ghost use Rattle.std.specs.BTreeMap.{insert_entry};
 ghost use Rattle.std.specs.Ordering.{nat_cmp};
 ghost use Rattle.kb_isolation_spec.specs.Broker.{bound_to};
@@ -72,6 +73,8 @@ pub struct Socket<T> {
     may_answer: bool,
     /// Whether it was looked at which tenant has it, once it has logged in.
     is_bound: bool,
+    /// That tenant's place, where the tenant let it in.
+    tenant: Option<usize>,
     /// Whether its turn is to come.
     pub(crate) is_queued: bool,
     /// The moment at which it last took some of its output, or got it.
@@ -90,12 +93,14 @@ pub struct Socket<T> {
 }
 
 impl<T: Read + Write + Drop> Socket<T> {
+    ghost use Rattle.kb_node.specs.Seats.{IsReseated};
+
     /// A socket whose connection is open.
     pub fn new(alloc: Global, connection: u64, peer: SocketAddr, stream: T) -> Self
         ensures connection { result.connection ≡ connection }
         ensures stream { result.stream ≡ stream }
         ensures open { result.is_ended ≡ false }
-        ensures stranger { result.is_known ≡ false }
+        ensures stranger { (result.is_known ≡ false) × (result.is_bound ≡ false) }
         ensures unwritten { drop result.written result.output.items ≡ [] }
         ensures unhanded { drop result.input.handed result.input.bytes.items ≡ [] }
     {
@@ -116,6 +121,7 @@ impl<T: Read + Write + Drop> Socket<T> {
             held: None,
             may_answer: false,
             is_bound: false,
+            tenant: None,
             is_queued: false,
             moved: 0,
             holder: 0,
@@ -272,19 +278,24 @@ impl<T: Read + Write + Drop> Socket<T> {
         ensures connection { self.new.connection ≡ self.old.connection }
         ensures ended { self.new.is_ended ≡ self.old.is_ended }
         ensures over { self.old.is_over ≡ true → self.new.is_over ≡ true }
-        ensures rest { self.new ≡ record self.old { is_bound = self.new.is_bound; is_over = self.new.is_over } }
-        ensures refused { result ≡ false → self.new.is_over ≡ true }
-        ensures stays { result ≡ true → self.new.is_over ≡ self.old.is_over }
+        ensures rest { self.new ≡ record self.old {
+          is_bound = self.new.is_bound;
+          tenant = self.new.tenant;
+          is_over = self.new.is_over;
+        } }
+        // Its seat is the one that it has in the shares.
+        ensures seat { IsReseated self.old self.new shares.old shares.new }
+        ensures stays { (result ≡ true → self.new.is_over ≡ self.old.is_over) × (result ≡ false → self.new.is_over ≡ true) }
         ensures unbound { bound_to self.old.connection broker.now.state ≡ None → (result ≡ true) × (shares.new ≡ shares.old) }
         // It is counted as over a limit only where the tenant may not have it.
         ensures limit { turn.new ≢ turn.old
             → IfSome (bound_to self.old.connection broker.now.state) (λ tenant. may_bind self.old.connection tenant shares.old ≡ false) }
         ensures allowed { self.old.is_bound ≡ false → result ≡ true
             → IfSome (bound_to self.old.connection broker.now.state) (λ tenant. may_bind self.old.connection tenant shares.old ≡ true) }
-        // From then on it is counted for the tenant that the broker says, where that has a share, and for nobody else.
+        // From then on it is bound to the tenant that the broker says, and counted for it, where that has a share, and for nobody else.
         ensures counted { self.old.is_bound ≡ false → result ≡ true → IfSome (bound_to self.old.connection broker.now.state) (λ tenant.
-            nat_lt tenant shares.old.tenants ≡ true → shares.new.sockets
-            ≡ insert_entry nat_cmp (without self.old.connection shares.old.sockets) self.old.connection tenant) }
+            (self.new.tenant ≡ Some tenant) × (nat_lt tenant shares.old.tenants ≡ true → shares.new.sockets
+            ≡ insert_entry nat_cmp (without self.old.connection shares.old.sockets) self.old.connection tenant)) }
         ensures once { self.old.is_bound ≡ true → shares.new ≡ shares.old }
         ensures read { turn.new.read ≡ turn.old.read }
     {
@@ -296,10 +307,14 @@ impl<T: Read + Write + Drop> Socket<T> {
         };
         self.is_bound = true;
         match shares.bind(self.connection, tenant) {
-            Ok(true) => return true,
+            Ok(true) => {
+                self.tenant = Some(tenant);
+                return true;
+            }
             Ok(false) => turn.count_over_limit(),
             Err(_) => {}
         }
+        self.tenant = None;
         self.is_over = true;
         false
     }

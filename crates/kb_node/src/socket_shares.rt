@@ -2,6 +2,8 @@
 
 ghost use Rattle.std.specs.Prelude.{◌≡◌, [], true, false, IfOk, OnErr, OnOk, None, Some, nat_lt, length, if◌then◌else◌};
 ghost use Rattle.std.specs.BTreeMap.{insert_entry};
+ghost use Rattle.std.specs.List.Sorted.{IsStrictlySortedBy};
+ghost use Rattle.std.specs.Map.{keys_of};
 ghost use Rattle.std.specs.Ordering.{nat_cmp};
 ghost use Rattle.kb_node.specs.Replies.{place_of};
 ghost use Rattle.kb_node.specs.SocketShares.{count_of, holder_of, may_bind, released, seat_among, without, IsGiven};
@@ -37,7 +39,6 @@ impl Model for SocketShares {
 
 impl SocketShares {
     /// The shares of tenants by their places, of so many sockets. No socket is counted yet.
-    #[tactic(auto, using(crate::proofs::Counts::fresh_counted))]
     pub fn new(alloc: Global, sockets: u64, shares: &[Share]) -> Result<SocketShares, BudgetFault>
         ensures { IfOk result (λ it. (it.tenants ≡ length shares.now) × (it.sockets ≡ [])) }
     {
@@ -78,14 +79,16 @@ impl SocketShares {
 
     /// How many sockets are counted for a tenant.
     pub fn used(&self, tenant: usize) -> u64
-        ensures { result ≡ count_of tenant self.now.sockets }
+        ensures used { result ≡ count_of tenant self.now.sockets }
+        ensures ordered { IsStrictlySortedBy nat_cmp (keys_of self.now.sockets) }
     {
         self.budget.used(tenant)
     }
 
     /// How many sockets are counted that have not logged in.
     pub fn strangers(&self) -> u64
-        ensures { result ≡ count_of self.now.tenants self.now.sockets }
+        ensures used { result ≡ count_of self.now.tenants self.now.sockets }
+        ensures ordered { IsStrictlySortedBy nat_cmp (keys_of self.now.sockets) }
     {
         self.budget.used(self.tenants)
     }

@@ -1,7 +1,7 @@
 //! What is counted of tenants' requests: how many by API key, and their bytes and those of their replies.
 
 ghost use Rattle.std.specs.Prelude.{◌≡◌, ◌+◌, ◌-◌, ◌^◌, min, None, replicate};
-ghost use Rattle.kb_node.specs.TenantTraffic.{byte_in, key_in, noted, with_one_more};
+ghost use Rattle.kb_node.specs.TenantTraffic.{byte_in, key_in, noted, with_one_more, with_traffic};
 
 /// How many API keys are counted, each apart: 0 to 63. All that are served are among them (Kafka protocol guide, "Protocol Api Keys").
 pub const API_KEYS: usize = 64;
@@ -30,6 +30,16 @@ impl TenantTraffic {
             request_bytes: 0,
             response_bytes: 0,
         }
+    }
+
+    /// A request of an API key was handed on, where there is one, and so many bytes more were read and written.
+    pub(crate) fn count(&mut self, key: Option<u16>, read: u64, written: u64)
+        ensures { self.new ≡ with_traffic key read written self.old }
+    {
+        if let Some(key) = key {
+            self.count_request(key);
+        }
+        self.count_bytes(read, written);
     }
 
     /// There was one more request of an API key. One whose key is 64 or more is not counted.

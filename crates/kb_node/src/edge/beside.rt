@@ -1,6 +1,7 @@
 //! What an edge waits for beside its sockets, and how many of these there are.
 
-ghost use Rattle.std.specs.Prelude.{◌≡◌, false, vec_len};
+ghost use Rattle.std.specs.Prelude.{◌≡◌, ◌<◌, false, vec_len};
+ghost use Rattle.kb_node.specs.Seats.{open_strangers, open_with};
 
 use crate::edge::Edge;
 use kb_log::PartitionLog;
@@ -37,6 +38,20 @@ impl<R: Net, S: Store, L: PartitionLog + Drop> Edge<R, S, L> {
         ensures { result ≡ vec_len self.now.sockets }
     {
         self.sockets.len()
+    }
+
+    /// How many open sockets are bound to a tenant with a share, which let them in: as many are counted for it.
+    pub fn open_sockets(&self, tenant: usize) -> u64
+        ensures { tenant < self.now.shares.tenants → result ≡ open_with tenant self.now.sockets.items }
+    {
+        self.shares.used(tenant)
+    }
+
+    /// How many open sockets have not logged in.
+    pub fn open_strangers(&self) -> u64
+        ensures { result ≡ open_strangers self.now.sockets.items }
+    {
+        self.shares.strangers()
     }
 
     /// How many sockets there are at most at a time.

@@ -380,11 +380,12 @@ impl<R: Net, S: Store, L: PartitionLog + Drop> Edge<R, S, L> {
         ensures goes { Goes S.disk R.Stream.contents R.Stream.remaining (seen self.old.host self.old.sockets.items)
             (seen self.new.host self.new.sockets.items) }
     {
+        let place = self.place_of(number);
         self.strangers.forget(number);
         self.shares.release(number);
         self.replies.release(number);
         self.inputs.release(number);
-        if let Some(place) = self.place_of(number)
+        if let Some(place) = place
             && let Some(socket) = self.sockets.get_mut(place)
             && !socket.is_ended()
         {

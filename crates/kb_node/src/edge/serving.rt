@@ -8,6 +8,7 @@ ghost use Rattle.kb_shares.specs.Ledger.{set_to};
 ghost use Rattle.kb_shares.specs.Shares.{has_room};
 ghost use Rattle.kb_shares.specs.Turns.{after_next, next};
 ghost use Rattle.kb_node.specs.Numbers.{IsInOrder, socket_of};
+ghost use Rattle.kb_node.specs.Seats.{IsLeft};
 ghost use Rattle.kb_node.specs.TenantTraffic.{with_traffic};
 ghost use Rattle.kb_node.specs.Replies.{kept_for, place_of};
 ghost use Rattle.kb_node.specs.Waiting.{begun_by, behind, room_behind};
@@ -16,6 +17,8 @@ use crate::committed::Committed;
 use crate::edge::Edge;
 use crate::edge::closing::note_reply;
 use crate::socket::{Next, Socket};
+use crate::socket_shares::SocketShares;
+use crate::tenant_traffic::TenantTraffic;
 use crate::times::Times;
 use crate::turn::Turn;
 use kb_log::PartitionLog;
@@ -132,7 +135,8 @@ impl<R: Net, S: Store, L: PartitionLog + Drop> Edge<R, S, L> {
             &mut self.news,
             turn,
         );
-        self.count(place, before, turn);
+        count(&mut self.traffic, socket, &self.shares, before, turn);
+        leave(socket, &mut self.shares);
         self.note(alloc, place, before, next, turn);
     }
 
@@ -277,7 +281,7 @@ impl<R: Net, S: Store, L: PartitionLog + Drop> Edge<R, S, L> {
             most,
             turn,
         );
-        self.count(place, before, turn);
+        count(&mut self.traffic, socket, &self.shares, before, turn);
         if !self.note_written(alloc, place, before, turn) {
             return;
         }
@@ -336,37 +340,9 @@ impl<R: Net, S: Store, L: PartitionLog + Drop> Edge<R, S, L> {
         }
         let before = Before::of(socket, turn);
         let next = socket.tell(alloc, &mut self.host, &mut self.news, turn);
-        self.count(place, before, turn);
+        count(&mut self.traffic, socket, &self.shares, before, turn);
+        leave(socket, &mut self.shares);
         self.note(alloc, place, before, next, turn);
-    }
-
-    /// Counts for its tenant what was read and written of the socket at a place since it was served, and its request where the API key of
-    /// one came. One that was not told before that it has logged in is counted for nobody.
-    fn count(&mut self, place: usize, before: Before, turn: &Turn)
-        ensures seen { seen self.new.host self.new.sockets.items ≡ seen self.old.host self.old.sockets.items }
-        ensures lanes { self.new.lanes ≡ self.old.lanes }
-        ensures stranger { before.is_stranger ≡ true → self.new.traffic ≡ self.old.traffic }
-        ensures counted { before.is_stranger ≡ false → IfSome (slice_get self.old.sockets.items place)
-            (λ s. let holder = place_of s.connection self.old.shares in IfSome (slice_get self.old.traffic.items holder)
-            (λ t. self.new.traffic.items ≡ slice_set self.old.traffic.items holder
-            (with_traffic s.heading.key (turn.now.read - before.read) (turn.now.written - before.written) t))) }
-    {
-        let Some(socket) = self.sockets.get_mut(place) else {
-            return;
-        };
-        let key = socket.take_key();
-        if before.is_stranger {
-            return;
-        }
-        let holder = self.shares.holder(socket.connection());
-        let Some(traffic) = self.traffic.get_mut(holder) else {
-            return;
-        };
-        if let Some(key) = key {
-            traffic.count_request(key);
-        }
-        let read = turn.read.saturating_sub(before.read);
-        traffic.count_bytes(read, turn.written.saturating_sub(before.written));
     }
 
     /// Notes what became of the socket at a place, which was served: whether its login failed, and whether it can go on.
@@ -414,7 +390,6 @@ impl<R: Net, S: Store, L: PartitionLog + Drop> Edge<R, S, L> {
             self.strangers.forget(socket.connection());
         }
         if socket.is_ended() {
-            self.shares.release(socket.connection());
             self.replies.release(socket.connection());
             self.times
                 .forget(socket.connection(), socket.begun, socket.looked);
@@ -510,6 +485,43 @@ impl<R: Net, S: Store, L: PartitionLog + Drop> Edge<R, S, L> {
             return false;
         }
         true
+    }
+}
+
+/// Counts for its tenant what was read and written of a socket since it was served, and its request where the API key of one came. One that
+/// was not told before that it has logged in is counted for nobody.
+fn count<T: Read + Write + Drop>(
+    traffic: &mut Vec<TenantTraffic>,
+    socket: &mut Socket<T>,
+    shares: &SocketShares,
+    before: Before,
+    turn: &Turn,
+)
+    ensures socket { socket.new ≡ record socket.old { heading = record socket.old.heading { key = None } } }
+    ensures stranger { before.is_stranger ≡ true → traffic.new ≡ traffic.old }
+    ensures counted { before.is_stranger ≡ false → let holder = place_of socket.old.connection shares.now in
+        IfSome (slice_get traffic.old.items holder) (λ t. traffic.new.items ≡ slice_set traffic.old.items holder
+        (with_traffic socket.old.heading.key (turn.now.read - before.read) (turn.now.written - before.written) t)) }
+{
+    let holder = shares.holder(socket.connection());
+    let key = socket.take_key();
+    if before.is_stranger {
+        return;
+    }
+    let Some(traffic) = traffic.get_mut(holder) else {
+        return;
+    };
+    let read = turn.read.saturating_sub(before.read);
+    let written = turn.written.saturating_sub(before.written);
+    traffic.count(key, read, written);
+}
+
+/// A socket whose connection is closed is counted no longer.
+fn leave<T: Read + Write + Drop>(socket: &Socket<T>, shares: &mut SocketShares)
+    ensures { IsLeft socket.now shares.old shares.new }
+{
+    if socket.is_ended() {
+        shares.release(socket.connection());
     }
 }
 

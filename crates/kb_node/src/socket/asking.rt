@@ -7,6 +7,7 @@ ghost use Rattle.kb_broker.specs.Places.{numbers};
 ghost use Rattle.kb_node.specs.Carries.{Carries, HandsOn, unhanded_of, unwritten_of};
 ghost use Rattle.kb_node.specs.Commits.{tells_at_once};
 ghost use Rattle.kb_node.specs.Requests.{awaited, is_too_long, may_begin};
+ghost use Rattle.kb_node.specs.Seats.{KeepsSeat};
 ghost use Rattle.kb_node.specs.Sockets.{can_ask};
 
 use crate::committed::Committed;
@@ -46,6 +47,7 @@ impl<T: Read + Write + Drop> Socket<T> {
         requires { can_ask self.now.is_over (vec_len self.now.output - self.now.written) self.now.connection host.now.broker.state ≡ true }
         ensures carries { Carries S.disk T.contents T.remaining self.old self.new host.old.broker host.new.broker }
         ensures connection { self.new.connection ≡ self.old.connection }
+        ensures seat { KeepsSeat self.old self.new }
         ensures ended { self.new.is_ended ≡ self.old.is_ended }
         ensures numbers { numbers host.new.broker.state ≡ numbers host.old.broker.state }
         ensures tried { host.new.tried ≡ host.old.tried }
@@ -123,6 +125,7 @@ impl<T: Read + Write + Drop> Socket<T> {
         ensures stream { self.new.stream ≡ self.old.stream }
         ensures unwritten { unwritten_of self.new ≡ unwritten_of self.old }
         ensures connection { self.new.connection ≡ self.old.connection }
+        ensures seat { KeepsSeat self.old self.new }
         ensures ended { self.new.is_ended ≡ self.old.is_ended }
         ensures numbers { numbers host.new.broker.state ≡ numbers host.old.broker.state }
         ensures tried { host.new.tried ≡ host.old.tried }

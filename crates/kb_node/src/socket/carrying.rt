@@ -8,6 +8,7 @@ ghost use Rattle.kb_broker.specs.Places.{numbers};
 ghost use Rattle.kb_node.specs.Carries.{Carries, unhanded_of, unwritten_of};
 ghost use Rattle.kb_node.specs.Commits.{may_tell, tells_at_once};
 ghost use Rattle.kb_node.specs.News.{IsAdded};
+ghost use Rattle.kb_node.specs.Seats.{IsReseated, KeepsSeat};
 ghost use Rattle.kb_node.specs.Sockets.{is_denied, is_done, is_held};
 ghost use Rattle.kb_node.specs.declared.socket.Next.TheVariants.{End};
 
@@ -47,6 +48,7 @@ impl<T: Read + Write + Drop> Socket<T> {
         requires at_once { tells_at_once host.old.commits ≡ true }
         ensures carries { Carries S.disk T.contents T.remaining self.old self.new host.old.broker host.new.broker }
         ensures connection { self.new.connection ≡ self.old.connection }
+        ensures seat { IsReseated self.old self.new shares.old shares.new }
         ensures tried { host.new.tried ≡ host.old.tried }
         // With nothing to be asked nothing is done but to tell what was said, and to close.
         ensures unasked { may_ask ≡ false → host.new.broker.store ≡ host.old.broker.store }
@@ -87,6 +89,7 @@ impl<T: Read + Write + Drop> Socket<T> {
         requires { self.now.is_ended ≡ false }
         ensures carries { Carries S.disk T.contents T.remaining self.old self.new host.old.broker host.new.broker }
         ensures connection { self.new.connection ≡ self.old.connection }
+        ensures seat { IsReseated self.old self.new shares.old shares.new }
         ensures tried { host.new.tried ≡ host.old.tried }
         ensures ended { self.new.is_ended ≡ self.old.is_ended }
         ensures numbers { numbers host.new.broker.state ≡ numbers host.old.broker.state }
@@ -117,6 +120,7 @@ impl<T: Read + Write + Drop> Socket<T> {
         requires may_tell { may_tell host.old.commits ≡ true }
         ensures carries { Carries S.disk T.contents T.remaining self.old self.new host.old.broker host.new.broker }
         ensures connection { self.new.connection ≡ self.old.connection }
+        ensures seat { KeepsSeat self.old self.new }
         ensures tried { host.new.tried ≡ host.old.tried }
         ensures store { host.new.broker.store ≡ host.old.broker.store }
         ensures commits { host.new.commits ≡ host.old.commits }
@@ -145,6 +149,7 @@ impl<T: Read + Write + Drop> Socket<T> {
         requires { self.now.is_ended ≡ false }
         ensures carries { Carries S.disk T.contents T.remaining self.old self.new host.old.broker host.new.broker }
         ensures connection { self.new.connection ≡ self.old.connection }
+        ensures seat { KeepsSeat self.old self.new }
         ensures tried { host.new.tried ≡ host.old.tried }
         ensures store { host.new.broker.store ≡ host.old.broker.store }
         ensures commits { host.new.commits ≡ host.old.commits }
@@ -249,6 +254,7 @@ impl<T: Read + Write + Drop> Socket<T> {
     )
         ensures carries { Carries S.disk T.contents T.remaining self.old self.new host.old.broker host.new.broker }
         ensures connection { self.new.connection ≡ self.old.connection }
+        ensures seat { KeepsSeat self.old self.new }
         ensures tried { host.new.tried ≡ host.old.tried }
         ensures store { host.new.broker.store ≡ host.old.broker.store }
         ensures commits { host.new.commits ≡ host.old.commits }
@@ -271,6 +277,7 @@ impl<T: Read + Write + Drop> Socket<T> {
             (vec_len self.now.output - self.now.written) self.now.connection host.now.broker.state ≡ true }
         ensures carries { Carries S.disk T.contents T.remaining self.old self.new host.old.broker host.new.broker }
         ensures connection { self.new.connection ≡ self.old.connection }
+        ensures seat { KeepsSeat self.old self.new }
         ensures tried { host.new.tried ≡ host.old.tried }
         ensures store { host.new.broker.store ≡ host.old.broker.store }
         ensures commits { host.new.commits ≡ host.old.commits }
@@ -297,15 +304,16 @@ impl<T: Read + Write + Drop> Socket<T> {
         requires may_tell { may_tell host.old.commits ≡ true }
         ensures carries { Carries S.disk T.contents T.remaining self.old self.new host.old.broker host.new.broker }
         ensures connection { self.new.connection ≡ self.old.connection }
+        ensures seat { KeepsSeat self.old self.new }
         ensures tried { host.new.tried ≡ host.old.tried }
         ensures store { host.new.broker.store ≡ host.old.broker.store }
         ensures commits { host.new.commits ≡ host.old.commits }
         ensures ended { self.new.is_ended ≡ self.old.is_ended }
         ensures numbers { numbers host.new.broker.state ≡ numbers host.old.broker.state }
         ensures read { turn.new.read ≡ turn.old.read }
-        ensures unchanged { self.old.written < vec_len self.old.output → host.new ≡ host.old }
-        // A failed login is not answered before its time.
-        ensures held { is_held self.old.may_answer self.old.connection host.old.broker.state ≡ true → host.new ≡ host.old }
+        // Nothing is taken before all is written, and a failed login is not answered before its time.
+        ensures held { (self.old.written < vec_len self.old.output → host.new ≡ host.old)
+            × (is_held self.old.may_answer self.old.connection host.old.broker.state ≡ true → host.new ≡ host.old) }
     {
         if self.unwritten() == 0 && !self.is_held(host.broker()) {
             self.take_output(alloc, host);
@@ -325,6 +333,7 @@ impl<T: Read + Write + Drop> Socket<T> {
         requires may_answer { is_held self.now.may_answer self.now.connection host.now.broker.state ≡ false }
         ensures carries { Carries S.disk T.contents T.remaining self.old self.new host.old.broker host.new.broker }
         ensures connection { self.new.connection ≡ self.old.connection }
+        ensures seat { KeepsSeat self.old self.new }
         ensures tried { host.new.tried ≡ host.old.tried }
         ensures store { host.new.broker.store ≡ host.old.broker.store }
         ensures commits { host.new.commits ≡ host.old.commits }
@@ -343,6 +352,7 @@ impl<T: Read + Write + Drop> Socket<T> {
         ensures unhanded { unhanded_of self.new ≡ unhanded_of self.old }
         ensures over { self.old.is_over ≡ true → self.new.is_over ≡ true }
         ensures connection { self.new.connection ≡ self.old.connection }
+        ensures seat { KeepsSeat self.old self.new }
         ensures ended { self.new.is_ended ≡ self.old.is_ended }
         ensures read { turn.new.read ≡ turn.old.read }
     {

@@ -1,4 +1,6 @@
-use Rattle.std.proofs.Common.{rules, ap, ◌∙◌}
+use Rattle.kb_node.proofs.Seats.{leave}
+use Rattle.kb_node.specs.Seats.{AreSeated}
+use Rattle.std.proofs.Common.{rules, ap, ◌∙◌, subst, sym}
 use Rattle.std.proofs.lemmas.Fn.{filter_same}
 use Rattle.kb_node.specs.Cores.{cores}
 use Rattle.kb_node.proofs.Cores.{swept}
@@ -8,3 +10,8 @@ use Rattle.kb_node.proofs.edge.Edge.drop_ended.Goals as goal
 pub returns-then-turn-gt0-clause-goes : goal.returns-then-turn-gt0-clause-goes
 returns-then-turn-gt0-clause-goes g c = goes_left _ c.args.self.now.sockets.items _
     (ap cores (filter_same _ _ _ (λ x b f' k. search rules) _ _ c.retain.ensures.filtered) ∙ swept c.args.self.now.sockets.items)
+
+pub invariant_of-self-clause-seated : goal.invariant_of-self-clause-seated
+invariant_of-self-clause-seated g c = subst (λ xs. AreSeated c.args.self.now.host c.args.self.now.shares xs)
+    (sym (filter_same _ _ _ (λ x b f' k. search rules) _ _ c.retain.ensures.filtered))
+    (leave c.args.self.now.host c.args.self.now.shares c.args.self.now.sockets.items c.args.self.now.seated)

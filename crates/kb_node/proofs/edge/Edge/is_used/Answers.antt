@@ -1,5 +1,6 @@
 use Rattle.std.proofs.Common.{refl}
 use Rattle.kb_node.proofs.Cores.{same_at}
+use Rattle.kb_node.proofs.Seats.{kept_at}
 use Rattle.kb_node.proofs.edge.Edge.is_used.Goals as goal
 
 pub returns-then-is_idle_too_long-clause-seen : goal.returns-then-is_idle_too_long-clause-seen
@@ -10,3 +11,15 @@ returns-in-Ok-clause-seen g c = same_at _ c.args.self.now.sockets c.in-Some.plac
 
 pub returns-in-Err-clause-seen : goal.returns-in-Err-clause-seen
 returns-in-Err-clause-seen g c = same_at _ c.args.self.now.sockets c.in-Some.place c.in-Some-get_mut.socket.now _ (c.in-Some-get_mut.ensures.variant.0 refl) c.in-Some-get_mut.ensures.value refl
+
+pub invariant_of-self-then-is_idle_too_long-clause-seated : goal.invariant_of-self-then-is_idle_too_long-clause-seated
+invariant_of-self-then-is_idle_too_long-clause-seated g c = kept_at _ _ _ c.args.self.now.sockets c.in-Some.place c.in-Some-get_mut.socket.now _ (c.in-Some-get_mut.ensures.variant.0 refl)
+    c.in-Some-get_mut.ensures.value refl refl c.args.self.now.seated
+
+pub invariant_of-self-in-Ok-clause-seated : goal.invariant_of-self-in-Ok-clause-seated
+invariant_of-self-in-Ok-clause-seated g c = kept_at _ _ _ c.args.self.now.sockets c.in-Some.place c.in-Some-get_mut.socket.now _ (c.in-Some-get_mut.ensures.variant.0 refl)
+    c.in-Some-get_mut.ensures.value refl refl c.args.self.now.seated
+
+pub invariant_of-self-in-Err-clause-seated : goal.invariant_of-self-in-Err-clause-seated
+invariant_of-self-in-Err-clause-seated g c = kept_at _ _ _ c.args.self.now.sockets c.in-Some.place c.in-Some-get_mut.socket.now _ (c.in-Some-get_mut.ensures.variant.0 refl)
+    c.in-Some-get_mut.ensures.value refl refl c.args.self.now.seated

@@ -1,7 +1,11 @@
-use Rattle.std.proofs.Common.{ap, refl}
+use Rattle.std.proofs.Common.{◌≡◌, ◌∙◌, IfSome, ap, refl, subst, sym}
 use Rattle.kb_node.specs.Cores.{core}
-use Rattle.kb_node.proofs.Cores.{same_at}
+use Rattle.kb_shares.specs.Ledger.{set_to}
+use Rattle.kb_node.specs.Replies.{place_of}
+use Rattle.kb_node.proofs.Carries.{on_ok}
+use Rattle.kb_node.proofs.Cores.{item_at, same_at}
 use Rattle.kb_node.proofs.Goes.{goes_still, goes_then}
+use Rattle.kb_node.proofs.Seats.{kept_at, mark}
 use Rattle.kb_node.proofs.edge.Edge.note_input.Goals as goal
 
 pub returns-then-is_err-clause-goes : goal.returns-then-is_err-clause-goes
@@ -9,3 +13,17 @@ returns-then-is_err-clause-goes g c = goes_then (goes_still (same_at _ c.args.se
 
 pub returns-clause-goes : goal.returns-clause-goes
 returns-clause-goes g c = goes_still (same_at _ c.args.self.now.sockets c.args.place c.in-Some.socket.now c.note_times-timed.new.socket (c.in-Some.ensures.variant.0 refl) c.in-Some.ensures.value (ap core c.note_times-timed.ensures))
+
+pub invariant_of-self-2-clause-seated : goal.invariant_of-self-2-clause-seated
+invariant_of-self-2-clause-seated g c = kept_at _ _ _ c.args.self.now.sockets c.args.place c.in-Some.socket.now c.note_times-timed.new.socket (c.in-Some.ensures.variant.0 refl)
+    c.in-Some.ensures.value refl (ap mark c.note_times-timed.ensures) c.args.self.now.seated
+
+pub returns-clause-booked : goal.returns-clause-booked
+returns-clause-booked g c = λ _.
+    let a = c.args.self.now in let s = c.in-Some.socket.now in
+    let number = c.connection-number.ensures in
+    let holder = c.holder.ensures ∙ ap (λ n. place_of n a.shares) number in
+    let begun = c.begun-begun.ensures in
+    subst (λ o. IfSome o (λ x. c.set-booked.new.self ≡ set_to x.connection (place_of x.connection a.shares) x.input.progress.size a.inputs))
+    (sym (item_at a.sockets c.args.place s (c.in-Some.ensures.variant.0 refl) c.in-Some.ensures.value))
+    (on_ok c.set-booked.result c.set-booked.ensures.set (sym c.is_err.ensures.value ∙ c.if-is_err.false) ∙ λ i. set_to (number i) (holder i) (begun i) a.inputs)

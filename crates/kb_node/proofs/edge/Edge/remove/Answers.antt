@@ -1,3 +1,4 @@
+use Rattle.kb_node.proofs.Seats.{leaves_at}
 use Rattle.std.proofs.Common.{sym, ◌∙◌}
 use Rattle.kb_node.proofs.Goes.{goes_removed}
 use Rattle.kb_node.proofs.edge.Edge.remove.Goals as goal
@@ -5,3 +6,7 @@ use Rattle.kb_node.proofs.edge.Edge.remove.Goals as goal
 pub returns-then-is_ended : goal.returns-then-is_ended
 returns-then-is_ended g c = goes_removed _ c.deref.result.now _ _ c.in-Some.place c.in-Some-get.socket.now c.in-Some-get.ensures.lookup.3.0
     c.in-Some-get.ensures.lookup.1 (sym c.is_ended.ensures ∙ c.if-is_ended.true) c.deref.ensures.value c.remove.ensures.items
+
+pub invariant_of-self-clause-seated : goal.invariant_of-self-clause-seated
+invariant_of-self-clause-seated g c = leaves_at _ _ c.deref.result.now _ _ c.in-Some.place c.in-Some-get.socket.now c.in-Some-get.ensures.lookup.3.0
+    c.in-Some-get.ensures.lookup.1 (sym c.is_ended.ensures ∙ c.if-is_ended.true) c.deref.ensures.value c.remove.ensures.items c.args.self.now.seated

@@ -1,5 +1,6 @@
 use Rattle.std.proofs.Common.{refl, ap, ◌∙◌}
 use Rattle.kb_node.proofs.Goes.{goes_committed, goes_still, goes_then}
+use Rattle.kb_node.proofs.Seats.{same_host}
 use Rattle.kb_node.proofs.edge.Edge.serve_together.Goals as goal
 
 pub returns-in_err-commit-clause-goes : goal.returns-in_err-commit-clause-goes
@@ -12,3 +13,6 @@ returns-clause-goes g c = goes_then c.hand_on.ensures (goes_then (goes_still c.h
 
 pub returns-clause-well : goal.returns-clause-well
 returns-clause-well g c = ap (λ x. x.fault) (c.tell_asked.ensures.commits ∙ c.tell.ensures.commits) ∙ c.in_ok-commit.ensures.well.1
+
+pub invariant_of-self-clause-seated : goal.invariant_of-self-clause-seated
+invariant_of-self-clause-seated g c = same_host c.hear_speakers.new.self.host c.commit.new.self c.hear_speakers.new.self.shares c.hear_speakers.new.self.sockets.items c.commit.ensures.tried c.hear_speakers.new.self.seated

@@ -1,28 +1,44 @@
-use Rattle.std.proofs.Common.{◌∙◌, ap, sym}
+use Rattle.std.proofs.Common.{◌∙◌, ap, arith, refl, sym}
 use Rattle.kb_node.specs.Cores.{seen}
 use Rattle.kb_node.proofs.Carries.{on_ok}
-use Rattle.kb_node.proofs.Goes.{goes_joined, goes_same, goes_still, goes_then, joined, seen_same}
+use Rattle.kb_node.proofs.Goes.{goes_joined, goes_opened, goes_still, goes_then, joined}
+use Rattle.kb_node.proofs.Seats.{comes_behind, given_any, not_kept}
 use Rattle.kb_node.proofs.edge.Edge.take_in.Goals as goal
 
 pub returns-then-is_err-clause-goes : goal.returns-then-is_err-clause-goes
-returns-then-is_err-clause-goes g c = goes_then (goes_still (ap (λ xs. seen c.args.self.now.host xs) c.reserve.ensures.items))
-    (goes_same (seen_same c.refuse.ensures.host c.refuse.ensures.sockets) c.keep.ensures.goes)
+returns-then-is_err-clause-goes g c = goes_still (ap (λ xs. seen c.args.self.now.host xs) c.reserve.ensures.items)
 
-pub returns-then-is_err-clause-others : goal.returns-then-is_err-clause-others
-returns-then-is_err-clause-others g c = ap (λ v. v.items) (c.refuse.ensures.sockets ∙ c.keep.ensures.sockets) ∙ c.reserve.ensures.items
+pub returns-then-is_err-2-clause-goes : goal.returns-then-is_err-2-clause-goes
+returns-then-is_err-2-clause-goes g c = goes_then (goes_still (ap (λ xs. seen c.args.self.now.host xs) c.reserve.ensures.items))
+    (goes_opened c.in-Some.ensures.above.0 c.connect.ensures.tried c.connect.ensures.happens refl)
 
 pub returns-clause-goes : goal.returns-clause-goes
 returns-clause-goes g c =
-    let well = sym c.is_err.ensures.value ∙ c.if-is_err.false in
-    goes_joined c.in-Some.connection c.args.stream c.in-Some.ensures.above.0 (on_ok c.keep.result c.keep.ensures.tried well)
-    (on_ok c.keep.result c.keep.ensures.opened well)
-    (joined _ _ _ _ c.push_reserved.ensures.items (ap (λ v. v.items) c.keep.ensures.sockets ∙ c.reserve.ensures.items)
+    goes_joined c.in-Some.connection c.args.stream c.in-Some.ensures.above.0 c.connect.ensures.tried c.connect.ensures.happens
+    (joined _ _ _ _ c.push_reserved.ensures.items c.reserve.ensures.items
     c.new-socket.ensures.connection c.new-socket.ensures.stream c.new-socket.ensures.unwritten c.new-socket.ensures.unhanded
     c.new-socket.ensures.open)
 
 pub returns-clause-socket : goal.returns-clause-socket
 returns-clause-socket g c =
-    let well = sym c.is_err.ensures.value ∙ c.if-is_err.false in
-    joined _ _ _ _ c.push_reserved.ensures.items (ap (λ v. v.items) c.keep.ensures.sockets ∙ c.reserve.ensures.items)
-    (c.new-socket.ensures.connection ∙ sym (on_ok c.keep.result c.keep.ensures.tried well)) c.new-socket.ensures.stream
+    joined _ _ _ _ c.push_reserved.ensures.items c.reserve.ensures.items
+    (c.new-socket.ensures.connection ∙ sym c.connect.ensures.tried) c.new-socket.ensures.stream
     c.new-socket.ensures.unwritten c.new-socket.ensures.unhanded c.new-socket.ensures.open
+
+pub invariant_of-self-then-is_err-clause-seated : goal.invariant_of-self-then-is_err-clause-seated
+invariant_of-self-then-is_err-clause-seated g c =
+    let any = given_any c.admit-2.result c.in-Some.connection c.args.self.now.shares.tenants c.args.self.now.shares c.admit-2.new.self c.admit-2.ensures.seat c.admit-2.ensures.none in
+    not_kept c.args.self.now.host c.args.self.now.host c.args.self.now.shares c.admit-2.new.self c.refuse.new.shares _ _ c.in-Some.connection any.0 c.reserve.ensures.items c.in-Some.ensures.above.0 (omega arith)
+    any.1 c.refuse.ensures c.args.self.now.seated
+
+pub invariant_of-self-then-is_err-2-clause-seated : goal.invariant_of-self-then-is_err-2-clause-seated
+invariant_of-self-then-is_err-2-clause-seated g c =
+    let any = given_any c.admit-2.result c.in-Some.connection c.args.self.now.shares.tenants c.args.self.now.shares c.admit-2.new.self c.admit-2.ensures.seat c.admit-2.ensures.none in
+    not_kept c.args.self.now.host c.connect.new.self c.args.self.now.shares c.admit-2.new.self c.refuse-then-is_err-2.new.shares _ _ c.in-Some.connection any.0 c.reserve.ensures.items c.in-Some.ensures.above.0
+    (omega (arith, c.in-Some.ensures.above.0, c.connect.ensures.tried)) any.1 c.refuse-then-is_err-2.ensures c.args.self.now.seated
+
+pub invariant_of-self-2-clause-seated : goal.invariant_of-self-2-clause-seated
+invariant_of-self-2-clause-seated g c =
+    comes_behind c.args.self.now.host c.connect.new.self c.args.self.now.shares c.admit-2.new.self _ _ _ c.in-Some.connection _ c.push_reserved.ensures.items c.reserve.ensures.items c.in-Some.ensures.above.0 c.connect.ensures.tried
+    (on_ok c.admit-2.result c.admit-2.ensures.seat (sym c.is_err.ensures.value ∙ c.if-is_err.false))
+    c.new-socket.ensures.connection c.new-socket.ensures.open c.new-socket.ensures.stranger.1 c.args.self.now.seated

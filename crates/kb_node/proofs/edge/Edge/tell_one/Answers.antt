@@ -1,7 +1,14 @@
-use Rattle.std.proofs.Common.{refl}
-use Rattle.kb_node.proofs.Goes.{goes_carried, goes_still, goes_then}
+use Rattle.std.proofs.Common.{◌∙◌, ap, refl, sym}
+use Rattle.kb_node.specs.Cores.{core}
+use Rattle.kb_node.proofs.Goes.{goes_carried_as, goes_then}
+use Rattle.kb_node.proofs.Seats.{mark, told_as}
 use Rattle.kb_node.proofs.edge.Edge.tell_one.Goals as goal
 
 pub returns-clause-goes : goal.returns-clause-goes
-returns-clause-goes g c = goes_then (goes_carried _ _ c.args.self.now.sockets c.in-Some.place c.in-Some-get_mut.socket.now c.tell-next.new.self (c.in-Some-get_mut.ensures.variant.0 refl)
-    c.in-Some-get_mut.ensures.value c.tell-next.ensures.connection c.tell-next.ensures.tried c.tell-next.ensures.carries) (goes_then (goes_still c.count.ensures.seen) c.note.ensures.goes)
+returns-clause-goes g c = goes_then (goes_carried_as _ _ c.args.self.now.sockets c.in-Some.place c.in-Some-get_mut.socket.now c.tell-next.new.self c.count.new.socket (ap core c.count.ensures.socket) (c.in-Some-get_mut.ensures.variant.0 refl)
+    c.in-Some-get_mut.ensures.value c.tell-next.ensures.connection c.tell-next.ensures.tried c.tell-next.ensures.carries) c.note.ensures.goes
+
+pub invariant_of-self-2-clause-seated : goal.invariant_of-self-2-clause-seated
+invariant_of-self-2-clause-seated g c = told_as _ c.tell-next.new.host c.args.self.now.shares c.leave.new.shares c.args.self.now.sockets c.in-Some.place c.in-Some-get_mut.socket.now c.tell-next.new.self c.count.new.socket
+    (c.in-Some-get_mut.ensures.variant.0 refl) c.in-Some-get_mut.ensures.value c.tell-next.ensures.connection c.tell-next.ensures.tried
+    (sym c.is_ended.ensures ∙ c.if-is_ended.false) c.tell-next.ensures.seat (ap mark c.count.ensures.socket) c.leave.ensures c.args.self.now.seated

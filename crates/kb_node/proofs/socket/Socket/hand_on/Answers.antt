@@ -1,5 +1,6 @@
 use Rattle.std.proofs.Common.{refl, ◌∙◌, ap, drop}
 use Rattle.kb_node.proofs.Carries.{StaysOpen, open_then, open_open, stays, writes}
+use Rattle.kb_node.proofs.Seats.{kept_then, seated_then, stays_seated}
 use Rattle.kb_node.proofs.socket.Socket.hand_on.Goals as goal
 
 pub returns-then-not-speaks-clause-carries : goal.returns-then-not-speaks-clause-carries
@@ -22,3 +23,13 @@ pub returns-else-may_ask-clause-carries : goal.returns-else-may_ask-clause-carri
 returns-else-may_ask-clause-carries g c =
     let put = c.write_on.ensures.written in
     writes g.S.Store.disk g.T.Write.contents g.T.Read.remaining c.args.self.now _ _ _ put.0 refl put.1 put.2 c.write_on.ensures.unhanded c.write_on.ensures.over
+
+pub returns-then-not-speaks-clause-seat : goal.returns-then-not-speaks-clause-seat
+returns-then-not-speaks-clause-seat g c =
+    let a = c.args.shares.now in let s = c.args.self.now in
+    seated_then s c.ask-reserve.new.self _ a a _ (c.ask-reserve.ensures.connection ∙ c.write_on.ensures.connection)
+    (stays_seated a s c.ask-reserve.new.self (kept_then s c.write_on.new.self c.ask-reserve.new.self c.write_on.ensures.seat c.ask-reserve.ensures.seat))
+    c.take_seat.ensures.seat
+
+pub returns-else-may_ask-clause-seat : goal.returns-else-may_ask-clause-seat
+returns-else-may_ask-clause-seat g c = stays_seated c.args.shares.now c.args.self.now _ c.write_on.ensures.seat

@@ -1,4 +1,7 @@
 use Rattle.std.proofs.Common.{◌≡◌, ◌+◌, None, arith, sym, subst, ap, ◌∙◌}
+use Rattle.std.specs.List.Sorted.{IsStrictlySortedBy}
+use Rattle.std.specs.Map.{keys_of}
+use Rattle.std.specs.Ordering.{nat_cmp}
 use Rattle.kb_shares.specs.Shares.{used_by}
 use Rattle.kb_node.specs.SocketShares.{AreCounted, holder_of}
 use Rattle.kb_node.proofs.Counts.{more}
@@ -10,4 +13,5 @@ invariant_of-self-in-Ok c =
     let gone : holder_of c.args.connection c.self.inside.holders.entries ≡ None = grind (arith, c.release.ensures.gone, c.self.view_is) in
     subst (AreCounted c.put.new.self) (sym c.in-Ok.ensures.entries)
     (more c.self.inside.budget c.put.new.self c.args.connection c.self.inside.tenants c.self.inside.holders.entries c.self.invariant
-    c.insert.ensures.was_ordered gone used c.put.ensures.others)
+    c.insert.ensures.was_ordered
+    (subst (λ es. IsStrictlySortedBy nat_cmp (keys_of es)) c.in-Ok.ensures.entries c.insert.ensures.ordered) gone used c.put.ensures.others)

@@ -6,7 +6,7 @@ use Rattle.kb_tenant.specs.Batches.{HasSmallLogs}
 use Rattle.kb_tenant.specs.LimitsKept.{HasOrderedCommits}
 use Rattle.kb_tenant_api.specs.Hosted.{TenantState, refusals_of}
 use Rattle.kb_tenant_api.specs.Turns.{all_calm}
-use Rattle.kb_tenants.specs.Counts.{AreShared, store_counts}
+use Rattle.kb_tenants.specs.Counts.{AreShared, all_counts}
 use Rattle.kb_tenants.specs.Tenants.{AreKept, AreKeptIn, AreLeftAlone, hosted, numbers_in}
 use Rattle.kb_tenants.specs.declared.tenants.Tenants.{Tenants}
 use Rattle.kb_isolation_spec.specs.Machine.{Happening, first_able}
@@ -37,7 +37,7 @@ pub record IsLaterWith (old new : Disk) (strays left : Option (List ℕ)) (ts us
 
 abbrev pub AreLater : {L S : Type 0} → (L → Log) → (S → Disk) → Tenants L S → Tenants L S → Type 0
 AreLater log disk old new = IsLaterWith (disk old.shelf.store) (disk new.shelf.store) (numbers_in old.strays) (numbers_in new.strays)
-    (tenants_in log disk old) (tenants_in log disk new) (store_counts old) (store_counts new)
+    (tenants_in log disk old) (tenants_in log disk new) (all_counts old) (all_counts new)
 
 -- 2. The broker
 

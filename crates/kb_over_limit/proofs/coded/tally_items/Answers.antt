@@ -1,3 +1,4 @@
+use Rattle.std.proofs.lemmas.Result.{err_from_is_err_and}
 use Rattle.kb_over_limit.proofs.Loop.{all_counted, fault_ends, none_yet, one_more}
 use Rattle.kb_over_limit.proofs.coded.tally_items.Goals as goal
 
@@ -11,8 +12,9 @@ loop-preserved g c =
 
 pub returns-in_err-tally : goal.returns-in_err-tally
 returns-in_err-tally g c =
-    fault_ends g.T.Coded.codec g.T.Coded.tallied c.args.count c.args.cursor.now c.args.tally.now c.loop.counter c.loop.cursor c.tally.new.cursor
-    c.loop.tally _ c.loop-test.true c.loop.invariant c.in_err-tally.ensures
+    let p = err_from_is_err_and c.from_residual.result c.from_residual.ensures.1 in
+    rw (p.1, p.2) (fault_ends g.T.Coded.codec g.T.Coded.tallied c.args.count c.args.cursor.now c.args.tally.now c.loop.counter c.loop.cursor
+    c.tally.new.cursor c.loop.tally c.in_err-tally.field-0.0 c.loop-test.true c.loop.invariant c.in_err-tally.ensures)
 
 pub returns : goal.returns
 returns g c =

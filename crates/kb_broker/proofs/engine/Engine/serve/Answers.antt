@@ -6,7 +6,7 @@ use Rattle.kb_isolation_spec.specs.Broker.{BrokerState}
 use Rattle.kb_isolation_spec.specs.Turned.{IsGoing}
 use Rattle.kb_connection.specs.View.{stage_of}
 use Rattle.kb_tenant.specs.Told.{FailedBy}
-use Rattle.kb_tenants.specs.Counts.{store_counts}
+use Rattle.kb_tenants.specs.Counts.{all_counts}
 use Rattle.kb_tenants.specs.Tenants.{numbers_in, shelf_is_honest, commands_of, IsCatalogFull}
 use Rattle.kb_tenants.specs.declared.tenants.Tenants.{Tenants}
 use Rattle.kb_broker.specs.Hosts.{OnStore, tenants_in, IsLaterWith}
@@ -113,7 +113,7 @@ returns-in-Ok g c =
     let q = c.self.inside.parking in
     let who = c.in-Ok.concerned in
     let here = state-is _ _ c.self.view_is in
-    let earlier = subst (λ (x : OnStore g.row.S.Denot). IsLaterWith (disk x.store) (disk c.take_turn-taken.new.tenants.shelf.store) x.strays (numbers_in c.take_turn-taken.new.tenants.strays) x.state.tenants us x.by_store (store_counts c.take_turn-taken.new.tenants)) c.self.view_is t.later in
+    let earlier = subst (λ (x : OnStore g.row.S.Denot). IsLaterWith (disk x.store) (disk c.take_turn-taken.new.tenants.shelf.store) x.strays (numbers_in c.take_turn-taken.new.tenants.strays) x.state.tenants us x.by_store (all_counts c.take_turn-taken.new.tenants)) c.self.view_is t.later in
     let taken = taken-ok g c in
     let is : IsTakenAt H b.setup b.clock l.number l.session.stage b.tenants us l.session m.session =
     subst (λ (x : BrokerState). IsTakenAt H x.setup x.clock l.number l.session.stage x.tenants us l.session m.session) here c.in-Ok.ensures.ok in
@@ -156,7 +156,7 @@ returns-in-Err g c =
     let shut = ap (λ (x : Line). x.session) c.in-Err.ensures.err in
     let store = c.take_turn-taken.new.tenants.shelf.store in
     let strays = numbers_in c.take_turn-taken.new.tenants.strays in
-    let shares = store_counts c.take_turn-taken.new.tenants in
+    let shares = all_counts c.take_turn-taken.new.tenants in
     let earlier = subst (λ (x : OnStore g.row.S.Denot). IsLaterWith (disk x.store) (disk store) x.strays strays x.state.tenants us x.by_store shares) c.self.view_is t.later in
     let same = later-on disk store c.refuse.new.self.store strays c.refuse.new.self.strays us end.tenants shares c.refuse.new.self.by_store c.refuse.ensures.store c.refuse.ensures.strays c.refuse.ensures.by_store (names-counted l.number l.session.stage (put_with b i m us) end counted) (counts-counted l.number l.session.stage (put_with b i m us) end counted) in
     record {

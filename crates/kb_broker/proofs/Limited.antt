@@ -57,10 +57,10 @@ replies-stay ls ts u n = same-each (λ (k : Kept). replies_on n k.groups) (λ l 
 
 -- the state, and the store and the files as they were
 pub limited-made : {S : Type 0} (t : ℕ) (limits : Limits) (a b : OnStore S) (ts : List TenantState) (s : S) (o : Option (List ℕ)) (cs ns : List ℕ) → a ≡ b
-    → ts ≡ tenants.limited_at t limits a.state.tenants → s ≡ a.store → o ≡ a.strays → cs ≡ a.by_store → ns ≡ a.commands
-    → record { state = record a.state { tenants = ts }; store = s; strays = o; by_store = cs; commands = ns } ≡ record b { state = limited_at t limits b.state }
+    → ts ≡ tenants.limited_at t limits a.state.tenants → s ≡ a.store → o ≡ a.strays → cs ≡ a.counts → ns ≡ a.commands
+    → record { state = record a.state { tenants = ts }; store = s; strays = o; counts = cs; commands = ns } ≡ record b { state = limited_at t limits b.state }
 limited-made {S} t limits a b ts s o cs ns e is u v w z =
-    let here : record { state = record a.state { tenants = ts }; store = s; strays = o; by_store = cs; commands = ns } ≡ record a { state = limited_at t limits a.state } = (λ i. record { state = record a.state { tenants = is i }; store = u i; strays = v i; by_store = w i; commands = z i }) in
+    let here : record { state = record a.state { tenants = ts }; store = s; strays = o; counts = cs; commands = ns } ≡ record a { state = limited_at t limits a.state } = (λ i. record { state = record a.state { tenants = is i }; store = u i; strays = v i; counts = w i; commands = z i }) in
     here ∙ ap (λ (x : OnStore S). record x { state = limited_at t limits x.state }) e
 
 -- none yet, and one more

@@ -25,9 +25,9 @@ use Rattle.kb_broker.proofs.Parked.{queue-tenants}
 
 -- the state, and the store and the files as they were
 pub numbered-made : {S : Type 0} (first : ℕ) (a b : OnStore S) (ts : List TenantState) (s : S) (o : Option (List ℕ)) (cs ns : List ℕ) → a ≡ b → ts ≡ tenants.numbered_from first a.state.tenants → s ≡ a.store → o ≡ a.strays
-    → cs ≡ a.by_store → ns ≡ a.commands → record { state = record a.state { tenants = ts }; store = s; strays = o; by_store = cs; commands = ns } ≡ record b { state = numbered_from first b.state }
+    → cs ≡ a.counts → ns ≡ a.commands → record { state = record a.state { tenants = ts }; store = s; strays = o; counts = cs; commands = ns } ≡ record b { state = numbered_from first b.state }
 numbered-made {S} first a b ts s o cs ns e t u v w z =
-    let here : record { state = record a.state { tenants = ts }; store = s; strays = o; by_store = cs; commands = ns } ≡ record a { state = numbered_from first a.state } = (λ i. record { state = record a.state { tenants = t i }; store = u i; strays = v i; by_store = w i; commands = z i }) in
+    let here : record { state = record a.state { tenants = ts }; store = s; strays = o; counts = cs; commands = ns } ≡ record a { state = numbered_from first a.state } = (λ i. record { state = record a.state { tenants = t i }; store = u i; strays = v i; counts = w i; commands = z i }) in
     here ∙ ap (λ (x : OnStore S). record x { state = numbered_from first x.state }) e
 
 -- nobody waits where nobody is connected

@@ -47,7 +47,7 @@ pub record OnStore (S : Type 0) : Type 0 where
   pub state : BrokerState
   pub store : S
   pub strays : Option (List ℕ)
-  pub by_store : List ℕ
+  pub counts : List ℕ
   pub commands : List ℕ
 
 -- whether the store has told the truth so far
@@ -60,7 +60,7 @@ pub record IsLaterBy {S : Type 0} (disk : S → Disk) (Goes : BrokerState → Br
   pub failures : (disk old.store).failures ≤ (disk new.store).failures
   pub many : length new.state.tenants ≡ length old.state.tenants
   pub counts : (t : ℕ) → refusals_of old.state.tenants t ≤ refusals_of new.state.tenants t
-  pub accounted : AreShared old.state.tenants new.state.tenants (disk old.store).failures (disk new.store).failures old.by_store new.by_store
+  pub accounted : AreShared old.state.tenants new.state.tenants (disk old.store).failures (disk new.store).failures old.counts new.counts
   pub strays_are : new.strays ≡ old.strays
   pub left_alone : AreLeftAlone (unwrap_or old.strays []) (disk old.store) (disk new.store)
   pub spoken : is_honest disk new → Goes old.state new.state

@@ -48,7 +48,7 @@ limits_of name values = limits_in (data_of name values) (groups_of name values)
 -- What is told of the tenant at a place: what it keeps, its limits, how many connections are bound to it and how many of them wait, and what
 -- was counted at its place. One number stands apart: the bytes of its batches, which may not be known.
 abbrev pub observed_at : Values → ℕ → List Line → List ℕ → List TenantTraffic → TenantState → Observed
-observed_at values place lines by_store traffic t = record {
+observed_at values place lines counts traffic t = record {
   name = t.name;
   world = t.kept.world;
   stored = None;
@@ -60,7 +60,7 @@ observed_at values place lines by_store traffic t = record {
   request_bytes = request_bytes_of (slice_get traffic place);
   response_bytes = response_bytes_of (slice_get traffic place);
   refusals = t.refusals;
-  store_refusals = store_share by_store place t.refusals;
+  store_refusals = store_share counts place t.refusals;
 }
 
 -- what there is, as a list
@@ -70,12 +70,12 @@ listed (Some x) = x ∷ []
 
 -- of the tenant at a place of a broker, where there is one
 abbrev pub observed_slot : Values → BrokerState → List ℕ → List TenantTraffic → ℕ → List Observed
-observed_slot values b by_store traffic place =
-    listed (option_map (observed_at values place b.lines by_store traffic) (slice_get b.tenants place))
+observed_slot values b counts traffic place =
+    listed (option_map (observed_at values place b.lines counts traffic) (slice_get b.tenants place))
 
 -- of all its tenants, by their places
 abbrev pub observed_from : Values → BrokerState → List ℕ → List TenantTraffic → List Observed
-observed_from values b by_store traffic = flat_map (observed_slot values b by_store traffic) (range_with_len 0 (length b.tenants))
+observed_from values b counts traffic = flat_map (observed_slot values b counts traffic) (range_with_len 0 (length b.tenants))
 
 -- what is observed of a tenant, but for the bytes of its batches
 abbrev pub unstored : Observed → Observed

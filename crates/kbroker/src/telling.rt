@@ -44,7 +44,7 @@ fn refusals_at<S: Store, L: PartitionLog + Drop>(
     broker: &Broker<S, L>,
     place: usize,
 ) -> TenantRefusals
-    ensures { result ≡ refusals_at place broker.now.state.tenants broker.now.by_store }
+    ensures { result ≡ refusals_at place broker.now.state.tenants broker.now.counts }
 {
     match broker.tenant(place) {
         Some(

@@ -3,6 +3,7 @@ use Rattle.std.proofs.Common.{◌≡◌, ◌≤◌, ◌∙◌, ℕ, List, [], Op
 use Rattle.std.specs.Prelude.{max}
 use Rattle.kb_store.specs.Disk.{Disk}
 use Rattle.kb_tenant_api.specs.Hosted.{TenantState, names_of, refusals_of}
+use Rattle.kb_tenants.specs.declared.counts.Counts.{Counts}
 use Rattle.kb_tenants.proofs.Passed.{length_named}
 use Rattle.kb_tenants.proofs.Shares.{shares_rise, shares_same, shares_then}
 use Rattle.kb_isolation_spec.specs.Machine.{Happening, Comes, Moment}
@@ -16,7 +17,7 @@ pub ready-of : {S : Type 0} (disk : S → Disk) (b : OnStore S) → IsReadyOn di
 ready-of disk b r honest = record { sound = r.sound; settled = r.settled; unready = r.unready honest }
 
 -- nothing was asked of the store
-pub later-none : (d : Disk) (strays : Option (List ℕ)) (ts : List TenantState) (cs : List ℕ) → IsLaterWith d d strays strays ts ts cs cs
+pub later-none : (d : Disk) (strays : Option (List ℕ)) (ts : List TenantState) (cs : List Counts) → IsLaterWith d d strays strays ts ts cs cs
 later-none d strays ts cs = record {
   honest = λ h. h;
   failures = omega arith;
@@ -28,7 +29,7 @@ later-none d strays ts cs = record {
 }
 
 -- and refusals were counted
-pub later-counted : (d : Disk) (strays : Option (List ℕ)) (ts us : List TenantState) (cs : List ℕ) → names_of us ≡ names_of ts → ((t : ℕ) → refusals_of ts t ≤ refusals_of us t)
+pub later-counted : (d : Disk) (strays : Option (List ℕ)) (ts us : List TenantState) (cs : List Counts) → names_of us ≡ names_of ts → ((t : ℕ) → refusals_of ts t ≤ refusals_of us t)
     → IsLaterWith d d strays strays ts us cs cs
 later-counted d strays ts us cs names counts = record {
   honest = λ h. h;
@@ -40,7 +41,7 @@ later-counted d strays ts us cs names counts = record {
   left_alone = λ honest file c. refl;
 }
 
-pub later-by : (d e f : Disk) (x y z : Option (List ℕ)) (ps qs rs : List TenantState) (ks ls ms : List ℕ) → IsLaterWith d e x y ps qs ks ls → IsLaterWith e f y z qs rs ls ms
+pub later-by : (d e f : Disk) (x y z : Option (List ℕ)) (ps qs rs : List TenantState) (ks ls ms : List Counts) → IsLaterWith d e x y ps qs ks ls → IsLaterWith e f y z qs rs ls ms
     → IsLaterWith d f x z ps rs ks ms
 later-by d e f x y z ps qs rs ks ls ms p q = record {
   honest = λ h. p.honest (q.honest h);
@@ -53,7 +54,7 @@ later-by d e f x y z ps qs rs ks ls ms p q = record {
 }
 
 -- the store, the files that are left alone and the store's share are the same, and refusals were counted
-pub later-on : {S : Type 0} (disk : S → Disk) (s t : S) (x y : Option (List ℕ)) (ts us : List TenantState) (cs ds : List ℕ) → t ≡ s → y ≡ x → ds ≡ cs → names_of us ≡ names_of ts
+pub later-on : {S : Type 0} (disk : S → Disk) (s t : S) (x y : Option (List ℕ)) (ts us : List TenantState) (cs ds : List Counts) → t ≡ s → y ≡ x → ds ≡ cs → names_of us ≡ names_of ts
     → ((t : ℕ) → refusals_of ts t ≤ refusals_of us t) → IsLaterWith (disk s) (disk t) x y ts us cs ds
 later-on disk s t x y ts us cs ds e f h names counts =
     subst (λ z. IsLaterWith (disk s) (disk z) x y ts us cs ds) (sym e)
@@ -151,6 +152,6 @@ pub commands-are : {S : Type 0} (a b : OnStore S) → a ≡ b → a.commands ≡
 commands-are a b e = ap (λ (x : OnStore _). x.commands) e
 
 -- another state on the same store
-pub stands-on : {S : Type 0} (b : OnStore S) (x y : BrokerState) (store : S) (strays : Option (List ℕ)) (counts commands : List ℕ) → x ≡ y → store ≡ b.store → strays ≡ b.strays
+pub stands-on : {S : Type 0} (b : OnStore S) (x y : BrokerState) (store : S) (strays : Option (List ℕ)) (counts : List Counts) (commands : List ℕ) → x ≡ y → store ≡ b.store → strays ≡ b.strays
     → counts ≡ b.counts → commands ≡ b.commands → (let a : OnStore S = record { state = x; store = store; strays = strays; counts = counts; commands = commands } in a) ≡ record b { state = y }
 stands-on b x y store strays counts commands e f g h k = λ i. record { state = e i; store = f i; strays = g i; counts = h i; commands = k i }

@@ -6,6 +6,7 @@ use Rattle.kb_coordinator.specs.declared.limits.Limits.{Limits}
 use Rattle.kb_tenant_api.specs.Hosted.{Kept, TenantState, kept_of}
 use Rattle.kb_tenant_api.specs.Turns.{with_kept}
 use Rattle.kb_tenant_api.specs.Waiters.{members_on, replies_on}
+use Rattle.kb_tenants.specs.declared.counts.Counts.{Counts}
 use Rattle.kb_tenants.specs.Limited as tenants
 use Rattle.kb_tenants.specs.Limited.{kept_limited}
 use Rattle.kb_tenants.specs.Members.{HaveNoGroup}
@@ -56,7 +57,7 @@ replies-stay ls ts u n = same-each (λ (k : Kept). replies_on n k.groups) (λ l 
 -- ---- the broker
 
 -- the state, and the store and the files as they were
-pub limited-made : {S : Type 0} (t : ℕ) (limits : Limits) (a b : OnStore S) (ts : List TenantState) (s : S) (o : Option (List ℕ)) (cs ns : List ℕ) → a ≡ b
+pub limited-made : {S : Type 0} (t : ℕ) (limits : Limits) (a b : OnStore S) (ts : List TenantState) (s : S) (o : Option (List ℕ)) (cs : List Counts) (ns : List ℕ) → a ≡ b
     → ts ≡ tenants.limited_at t limits a.state.tenants → s ≡ a.store → o ≡ a.strays → cs ≡ a.counts → ns ≡ a.commands
     → record { state = record a.state { tenants = ts }; store = s; strays = o; counts = cs; commands = ns } ≡ record b { state = limited_at t limits b.state }
 limited-made {S} t limits a b ts s o cs ns e is u v w z =

@@ -7,6 +7,7 @@ use Rattle.kb_tenant.specs.LimitsKept.{HasOrderedCommits}
 use Rattle.kb_tenant_api.specs.Hosted.{TenantState, refusals_of}
 use Rattle.kb_tenant_api.specs.Turns.{all_calm}
 use Rattle.kb_tenants.specs.Counts.{AreShared, all_counts}
+use Rattle.kb_tenants.specs.declared.counts.Counts.{Counts}
 use Rattle.kb_tenants.specs.Tenants.{AreKept, AreKeptIn, AreLeftAlone, hosted, numbers_in}
 use Rattle.kb_tenants.specs.declared.tenants.Tenants.{Tenants}
 use Rattle.kb_isolation_spec.specs.Machine.{Happening, first_able}
@@ -26,7 +27,7 @@ AreHosted log disk hosts = AreKept log disk hosts
 -- At a later moment the store has told the truth only if it had before, and its failures are no fewer. No tenant's count of
 -- refusals is smaller, and the counts together have risen by at least as much as the failures, unless one has come to its end; and as many
 -- refusals more are the store's. The files that are left alone are the same, and have the bytes that they had.
-pub record IsLaterWith (old new : Disk) (strays left : Option (List ℕ)) (ts us : List TenantState) (cs ds : List ℕ) : Type 0 where
+pub record IsLaterWith (old new : Disk) (strays left : Option (List ℕ)) (ts us : List TenantState) (cs ds : List Counts) : Type 0 where
   pub honest : new.honest → old.honest
   pub failures : old.failures ≤ new.failures
   pub many : length us ≡ length ts
@@ -42,12 +43,12 @@ AreLater log disk old new = IsLaterWith (disk old.shelf.store) (disk new.shelf.s
 -- 2. The broker
 
 -- a broker, the store on which it stands, the files there that are of no log and are left alone, where it is known which they are; and by
--- place how many refusals of each tenant were the store's, and how many commands the log of its catalog has recorded
+-- place what is counted for each tenant beside its refusals, and how many commands the log of its catalog has recorded
 pub record OnStore (S : Type 0) : Type 0 where
   pub state : BrokerState
   pub store : S
   pub strays : Option (List ℕ)
-  pub counts : List ℕ
+  pub counts : List Counts
   pub commands : List ℕ
 
 -- whether the store has told the truth so far

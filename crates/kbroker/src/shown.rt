@@ -232,6 +232,7 @@ fn gauges_at<'a, R: Net, S: Store, L: PartitionLog + Drop>(
         parts,
         groups,
         store_refusals,
+        over,
     } = broker.tenant(place)?;
     Some(TenantGauges {
         name,
@@ -242,6 +243,7 @@ fn gauges_at<'a, R: Net, S: Store, L: PartitionLog + Drop>(
         waiting: broker.waiting_of(place) as u64,
         traffic: traffic_at(edge, place),
         store_refusals,
+        over,
     })
 }
 

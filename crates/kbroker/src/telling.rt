@@ -53,6 +53,7 @@ fn refusals_at<S: Store, L: PartitionLog + Drop>(
                 parts,
                 groups: _,
                 store_refusals,
+                over: _,
             },
         ) => TenantRefusals {
             all: parts.refusals(),

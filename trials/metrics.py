@@ -23,6 +23,7 @@ TOKEN = "0123456789abcdefXYZ"
 ODD = b'quote " back \\ line\nend'
 TAG = b"<script>alert(1)</script>"
 FORGED = b'x"} 1\nkbroker_topics{tenant="a"} 9'
+OVER = ("topics", "partitions", "offsets", "bytes", "groups", "group_bytes")
 APIS = {0: "Produce", 1: "Fetch", 2: "ListOffsets", 3: "Metadata", 8: "OffsetCommit", 11: "JoinGroup", 19: "CreateTopics"}
 
 
@@ -106,6 +107,7 @@ def told(tried, broker, port):
         tried.is_so("topics", value("kbroker_topics", tenant=tenant), topics)
         tried.is_so("partitions", value("kbroker_partitions", tenant=tenant), partitions)
         tried.is_so("refusals", [value("kbroker_refusals_total", tenant=tenant, cause=it) for it in ("memory", "store")], [0, 0])
+        tried.is_so("past limits", [value("kbroker_over_limit_total", tenant=tenant, what=it) for it in OVER], [0] * len(OVER))
         tried.is_so("groups at most", value("kbroker_limit", tenant=tenant, what="groups"), 1000)
         tried.is_so("topics at most", value("kbroker_limit", tenant=tenant, what="topics"), None)
     tried.is_so("offsets", [value("kbroker_committed_offsets", tenant=it) for it in "ab"], [4, 1])

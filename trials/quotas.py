@@ -10,7 +10,7 @@ started with lower limits: nothing is dropped, and what grows is refused.
 
 Where kcat is installed, `kcat -P` sends 160 messages of 100,000 bytes to a tenant that may have 10,485,760, without idempotence and with it.
 Each message that does not fit has to fail at once, by the word for 44, and those before it are there. It goes on once the records are deleted.
-Another tenant's metrics stay as they are.
+Another tenant's metrics stay as they are. Metrics count each refusal for the tenant, by the limit.
 
 A start on a disk that has less than all tenants may store says so, where the system tells the size of the disk; one that has more says nothing. So
 does `check`. It prints `N of M wrong`.
@@ -29,6 +29,7 @@ import urllib.request
 from wire import Broker, Client, batch, castagnoli, committed, free_port, offset_at, text, topics
 
 LIMITED = """request_entries = 2000
+metrics = "127.0.0.1:{port}"
 
 [[tenant]]
 name = "a"
@@ -67,6 +68,7 @@ bytes = {0}
 VALUE = bytes(900_000)
 
 MESSAGES, LONG, AT_ONCE = 160, 100_000, 20
+OVER = re.compile(r'kbroker_over_limit_total\{tenant="\w+",what="(\w+)"\} (\d+)')
 DELIVERY = re.compile(r"Message delivered to partition 0 \(offset (\d+)\)|Delivery failed for message: (.*)")
 
 
@@ -125,8 +127,8 @@ def is_told(broker, word):
     return False
 
 
-def at_limits(broker):
-    """What is wrong at each limit, by name."""
+def at_limits(broker, shown):
+    """What is wrong at each limit, by name, and in what metrics count of it."""
     ann, bob = Client(broker.port), Client(broker.port, b"bob", b"pw2")
     checked = ann.all([creation([(b"one", 3), (b"two", 3), (b"three", 3), (b"four", 4)], True)])[0]
     made = ann.all([creation([(b"one", 3), (b"two", 3), (b"three", 3), (b"four", 4), (b"four", 3)])])[0]
@@ -158,6 +160,9 @@ def at_limits(broker):
     yield "a request with more closes its connection", is_closed(Client(broker.port), many_names(2_001))
     yield "the log names it", is_told(broker, "Metadata")
     yield "deleted topics make room", ann.delete(b"three") == 0 and ann.all([creation([(b"five", 3)])])[0] == [0]
+    wanted = {"topics": 1, "partitions": 2, "offsets": 2, "bytes": 14 - fit, "groups": 0, "group_bytes": 0}
+    yield "each refusal is counted by its limit", past_limits(shown, "a") == wanted
+    yield "none is counted for another tenant", past_limits(shown, "b") == dict.fromkeys(wanted, 0)
 
 
 def repeats(broker):
@@ -208,6 +213,11 @@ def figures(port, tenant):
     """The lines of metrics that name a tenant."""
     with urllib.request.build_opener(urllib.request.ProxyHandler({})).open(f"http://127.0.0.1:{port}/metrics", timeout=10) as it:
         return [line for line in it.read().decode().split("\n") if f'tenant="{tenant}"' in line]
+
+
+def past_limits(port, tenant):
+    """How often metrics say that a tenant was told of each limit."""
+    return {it[1]: int(it[2]) for it in map(OVER.match, figures(port, tenant)) if it}
 
 
 def stock_client(broker, shown):
@@ -283,7 +293,9 @@ def on_disk(program, each, wanted):
 def main(program):
     """Whether each limit holds, and holds nobody else."""
     shown = free_port()
-    wrong, count = played(program, ((LIMITED, at_limits), (LIMITED, repeats), (LIMITED, started_again), (LOWER, lowered)))
+    limited = LIMITED.format(port=shown)
+    rounds = ((limited, lambda broker: at_limits(broker, shown)), (limited, repeats), (limited, started_again), (LOWER, lowered))
+    wrong, count = played(program, rounds)
     if shutil.which("kcat"):
         more = played(program, [(STOCK.format(port=shown), lambda broker: stock_client(broker, shown))])
         wrong, count = wrong + more[0], count + more[1]

@@ -111,3 +111,7 @@ AreShared before after failures later old new = AreCounted before after failures
 abbrev pub AreCountedFor : {L S : Type 0} → (L → Log) → (S → Disk) → Tenants L S → Tenants L S → Type 0
 AreCountedFor log disk old new = AreCounted (hosted log disk old) (hosted log disk new) (disk old.shelf.store).failures
     (disk new.shelf.store).failures (counts_of old) (counts_of new)
+
+-- ... and none of them was told of its limits
+abbrev pub AreCountedUntold : {L S : Type 0} → (L → Log) → (S → Disk) → Tenants L S → Tenants L S → Type 0
+AreCountedUntold log disk old new = AreCountedFor log disk old new × AreSameOver old new

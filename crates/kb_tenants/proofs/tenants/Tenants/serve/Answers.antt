@@ -1,18 +1,20 @@
 use Rattle.std.proofs.Common.{true, ◌+◌, ◌-◌, ◌∙◌, ap, sym, subst, arith, to_z, of_z, w64}
 use Rattle.std.proofs.lemmas.Int.{ints}
-use Rattle.std.specs.Prelude.{◌≤◌, ◌^◌, min}
+use Rattle.std.specs.Prelude.{◌≤◌, ◌^◌, length, min}
 use Rattle.kb_tenant_state.specs.Parts.{world_of}
 use Rattle.kb_tenant_state.specs.Counts.{END, IsCalm}
 use Rattle.kb_tenant_api.specs.Waiters.{AreServed, IsWaitTold}
 use Rattle.kb_tenant_api.proofs.WaitersServed.{after_told}
 use Rattle.kb_tenant_api.specs.Acknowledged.{AreGroupsAfter}
+use Rattle.kb_tenant_api.specs.Hosted.{Kept}
 use Rattle.kb_tenant_api.specs.Serve.{has_released, served, IsOutcome}
 use Rattle.kb_tenant.specs.Told.{FailedBy}
-use Rattle.kb_tenants.specs.Counts.{with_over, with_store}
+use Rattle.kb_tenants.specs.Counts.{IsCountedWith, with_over, with_store}
+use Rattle.kb_tenants.specs.Over.{room_for, told_by}
 use Rattle.kb_tenants.specs.Tenants.{IsTruthfulFor}
 use Rattle.kb_tenants.proofs.Causes.{counted_served}
 use Rattle.kb_tenants.proofs.Change.{called}
-use Rattle.kb_tenants.proofs.Hosted.{alone_called, sound_here, groups_called, kept_called, turn_called, met_called}
+use Rattle.kb_tenants.proofs.Hosted.{after, alone_called, kept_here, sound_here, stands, groups_called, kept_called, turn_called, met_called}
 use Rattle.kb_tenants.proofs.Hosted.{now_called, truthful_called, calm_called, calm_from}
 use Rattle.kb_tenants.proofs.Ended.{refused, unrefused}
 use Rattle.kb_tenants.proofs.tenants.Tenants.serve.Goals as goal
@@ -110,11 +112,25 @@ returns-clause-loud g c = λ loud calm.
 
 pub returns-clause-accounted : goal.returns-clause-accounted
 returns-clause-accounted g c =
+    let log = g.L.PartitionLog.log in
+    let disk = g.S.Store.disk in
+    let old = c.args.self.now in
+    let t = c.args.tenant in
+    let r = c.args.request.now in
+    let limits = c.args.node.now.limits in
     let x = c.index_mut-one.result.now in
     let m = c.failures.result - c.failures-failures.result in
-    counted_served g.L.PartitionLog.log g.S.Store.disk g.met.L.PartitionLog.lawful c.args.self.now c.args.tenant x
+    let n = min (c.refusals-before.result + m) END in
+    let new = after old t x c.count.new.parts c.serve-served.new.groups c.add_over.new.self c.serve-served.new.shelf in
+    let files = (disk old.shelf.store).files in
+    let kept = kept_here log files old.tenants.items t x (stands log disk old t x c.requires.tenant c.index_mut-one.ensures.value) in
+    let topics = c.topic_count.ensures files ∙ sym (ap (λ (k : Kept). length k.world.known.topics) kept) in
+    let room = c.room_for-room.ensures ∙ ap (room_for limits) topics in
+    let told = c.told_by.ensures ∙ ap (λ k. told_by k r.api_key r.api_version c.serve-served.result.answer) room in
+    subst (λ over. IsCountedWith over log disk t old new) told
+    (counted_served log disk g.met.L.PartitionLog.lawful old t x
     c.requires.tenant c.index_mut-one.ensures.value c.requires.invariant c.serve-served.new.parts c.count.new.parts
-    (min (c.refusals-before.result + (c.failures.result - c.failures-failures.result)) END) c.serve-served.new.groups c.add_over.new.self c.serve-served.new.shelf c.count.ensures (called c.serve-served.ensures.step)
+    n c.serve-served.new.groups c.add_over.new.self c.serve-served.new.shelf c.count.ensures (called c.serve-served.ensures.step)
     m c.told_by.result (ap (λ k. min (k + m) END) c.refusals-before.ensures)
     (omega (arith, c.failures.ensures, c.failures-failures.ensures, c.serve-served.ensures.step.frame.failures))
-    (c.add_over.ensures ∙ ap (with_over c.told_by.result) (c.add_store.ensures ∙ ap (λ k. with_store (k - c.failures-failures.result) x.counts) (c.failures-2.ensures ∙ sym c.failures.ensures)))
+    (c.add_over.ensures ∙ ap (with_over c.told_by.result) (c.add_store.ensures ∙ ap (λ k. with_store (k - c.failures-failures.result) x.counts) (c.failures-2.ensures ∙ sym c.failures.ensures))))

@@ -115,8 +115,8 @@ later-at disk e a b c p q = later-after disk (SpeaksAt e) SpeaksTruth (SpeaksAt 
 pub later-still : {S : Type 0} (disk : S → Disk) (Goes : BrokerState → BrokerState → Type 0) (a b : OnStore S) → b.store ≡ a.store → b.strays ≡ a.strays → b.counts ≡ a.counts
     → names_of b.state.tenants ≡ names_of a.state.tenants → ((t : ℕ) → refusals_of a.state.tenants t ≤ refusals_of b.state.tenants t)
     → Goes a.state b.state → IsLaterBy disk Goes a b
-later-still disk Goes a b store strays counts names counts goes = later-from disk Goes a b
-    (later-on disk a.store b.store a.strays b.strays a.state.tenants b.state.tenants a.counts b.counts store strays counts names counts)
+later-still disk Goes a b store strays same names counts goes = later-from disk Goes a b
+    (later-on disk a.store b.store a.strays b.strays a.state.tenants b.state.tenants a.counts b.counts store strays same names counts)
     (λ honest. goes)
 
 -- the same, where no count has changed

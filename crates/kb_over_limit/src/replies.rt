@@ -1,6 +1,6 @@
 //! What a reply tells of limits.
 
-ghost use Rattle.std.specs.Prelude.{◌≡◌, drop};
+ghost use Rattle.std.specs.Prelude.{◌≡◌};
 ghost use Rattle.kb_wire.specs.Codec.{array};
 ghost use Rattle.kb_over_limit.specs.Coded.{each};
 ghost use Rattle.kb_over_limit.specs.Over.{body_of, committed, created, has_code, produced, read_tally, told};

@@ -22,7 +22,8 @@ use Rattle.kb_topics.specs.declared.command.Command.TheVariants as commands
 use Rattle.kb_tenant_state.specs.Logs.{without_logs}
 use Rattle.kb_tenant_state.specs.Partitions.{Agree, AreStarted, Entries, IsUnmade, logs_of, partition_at, places_of, scene_on}
 use Rattle.kb_tenant_state.specs.Scene.{Frame, Settles, WhereHonest}
-use Rattle.kb_tenant_state.specs.Stored.{Went, bytes_in_all, stored_without}
+use Rattle.kb_tenant_state.specs.Gone.{Went, stored_without}
+use Rattle.kb_tenant_state.specs.Stored.{bytes_in_all}
 use Rattle.kb_tenant_state.specs.declared.partition.Partition.{Partition}
 use Rattle.kb_tenant_state.specs.declared.partitions.Partitions.{Partitions}
 use Rattle.kb_tenant_state.proofs.Gone.{told_went}

@@ -5,10 +5,11 @@ ghost use Rattle.kb_store.specs.Disk.{Files, Table};
 ghost use Rattle.kb_topics.specs.Catalog.{known};
 ghost use Rattle.kb_topics.specs.Known.{committed_at, topic_at};
 ghost use Rattle.kb_tenant_state.specs.Calls.{known_at};
+ghost use Rattle.kb_tenant_state.specs.Gone.{stored_without};
 ghost use Rattle.kb_tenant_state.specs.Parts.{Agrees, IsSound, scene, world_of};
 ghost use Rattle.kb_tenant_state.specs.Steps.{IsStep, Meets};
-ghost use Rattle.kb_tenant_state.specs.Stored.{commits_to, offsets_in, offsets_to, partitions_in, stored_in, stored_without, IsTold};
-ghost use Rattle.kb_tenant_state.specs.Stored.{text_of, text_size, texts_at, texts_by, texts_in, texts_of, texts_to, up_to_end};
+ghost use Rattle.kb_tenant_state.specs.Stored.{commits_to, offsets_in, offsets_to, partitions_in, stored_in, up_to_end, IsTold};
+ghost use Rattle.kb_tenant_state.specs.Stored.{text_of, text_size, texts_at, texts_by, texts_in, texts_of, texts_to};
 ghost use Rattle.kb_tenant_state.specs.Told.{IsWant, Tells};
 
 use crate::fault::PartitionFault;

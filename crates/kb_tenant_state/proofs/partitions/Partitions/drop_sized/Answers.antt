@@ -2,11 +2,12 @@ use Rattle.std.proofs.Common.{◌≡◌, ◌∙◌, ℕ, rules, subst, sym, to_z
 use Rattle.std.specs.Int.{w64}
 use Rattle.std.specs.Prelude.{IfSome, IsSome}
 use Rattle.kb_batch.specs.Batch.{natural}
+use Rattle.kb_tenant_state.specs.Gone.{Went}
 use Rattle.kb_tenant_state.specs.Logs.{Logs, log_at, without_below}
 use Rattle.kb_tenant_state.specs.PartitionCalls.{IsInRange}
 use Rattle.kb_tenant_state.specs.Partitions.{AreStarted, Restarts, scene}
 use Rattle.kb_tenant_state.specs.Scene.{WhereHonest}
-use Rattle.kb_tenant_state.specs.Stored.{Went, bytes_in_all}
+use Rattle.kb_tenant_state.specs.Stored.{bytes_in_all}
 use Rattle.kb_tenant_state.proofs.Gone.{known_calm, looked_dropped, looked_frame, looked_logs, looked_settles, looked_where, on_calm}
 use Rattle.kb_tenant_state.proofs.Retained.{in_range_by}
 use Rattle.kb_tenant_state.proofs.Sized.{look_frame}

@@ -1,9 +1,10 @@
 use Rattle.std.proofs.Common.{◌∙◌, Ok, subst, sym}
 use Rattle.std.specs.Prelude.{IfSome, IsSome}
+use Rattle.kb_tenant_state.specs.Gone.{Went}
 use Rattle.kb_tenant_state.specs.Logs.{without_logs}
 use Rattle.kb_tenant_state.specs.Partitions.{scene}
 use Rattle.kb_tenant_state.specs.Scene.{WhereHonest}
-use Rattle.kb_tenant_state.specs.Stored.{Went, bytes_in_all}
+use Rattle.kb_tenant_state.specs.Stored.{bytes_in_all}
 use Rattle.kb_tenant_state.proofs.Gone.{known_calm, looked_frame, looked_logs, looked_removed, looked_settles, on_calm}
 use Rattle.kb_tenant_state.proofs.Sized.{look_frame, no_look}
 use Rattle.kb_tenant_state.proofs.partitions.Partitions.remove_sized.Goals as goal

@@ -1,5 +1,6 @@
 use Rattle.std.proofs.Common.{ap, sym}
-use Rattle.kb_tenant_state.specs.Stored.{bytes_at, up_to_end}
+use Rattle.kb_tenant_state.specs.Gone.{bytes_at}
+use Rattle.kb_tenant_state.specs.Stored.{up_to_end}
 use Rattle.kb_tenant_state.proofs.Gone.{size_there, size_wants}
 use Rattle.kb_tenant_state.proofs.Placed.{missing}
 use Rattle.kb_tenant_state.proofs.Sized.{no_look}

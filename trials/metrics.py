@@ -4,9 +4,10 @@
     trials/metrics.py KBROKER
 
 Two tenants use the same names. Each sample is read by the parser of `python3-prometheus-client`, where that is there, and compared with the
-load: requests by API and bytes are those that the clients counted. Groups have ids with a quote, a backslash, a line feed and a tag. Then the
-status pages are read, and wrong paths, methods, bodies, long heads and tokens are tried, and what a broker says of wrong settings. Last, 1,000
-slow and garbled clients come while a producer asks, and a page is asked for beside them. It prints how many of the answers were wrong.
+load: requests by API and bytes are those that the clients counted, and bytes of batches those that came and did not go. Groups have ids with
+a quote, a backslash, a line feed and a tag. Then the status pages are read, and wrong paths, methods, bodies, long heads and tokens are tried,
+and what a broker says of wrong settings. Last, 1,000 slow and garbled clients come while a producer asks, and a page is asked for beside them.
+It prints how many of the answers were wrong.
 """
 
 import os
@@ -210,6 +211,29 @@ def counted(tried, broker, port):
     html(tried, port)
 
 
+def gone(tried, program, room):
+    """The bytes of a tenant's batches are told as they come, and as records and topics go: no batch has to come behind."""
+    port = free_port()
+    broker = Broker(program, room, more=f'metrics = "127.0.0.1:{port}"\nmetrics_token = "{TOKEN}"\n')
+
+    def stored():
+        time.sleep(0.2)
+        return samples(page(port, "GET /metrics", token=TOKEN)[2]).get(("kbroker_stored_bytes", (("tenant", "a"),)))
+
+    try:
+        tried.is_so("it listens", broker.listens(), True)
+        ann, one = Client(broker.port), len(batch(b"secret-record"))
+        tried.is_so("topics to delete", [create(ann, b"goes", 2), create(ann, b"stays", 1)], [0, 0])
+        for topic, partition, count in ((b"goes", 0, 10), (b"goes", 1, 5), (b"stays", 0, 7)):
+            produce_to(ann, topic, partition, count)
+        tried.is_so("bytes that came", stored(), 22 * one)
+        tried.is_so("records go", [ann.delete_records(b"goes", 4), stored()], [0, 18 * one])
+        tried.is_so("all of a partition go", [ann.delete_records(b"goes", -1), stored()], [0, 12 * one])
+        tried.is_so("a topic goes", [ann.delete(b"goes"), stored()], [0, 7 * one])
+    finally:
+        broker.stop()
+
+
 def html(tried, port):
     """The status page, and that of a tenant."""
     for words in ("GET /", "GET /?tenant=a", "GET /?tenant=%61", "GET /?tenant=b"):
@@ -319,6 +343,8 @@ def main(program):
             counted(tried, broker, port)
         finally:
             broker.stop()
+    with tempfile.TemporaryDirectory() as room:
+        gone(tried, program, room)
     with tempfile.TemporaryDirectory() as room:
         faults(tried, program, room)
     print(f"{tried.wrong} of {tried.count} wrong")

@@ -116,9 +116,9 @@ def is_by_need(state, refusal):
     return state.way == "gaps" and said(refusal).startswith("damage: ")
 
 
-def asked(program, room, more, *flags):
+def asked(program, room, more, *flags, data=None):
     """A broker on a folder and a client of each tenant, or none where the start is refused."""
-    broker = Broker(program, room, more, flags=flags)
+    broker = Broker(program, room, more, data=data, flags=flags)
     while not broker.listens():
         if broker.process.poll() is not None:
             return broker, None

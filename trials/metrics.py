@@ -4,9 +4,10 @@
     trials/metrics.py KBROKER
 
 Two tenants use the same names. Each sample is read by the parser of `python3-prometheus-client`, where that is there, and compared with the
-load: requests by API and bytes are those that the clients counted. Groups have ids with a quote, a backslash, a line feed and a tag. Then the
-status pages are read, and wrong paths, methods, bodies, long heads and tokens are tried, and what a broker says of wrong settings. Last, 1,000
-slow and garbled clients come while a producer asks, and a page is asked for beside them. It prints how many of the answers were wrong.
+load: requests by API and bytes are those that the clients counted, and bytes of batches those that came and did not go. Groups have ids with
+a quote, a backslash, a line feed and a tag. Then the status pages are read, and wrong paths, methods, bodies, long heads and tokens are tried,
+and what a broker says of wrong settings. Last, 1,000 slow and garbled clients come while a producer asks, and a page is asked for beside them.
+It prints how many of the answers were wrong.
 """
 
 import os
@@ -23,6 +24,7 @@ TOKEN = "0123456789abcdefXYZ"
 ODD = b'quote " back \\ line\nend'
 TAG = b"<script>alert(1)</script>"
 FORGED = b'x"} 1\nkbroker_topics{tenant="a"} 9'
+OVER = ("topics", "partitions", "offsets", "bytes", "groups", "group_bytes")
 APIS = {0: "Produce", 1: "Fetch", 2: "ListOffsets", 3: "Metadata", 8: "OffsetCommit", 11: "JoinGroup", 19: "CreateTopics"}
 
 
@@ -106,6 +108,7 @@ def told(tried, broker, port):
         tried.is_so("topics", value("kbroker_topics", tenant=tenant), topics)
         tried.is_so("partitions", value("kbroker_partitions", tenant=tenant), partitions)
         tried.is_so("refusals", [value("kbroker_refusals_total", tenant=tenant, cause=it) for it in ("memory", "store")], [0, 0])
+        tried.is_so("past limits", [value("kbroker_over_limit_total", tenant=tenant, what=it) for it in OVER], [0] * len(OVER))
         tried.is_so("groups at most", value("kbroker_limit", tenant=tenant, what="groups"), 1000)
         tried.is_so("topics at most", value("kbroker_limit", tenant=tenant, what="topics"), None)
     tried.is_so("offsets", [value("kbroker_committed_offsets", tenant=it) for it in "ab"], [4, 1])
@@ -208,6 +211,33 @@ def counted(tried, broker, port):
     tried.is_so("committed", value("kbroker_group_committed_offset", tenant="a", group=TAG.decode(), topic="orders", partition="0"), 5)
     tried.is_so("nothing of others", [it for it in got if ("tenant", "a") not in it[1]], [])
     html(tried, port)
+
+
+def gone(tried, program, room):
+    """The bytes of the batches of a tenant that has a limit of them are told as they come, and as records and topics go: no batch has to
+    come behind. Of a tenant without that limit they are not."""
+    port = free_port()
+    limited = '[[tenant]]\nname = "a"\nbytes = 1048576\n'
+    broker = Broker(program, room, more=f'metrics = "127.0.0.1:{port}"\nmetrics_token = "{TOKEN}"\n\n{limited}')
+
+    def stored(tenant="a"):
+        time.sleep(0.2)
+        return samples(page(port, "GET /metrics", token=TOKEN)[2]).get(("kbroker_stored_bytes", (("tenant", tenant),)))
+
+    try:
+        tried.is_so("it listens", broker.listens(), True)
+        ann, one = Client(broker.port), len(batch(b"secret-record"))
+        tried.is_so("topics to delete", [create(ann, b"goes", 2), create(ann, b"stays", 1)], [0, 0])
+        for topic, partition, count in ((b"goes", 0, 10), (b"goes", 1, 5), (b"stays", 0, 7)):
+            produce_to(ann, topic, partition, count)
+        tried.is_so("bytes that came", stored(), 22 * one)
+        tried.is_so("records go", [ann.delete_records(b"goes", 4), stored()], [0, 18 * one])
+        tried.is_so("all of a partition go", [ann.delete_records(b"goes", -1), stored()], [0, 12 * one])
+        tried.is_so("a topic goes", [ann.delete(b"goes"), stored()], [0, 7 * one])
+        bob = Client(broker.port, b"bob", b"pw2")
+        tried.is_so("a tenant without that limit", [create(bob, b"stays", 1), bob.produce(b"stays", batch(b"x")), stored("b")], [0, (0, 0), None])
+    finally:
+        broker.stop()
 
 
 def html(tried, port):
@@ -319,6 +349,8 @@ def main(program):
             counted(tried, broker, port)
         finally:
             broker.stop()
+    with tempfile.TemporaryDirectory() as room:
+        gone(tried, program, room)
     with tempfile.TemporaryDirectory() as room:
         faults(tried, program, room)
     print(f"{tried.wrong} of {tried.count} wrong")

@@ -20,6 +20,9 @@ ENTRIES = 65_500
 SMALL = 4000
 NAMES = b"t"
 
+# the timestamp of the first small batch, each later one is of the next millisecond: none is so old that retention drops it
+BEGUN = int(time.time() * 1000) - SMALL
+
 
 def entries(topic, form, *fields, count=ENTRIES):
     """An array of one topic, of which partition 0 is named again and again, with the fields that `fields` gives for the number of each."""
@@ -36,7 +39,7 @@ def creations(names, partitions=1):
 def requests():
     """Each kind: what it is called, and its key, version and body."""
     many = batch(b"x")
-    yield "ListOffsets, a time each", 2, 1, struct.pack(">i", -1) + entries(NAMES, "q", lambda n: 1000 + n % SMALL)
+    yield "ListOffsets, a time each", 2, 1, struct.pack(">i", -1) + entries(NAMES, "q", lambda n: BEGUN + n % SMALL)
     yield "ListOffsets, the ends", 2, 1, struct.pack(">i", -1) + entries(NAMES, "q", -1)
     yield "Fetch, inside a file", 1, 4, struct.pack(">iiiib", -1, 0, 0, 8 << 20, 0) + entries(NAMES, "qi", lambda n: n % SMALL, 100)
     yield "Fetch, the rest each", 1, 4, struct.pack(">iiiib", -1, 0, 0, 8 << 20, 0) + entries(NAMES, "qi", lambda n: n % SMALL, 1 << 20)
@@ -116,7 +119,9 @@ def main(program):
             client = Client(broker.port)
             client.all([create(NAMES), create(b"wide", 64), create(b"p"), commit(b"g", NAMES)])
             for begin in range(0, SMALL, 500):
-                client.all([produce(NAMES, batch(b"x", 1000 + n)) for n in range(begin, begin + 500)])
+                client.all([produce(NAMES, batch(b"x", BEGUN + n)) for n in range(begin, begin + 500)])
+            if client.all([offset_at(NAMES, -2), offset_at(NAMES, -1)]) != [(0, 0), (0, SMALL)]:
+                sys.exit("not all of the small batches are there")
             slow = [it[0] for it in requests() if not looked_at(broker, *it)]
         finally:
             broker.stop()

@@ -8,9 +8,12 @@ may name 2,000 entries. What is looked at is what stands in OPERATING, "What hap
 (POLICY_VIOLATION), that nothing of it is kept, and that deletions make room, also after the broker was killed and started again. Then it is
 started with lower limits: nothing is dropped, and what grows is refused.
 
+Then that tenant has two groups of 3,000,000 bytes. A join and a sync past these bytes are answered 81 (GROUP_MAX_SIZE_REACHED), and a join that would
+begin a third group 15 (COORDINATOR_NOT_AVAILABLE).
+
 Where kcat is installed, `kcat -P` sends 160 messages of 100,000 bytes to a tenant that may have 10,485,760, without idempotence and with it.
 Each message that does not fit has to fail at once, by the word for 44, and those before it are there. It goes on once the records are deleted.
-Another tenant's metrics stay as they are.
+Another tenant's metrics stay as they are. Metrics count each of these refusals for the tenant, by the limit, and none for another tenant.
 
 A start on a disk that has less than all tenants may store says so, where the system tells the size of the disk; one that has more says nothing. So
 does `check`. It prints `N of M wrong`.
@@ -26,9 +29,11 @@ import tempfile
 import time
 import urllib.request
 
+from group_memory import blob, join, joined
 from wire import Broker, Client, batch, castagnoli, committed, free_port, offset_at, text, topics
 
 LIMITED = """request_entries = 2000
+metrics = "127.0.0.1:{port}"
 
 [[tenant]]
 name = "a"
@@ -46,6 +51,14 @@ bytes = 1048576
 topics = 1
 partitions = 2
 offsets = 1
+"""
+
+GROUPS = """metrics = "127.0.0.1:{port}"
+
+[[tenant]]
+name = "a"
+groups = 2
+group_bytes = 3000000
 """
 
 STOCK = """metrics = "127.0.0.1:{port}"
@@ -67,6 +80,7 @@ bytes = {0}
 VALUE = bytes(900_000)
 
 MESSAGES, LONG, AT_ONCE = 160, 100_000, 20
+OVER = re.compile(r'kbroker_over_limit_total\{tenant="\w+",what="(\w+)"\} (\d+)')
 DELIVERY = re.compile(r"Message delivered to partition 0 \(offset (\d+)\)|Delivery failed for message: (.*)")
 
 
@@ -125,8 +139,8 @@ def is_told(broker, word):
     return False
 
 
-def at_limits(broker):
-    """What is wrong at each limit, by name."""
+def at_limits(broker, shown):
+    """What is wrong at each limit, by name, and in what metrics count of it."""
     ann, bob = Client(broker.port), Client(broker.port, b"bob", b"pw2")
     checked = ann.all([creation([(b"one", 3), (b"two", 3), (b"three", 3), (b"four", 4)], True)])[0]
     made = ann.all([creation([(b"one", 3), (b"two", 3), (b"three", 3), (b"four", 4), (b"four", 3)])])[0]
@@ -158,6 +172,9 @@ def at_limits(broker):
     yield "a request with more closes its connection", is_closed(Client(broker.port), many_names(2_001))
     yield "the log names it", is_told(broker, "Metadata")
     yield "deleted topics make room", ann.delete(b"three") == 0 and ann.all([creation([(b"five", 3)])])[0] == [0]
+    wanted = {"topics": 1, "partitions": 2, "offsets": 2, "bytes": 14 - fit, "groups": 0, "group_bytes": 0}
+    yield "each refusal is counted by its limit", past_limits(shown, "a") == wanted
+    yield "none is counted for another tenant", past_limits(shown, "b") == dict.fromkeys(wanted, 0)
 
 
 def repeats(broker):
@@ -193,6 +210,35 @@ def lowered(broker):
     yield "what is below the limit is taken", ann.delete_records(b"one", -1) == 0 and ann.produce(b"one", batch(b"x"))[0] == 0
 
 
+def sync(group, generation, member, size):
+    """The leader's sync, which gives itself an assignment of that size; the error code."""
+    body = text(group) + struct.pack(">i", generation) + text(member)
+    body += struct.pack(">i", 1) + text(member) + blob(bytes(size))
+    return 14, 0, body, lambda got: struct.unpack_from(">h", got)[0]
+
+
+def groups_at_limits(broker, shown):
+    """What is wrong where joins and syncs pass the limits of groups, and in what metrics count of it."""
+    ann, bob = Client(broker.port), Client(broker.port, b"bob", b"pw2")
+    wanted = dict.fromkeys(("topics", "partitions", "offsets", "bytes", "groups", "group_bytes"), 0)
+
+    def code(client, group, size):
+        return joined(client.ask(*join(group, bytes(size))))[0]
+
+    told, generation, leader = joined(ann.ask(*join(b"one", bytes(2_000_000))))
+    yield "a group within its limits", told == 0 and past_limits(shown, "a") == wanted
+    wanted["group_bytes"] += 1
+    yield "a join past the bytes", code(ann, b"two", 1_500_000) == 81 and past_limits(shown, "a") == wanted
+    wanted["group_bytes"] += 1
+    yield "a sync past the bytes", ann.all([sync(b"one", generation, leader, 1_500_000)]) == [81] and past_limits(shown, "a") == wanted
+    yield "a sync within them", ann.all([sync(b"one", generation, leader, 500_000)]) == [0] and past_limits(shown, "a") == wanted
+    yield "a second group", code(ann, b"two", 100) == 0 and past_limits(shown, "a") == wanted
+    wanted["groups"] += 1
+    yield "a third group", code(ann, b"three", 100) == 15 and past_limits(shown, "a") == wanted
+    yield "another tenant's groups", [code(bob, b"g%d" % n, 2_000_000) for n in range(3)] == [0, 0, 0]
+    yield "nothing is counted for another tenant", past_limits(shown, "b") == dict.fromkeys(wanted, 0)
+
+
 def kcat(broker, *settings):
     """What `kcat -P` is told of each message, in their order: its offset, or why it failed; and in how many seconds."""
     words = ["kcat", "-P", "-t", "stock", "-vvv", "-b", f"127.0.0.1:{broker.port}"]
@@ -210,9 +256,14 @@ def figures(port, tenant):
         return [line for line in it.read().decode().split("\n") if f'tenant="{tenant}"' in line]
 
 
+def past_limits(port, tenant):
+    """How often metrics say that a tenant was told of each limit."""
+    return {it[1]: int(it[2]) for it in map(OVER.match, figures(port, tenant)) if it}
+
+
 def stock_client(broker, shown):
     """What is wrong where a stock client comes to the limit."""
-    ann, bob, first = Client(broker.port), Client(broker.port, b"bob", b"pw2"), 0
+    ann, bob, first, refused = Client(broker.port), Client(broker.port, b"bob", b"pw2"), 0, 0
     ann.create(b"stock")
     bob.create(b"other")
     bob.produce(b"other", batch(VALUE))
@@ -226,6 +277,8 @@ def stock_client(broker, shown):
         yield f"{name}: those before the limit are there", told[:fit] == list(range(first, first + fit)) and fit == 10_485_760 // size
         yield f"{name}: all others fail by 44", set(told[fit:]) == {"Broker: Policy violation"}
         yield f"{name}: they fail at once", took < AT_ONCE
+        refused += len(told) - fit
+        yield f"{name}: each of them is counted", past_limits(shown, "a")["bytes"] == refused
         yield f"{name}: nothing else is there", ann.all([offset_at(b"stock", -1)])[0] == (0, first + fit)
         yield f"{name}: a deletion makes room", ann.delete_records(b"stock", -1) == 0
         first += fit
@@ -283,7 +336,11 @@ def on_disk(program, each, wanted):
 def main(program):
     """Whether each limit holds, and holds nobody else."""
     shown = free_port()
-    wrong, count = played(program, ((LIMITED, at_limits), (LIMITED, repeats), (LIMITED, started_again), (LOWER, lowered)))
+    limited = LIMITED.format(port=shown)
+    rounds = ((limited, lambda broker: at_limits(broker, shown)), (limited, repeats), (limited, started_again), (LOWER, lowered))
+    wrong, count = played(program, rounds)
+    more = played(program, [(GROUPS.format(port=shown), lambda broker: groups_at_limits(broker, shown))])
+    wrong, count = wrong + more[0], count + more[1]
     if shutil.which("kcat"):
         more = played(program, [(STOCK.format(port=shown), lambda broker: stock_client(broker, shown))])
         wrong, count = wrong + more[0], count + more[1]

@@ -11,7 +11,8 @@ use Rattle.kb_tenant_api.specs.Hosted.{Kept, TenantState, kept_of, refusals_of}
 use Rattle.kb_tenant_api.specs.Turns.{IsMet, IsTurn}
 use Rattle.kb_tenant_api.specs.Waiters.{AreServed, members_on}
 use Rattle.kb_tenant.specs.Replies.{Silent}
-use Rattle.kb_tenants.specs.Counts.{IsCountedFor, store_counts}
+use Rattle.kb_over_limit.specs.declared.over.OverLimit.{OverLimit}
+use Rattle.kb_tenants.specs.Counts.{IsCountedBy, IsCountedFor, all_counts, counts_of}
 use Rattle.kb_tenants.specs.Tenants.{AreLeftAlone, numbers_in}
 use Rattle.kb_tenants.proofs.Passed.{length_named}
 use Rattle.kb_tenants.proofs.Shares.{shares_called}
@@ -69,8 +70,10 @@ module _ (t : ℕ) (ts us vs : List TenantState) (loss : IsTurn t (Unit {0}) us 
   left-counted (concerned.All u) setup clock st n q s r loud left = tt
 
 -- a call for one tenant
-pub later-called : {L S : Type 0} (log : L → Log) (disk : S → Disk) (a b : Tenants L S) (t : ℕ) (H : Type 0) → t < length (tenants_in log disk a) → ((disk b.shelf.store).honest → (disk a.shelf.store).honest)
-    → (disk a.shelf.store).failures ≤ (disk b.shelf.store).failures → IsTurn t H (tenants_in log disk a) (tenants_in log disk b) → IsCountedFor log disk t a b → b.strays ≡ a.strays
+pub later-called : {L S : Type 0} {told : OverLimit → OverLimit} (log : L → Log) (disk : S → Disk) (a b : Tenants L S) (t : ℕ) (H : Type 0) → t < length (tenants_in log disk a) → ((disk b.shelf.store).honest → (disk a.shelf.store).honest)
+    → (disk a.shelf.store).failures ≤ (disk b.shelf.store).failures → IsTurn t H (tenants_in log disk a) (tenants_in log disk b)
+    → IsCountedBy told t (tenants_in log disk a) (tenants_in log disk b) (disk a.shelf.store).failures (disk b.shelf.store).failures (counts_of a) (counts_of b)
+    → b.strays ≡ a.strays
     → AreLeftAlone (unwrap_or (numbers_in a.strays) []) (disk a.shelf.store) (disk b.shelf.store) → AreLater log disk a b
 later-called log disk a b t H lt honest more turn counted strays alone = record {
   honest = honest;
@@ -92,11 +95,11 @@ later-told {L} {S} log disk a b t H lt turn counted strays shelf =
 
 -- on the same shelf
 pub later-loss : {L S : Type 0} (log : L → Log) (disk : S → Disk) (a b c : Tenants L S) (t : ℕ) → AreLater log disk a b → IsTurn t (Unit {0}) (tenants_in log disk b) (tenants_in log disk c) → c.shelf ≡ b.shelf → c.strays ≡ b.strays
-    → store_counts c ≡ store_counts b → AreLater log disk a c
+    → all_counts c ≡ all_counts b → AreLater log disk a c
 later-loss log disk a b c t first loss shelf strays shares =
     later-by (disk a.shelf.store) (disk b.shelf.store) (disk c.shelf.store) (numbers_in a.strays) (numbers_in b.strays) (numbers_in c.strays) (tenants_in log disk a) (tenants_in log disk b) (tenants_in log disk c)
-    (store_counts a) (store_counts b) (store_counts c) first
-    (subst (λ files. IsLaterWith (disk b.shelf.store) (disk c.shelf.store) (numbers_in b.strays) (numbers_in files) (tenants_in log disk b) (tenants_in log disk c) (store_counts b) (store_counts c)) (sym strays)
-    (subst (λ x. IsLaterWith (disk b.shelf.store) (disk x.store) (numbers_in b.strays) (numbers_in b.strays) (tenants_in log disk b) (tenants_in log disk c) (store_counts b) (store_counts c)) (sym shelf)
-    (subst (IsLaterWith (disk b.shelf.store) (disk b.shelf.store) (numbers_in b.strays) (numbers_in b.strays) (tenants_in log disk b) (tenants_in log disk c) (store_counts b)) (sym shares)
-    (later-counted (disk b.shelf.store) (numbers_in b.strays) (tenants_in log disk b) (tenants_in log disk c) (store_counts b) loss.names loss.grows))))
+    (all_counts a) (all_counts b) (all_counts c) first
+    (subst (λ files. IsLaterWith (disk b.shelf.store) (disk c.shelf.store) (numbers_in b.strays) (numbers_in files) (tenants_in log disk b) (tenants_in log disk c) (all_counts b) (all_counts c)) (sym strays)
+    (subst (λ x. IsLaterWith (disk b.shelf.store) (disk x.store) (numbers_in b.strays) (numbers_in b.strays) (tenants_in log disk b) (tenants_in log disk c) (all_counts b) (all_counts c)) (sym shelf)
+    (subst (IsLaterWith (disk b.shelf.store) (disk b.shelf.store) (numbers_in b.strays) (numbers_in b.strays) (tenants_in log disk b) (tenants_in log disk c) (all_counts b)) (sym shares)
+    (later-counted (disk b.shelf.store) (numbers_in b.strays) (tenants_in log disk b) (tenants_in log disk c) (all_counts b) loss.names loss.grows))))

@@ -67,14 +67,14 @@ tenants-connected : {A E : Type 0} (r : Result A E) (a c : BrokerState) (n : ℕ
 tenants-connected (Ok x) a c n ok err = ap (λ (b : BrokerState). b.tenants) ok
 tenants-connected (Err x) a c n ok err = ap (λ (b : BrokerState). b.tenants) err.is
 
-pub connected-later : {S A E : Type 0} (disk : S → Disk) (r : Result A E) (a c : OnStore S) (n : ℕ) → c.store ≡ a.store → c.strays ≡ a.strays → c.by_store ≡ a.by_store → OnOk r (c.state ≡ opened a.state n) → OnErr r (IsRefused a.state c.state) → IsLaterBy disk (SpeaksAt (Opens n)) a c
+pub connected-later : {S A E : Type 0} (disk : S → Disk) (r : Result A E) (a c : OnStore S) (n : ℕ) → c.store ≡ a.store → c.strays ≡ a.strays → c.counts ≡ a.counts → OnOk r (c.state ≡ opened a.state n) → OnErr r (IsRefused a.state c.state) → IsLaterBy disk (SpeaksAt (Opens n)) a c
 connected-later disk r a c n same left shares ok err =
     later-is disk (SpeaksAt (Opens n)) a c same left shares (tenants-connected r a.state c.state n ok err) (at_opened r a.state c.state n ok err)
 
 pub disconnected-later : {S : Type 0} (disk : S → Disk) (a c : OnStore S) (n : ℕ) → c ≡ record a { state = closed a.state n } → IsLaterBy disk (SpeaksAt (Closes n)) a c
 disconnected-later disk a c n h =
     let grows = (left-step a c n h).grows in
-    later-still disk (SpeaksAt (Closes n)) a c (ap (λ (x : OnStore _). x.store) h) (ap (λ (x : OnStore _). x.strays) h) (ap (λ (x : OnStore _). x.by_store) h) grows.names grows.own
+    later-still disk (SpeaksAt (Closes n)) a c (ap (λ (x : OnStore _). x.store) h) (ap (λ (x : OnStore _). x.strays) h) (ap (λ (x : OnStore _). x.counts) h) grows.names grows.own
     (at_closed a.state c.state n (ap (λ (x : OnStore _). x.state) h))
 
 -- what a call leaves of the members that wait: the engine's own a is the one that clauses see, b

@@ -3,6 +3,7 @@ use Rattle.std.proofs.Common.{◌≡◌, ◌≤◌, ◌∙◌, ℕ, List, [], Op
 use Rattle.std.specs.Prelude.{max}
 use Rattle.kb_store.specs.Disk.{Disk}
 use Rattle.kb_tenant_api.specs.Hosted.{TenantState, names_of, refusals_of}
+use Rattle.kb_tenants.specs.declared.counts.Counts.{Counts}
 use Rattle.kb_tenants.proofs.Passed.{length_named}
 use Rattle.kb_tenants.proofs.Shares.{shares_rise, shares_same, shares_then}
 use Rattle.kb_isolation_spec.specs.Machine.{Happening, Comes, Moment}
@@ -16,7 +17,7 @@ pub ready-of : {S : Type 0} (disk : S → Disk) (b : OnStore S) → IsReadyOn di
 ready-of disk b r honest = record { sound = r.sound; settled = r.settled; unready = r.unready honest }
 
 -- nothing was asked of the store
-pub later-none : (d : Disk) (strays : Option (List ℕ)) (ts : List TenantState) (cs : List ℕ) → IsLaterWith d d strays strays ts ts cs cs
+pub later-none : (d : Disk) (strays : Option (List ℕ)) (ts : List TenantState) (cs : List Counts) → IsLaterWith d d strays strays ts ts cs cs
 later-none d strays ts cs = record {
   honest = λ h. h;
   failures = omega arith;
@@ -28,7 +29,7 @@ later-none d strays ts cs = record {
 }
 
 -- and refusals were counted
-pub later-counted : (d : Disk) (strays : Option (List ℕ)) (ts us : List TenantState) (cs : List ℕ) → names_of us ≡ names_of ts → ((t : ℕ) → refusals_of ts t ≤ refusals_of us t)
+pub later-counted : (d : Disk) (strays : Option (List ℕ)) (ts us : List TenantState) (cs : List Counts) → names_of us ≡ names_of ts → ((t : ℕ) → refusals_of ts t ≤ refusals_of us t)
     → IsLaterWith d d strays strays ts us cs cs
 later-counted d strays ts us cs names counts = record {
   honest = λ h. h;
@@ -40,7 +41,7 @@ later-counted d strays ts us cs names counts = record {
   left_alone = λ honest file c. refl;
 }
 
-pub later-by : (d e f : Disk) (x y z : Option (List ℕ)) (ps qs rs : List TenantState) (ks ls ms : List ℕ) → IsLaterWith d e x y ps qs ks ls → IsLaterWith e f y z qs rs ls ms
+pub later-by : (d e f : Disk) (x y z : Option (List ℕ)) (ps qs rs : List TenantState) (ks ls ms : List Counts) → IsLaterWith d e x y ps qs ks ls → IsLaterWith e f y z qs rs ls ms
     → IsLaterWith d f x z ps rs ks ms
 later-by d e f x y z ps qs rs ks ls ms p q = record {
   honest = λ h. p.honest (q.honest h);
@@ -53,7 +54,7 @@ later-by d e f x y z ps qs rs ks ls ms p q = record {
 }
 
 -- the store, the files that are left alone and the store's share are the same, and refusals were counted
-pub later-on : {S : Type 0} (disk : S → Disk) (s t : S) (x y : Option (List ℕ)) (ts us : List TenantState) (cs ds : List ℕ) → t ≡ s → y ≡ x → ds ≡ cs → names_of us ≡ names_of ts
+pub later-on : {S : Type 0} (disk : S → Disk) (s t : S) (x y : Option (List ℕ)) (ts us : List TenantState) (cs ds : List Counts) → t ≡ s → y ≡ x → ds ≡ cs → names_of us ≡ names_of ts
     → ((t : ℕ) → refusals_of ts t ≤ refusals_of us t) → IsLaterWith (disk s) (disk t) x y ts us cs ds
 later-on disk s t x y ts us cs ds e f h names counts =
     subst (λ z. IsLaterWith (disk s) (disk z) x y ts us cs ds) (sym e)
@@ -62,7 +63,7 @@ later-on disk s t x y ts us cs ds e f h names counts =
 
 -- and it went there so
 pub later-from : {S : Type 0} (disk : S → Disk) (Goes : BrokerState → BrokerState → Type 0) (a b : OnStore S)
-    → IsLaterWith (disk a.store) (disk b.store) a.strays b.strays a.state.tenants b.state.tenants a.by_store b.by_store → (is_honest disk b → Goes a.state b.state)
+    → IsLaterWith (disk a.store) (disk b.store) a.strays b.strays a.state.tenants b.state.tenants a.counts b.counts → (is_honest disk b → Goes a.state b.state)
     → IsLaterBy disk Goes a b
 later-from disk Goes a b h spoken = record {
   honest = h.honest;
@@ -77,7 +78,7 @@ later-from disk Goes a b h spoken = record {
 
 -- of the store and the tenants alone
 pub later-with : {S : Type 0} (disk : S → Disk) (Goes : BrokerState → BrokerState → Type 0) (a b : OnStore S) → IsLaterBy disk Goes a b
-    → IsLaterWith (disk a.store) (disk b.store) a.strays b.strays a.state.tenants b.state.tenants a.by_store b.by_store
+    → IsLaterWith (disk a.store) (disk b.store) a.strays b.strays a.state.tenants b.state.tenants a.counts b.counts
 later-with disk Goes a b h = record {
   honest = h.honest;
   failures = h.failures;
@@ -89,13 +90,13 @@ later-with disk Goes a b h = record {
 }
 
 pub later-same : {S : Type 0} (disk : S → Disk) (a : OnStore S) → IsLater disk a a
-later-same disk a = later-from disk SpeaksTruth a a (later-none (disk a.store) a.strays a.state.tenants a.by_store) (λ honest. speaks_same a.state a.state refl)
+later-same disk a = later-from disk SpeaksTruth a a (later-none (disk a.store) a.strays a.state.tenants a.counts) (λ honest. speaks_same a.state a.state refl)
 
 -- a broker at a later moment, and then at a later one
 pub later-after : {S : Type 0} (disk : S → Disk) (P Q R : BrokerState → BrokerState → Type 0) (a b c : OnStore S) → IsLaterBy disk P a b → IsLaterBy disk Q b c
     → (P a.state b.state → Q b.state c.state → R a.state c.state) → IsLaterBy disk R a c
 later-after disk P Q R a b c p q both = later-from disk R a c
-    (later-by (disk a.store) (disk b.store) (disk c.store) a.strays b.strays c.strays a.state.tenants b.state.tenants c.state.tenants a.by_store b.by_store c.by_store
+    (later-by (disk a.store) (disk b.store) (disk c.store) a.strays b.strays c.strays a.state.tenants b.state.tenants c.state.tenants a.counts b.counts c.counts
     (later-with disk P a b p) (later-with disk Q b c q))
     (λ honest. both (p.spoken (q.honest honest)) (q.spoken honest))
 
@@ -104,24 +105,24 @@ later-then disk a b c p q = later-after disk SpeaksTruth SpeaksTruth SpeaksTruth
 
 -- where nobody takes what came nothing changes
 pub later-untaken : {S : Type 0} (disk : S → Disk) (a : OnStore S) (n : ℕ) (piece : List ℕ) → IsUntaken n piece a.state → IsLaterBy disk (SpeaksAt (Comes n piece)) a a
-later-untaken disk a n piece untaken = later-from disk (SpeaksAt (Comes n piece)) a a (later-none (disk a.store) a.strays a.state.tenants a.by_store) (λ honest. at_untaken n piece a.state untaken)
+later-untaken disk a n piece untaken = later-from disk (SpeaksAt (Comes n piece)) a a (later-none (disk a.store) a.strays a.state.tenants a.counts) (λ honest. at_untaken n piece a.state untaken)
 
 -- in an event
 pub later-at : {S : Type 0} (disk : S → Disk) (e : Happening) (a b c : OnStore S) → IsLaterBy disk (SpeaksAt e) a b → IsLater disk b c → IsLaterBy disk (SpeaksAt e) a c
 later-at disk e a b c p q = later-after disk (SpeaksAt e) SpeaksTruth (SpeaksAt e) a b c p q (at_then e a.state b.state c.state)
 
 -- the store, the files that are left alone and the store's share are the same, and no count is smaller
-pub later-still : {S : Type 0} (disk : S → Disk) (Goes : BrokerState → BrokerState → Type 0) (a b : OnStore S) → b.store ≡ a.store → b.strays ≡ a.strays → b.by_store ≡ a.by_store
+pub later-still : {S : Type 0} (disk : S → Disk) (Goes : BrokerState → BrokerState → Type 0) (a b : OnStore S) → b.store ≡ a.store → b.strays ≡ a.strays → b.counts ≡ a.counts
     → names_of b.state.tenants ≡ names_of a.state.tenants → ((t : ℕ) → refusals_of a.state.tenants t ≤ refusals_of b.state.tenants t)
     → Goes a.state b.state → IsLaterBy disk Goes a b
-later-still disk Goes a b store strays by_store names counts goes = later-from disk Goes a b
-    (later-on disk a.store b.store a.strays b.strays a.state.tenants b.state.tenants a.by_store b.by_store store strays by_store names counts)
+later-still disk Goes a b store strays same names counts goes = later-from disk Goes a b
+    (later-on disk a.store b.store a.strays b.strays a.state.tenants b.state.tenants a.counts b.counts store strays same names counts)
     (λ honest. goes)
 
 -- the same, where no count has changed
-pub later-is : {S : Type 0} (disk : S → Disk) (Goes : BrokerState → BrokerState → Type 0) (a b : OnStore S) → b.store ≡ a.store → b.strays ≡ a.strays → b.by_store ≡ a.by_store → b.state.tenants ≡ a.state.tenants
+pub later-is : {S : Type 0} (disk : S → Disk) (Goes : BrokerState → BrokerState → Type 0) (a b : OnStore S) → b.store ≡ a.store → b.strays ≡ a.strays → b.counts ≡ a.counts → b.state.tenants ≡ a.state.tenants
     → Goes a.state b.state → IsLaterBy disk Goes a b
-later-is disk Goes a b store strays by_store tenants goes = later-still disk Goes a b store strays by_store (ap names_of tenants)
+later-is disk Goes a b store strays counts tenants goes = later-still disk Goes a b store strays counts (ap names_of tenants)
     (λ t. (let same = ap (λ (ts : List TenantState). refusals_of ts t) tenants in omega (arith, same))) goes
 
 -- where a is what the broker's own fields are
@@ -144,13 +145,13 @@ store-is a b e = ap (λ (x : OnStore _). x.store) e
 pub strays-is : {S : Type 0} (a b : OnStore S) → a ≡ b → a.strays ≡ b.strays
 strays-is a b e = ap (λ (x : OnStore _). x.strays) e
 
-pub by_store-is : {S : Type 0} (a b : OnStore S) → a ≡ b → a.by_store ≡ b.by_store
-by_store-is a b e = ap (λ (x : OnStore _). x.by_store) e
+pub counts-is : {S : Type 0} (a b : OnStore S) → a ≡ b → a.counts ≡ b.counts
+counts-is a b e = ap (λ (x : OnStore _). x.counts) e
 
 pub commands-are : {S : Type 0} (a b : OnStore S) → a ≡ b → a.commands ≡ b.commands
 commands-are a b e = ap (λ (x : OnStore _). x.commands) e
 
 -- another state on the same store
-pub stands-on : {S : Type 0} (b : OnStore S) (x y : BrokerState) (store : S) (strays : Option (List ℕ)) (by_store commands : List ℕ) → x ≡ y → store ≡ b.store → strays ≡ b.strays
-    → by_store ≡ b.by_store → commands ≡ b.commands → (let a : OnStore S = record { state = x; store = store; strays = strays; by_store = by_store; commands = commands } in a) ≡ record b { state = y }
-stands-on b x y store strays by_store commands e f g h k = λ i. record { state = e i; store = f i; strays = g i; by_store = h i; commands = k i }
+pub stands-on : {S : Type 0} (b : OnStore S) (x y : BrokerState) (store : S) (strays : Option (List ℕ)) (counts : List Counts) (commands : List ℕ) → x ≡ y → store ≡ b.store → strays ≡ b.strays
+    → counts ≡ b.counts → commands ≡ b.commands → (let a : OnStore S = record { state = x; store = store; strays = strays; counts = counts; commands = commands } in a) ≡ record b { state = y }
+stands-on b x y store strays counts commands e f g h k = λ i. record { state = e i; store = f i; strays = g i; counts = h i; commands = k i }

@@ -6,6 +6,7 @@ use Rattle.kb_coordinator.specs.declared.limits.Limits.{Limits}
 use Rattle.kb_tenant_api.specs.Hosted.{Kept, TenantState, kept_of}
 use Rattle.kb_tenant_api.specs.Turns.{with_kept}
 use Rattle.kb_tenant_api.specs.Waiters.{members_on, replies_on}
+use Rattle.kb_tenants.specs.declared.counts.Counts.{Counts}
 use Rattle.kb_tenants.specs.Limited as tenants
 use Rattle.kb_tenants.specs.Limited.{kept_limited}
 use Rattle.kb_tenants.specs.Members.{HaveNoGroup}
@@ -56,11 +57,11 @@ replies-stay ls ts u n = same-each (λ (k : Kept). replies_on n k.groups) (λ l 
 -- ---- the broker
 
 -- the state, and the store and the files as they were
-pub limited-made : {S : Type 0} (t : ℕ) (limits : Limits) (a b : OnStore S) (ts : List TenantState) (s : S) (o : Option (List ℕ)) (cs ns : List ℕ) → a ≡ b
-    → ts ≡ tenants.limited_at t limits a.state.tenants → s ≡ a.store → o ≡ a.strays → cs ≡ a.by_store → ns ≡ a.commands
-    → record { state = record a.state { tenants = ts }; store = s; strays = o; by_store = cs; commands = ns } ≡ record b { state = limited_at t limits b.state }
+pub limited-made : {S : Type 0} (t : ℕ) (limits : Limits) (a b : OnStore S) (ts : List TenantState) (s : S) (o : Option (List ℕ)) (cs : List Counts) (ns : List ℕ) → a ≡ b
+    → ts ≡ tenants.limited_at t limits a.state.tenants → s ≡ a.store → o ≡ a.strays → cs ≡ a.counts → ns ≡ a.commands
+    → record { state = record a.state { tenants = ts }; store = s; strays = o; counts = cs; commands = ns } ≡ record b { state = limited_at t limits b.state }
 limited-made {S} t limits a b ts s o cs ns e is u v w z =
-    let here : record { state = record a.state { tenants = ts }; store = s; strays = o; by_store = cs; commands = ns } ≡ record a { state = limited_at t limits a.state } = (λ i. record { state = record a.state { tenants = is i }; store = u i; strays = v i; by_store = w i; commands = z i }) in
+    let here : record { state = record a.state { tenants = ts }; store = s; strays = o; counts = cs; commands = ns } ≡ record a { state = limited_at t limits a.state } = (λ i. record { state = record a.state { tenants = is i }; store = u i; strays = v i; counts = w i; commands = z i }) in
     here ∙ ap (λ (x : OnStore S). record x { state = limited_at t limits x.state }) e
 
 -- none yet, and one more

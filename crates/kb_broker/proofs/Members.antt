@@ -8,6 +8,7 @@ use Rattle.kb_coordinator.specs.Groups.{Groups}
 use Rattle.kb_tenant_api.specs.Hosted.{Kept, TenantState, kept_of, new_tenant, nothing}
 use Rattle.kb_tenant_api.specs.Waiters.{members_on, replies_on}
 use Rattle.kb_waits.specs.Queue.{Queue}
+use Rattle.kb_tenants.specs.declared.counts.Counts.{Counts}
 use Rattle.kb_tenants.specs.Members as tenants
 use Rattle.kb_tenants.specs.Members.{HaveNoGroup, tenant_numbered_from}
 use Rattle.kb_settings.specs.declared.settings.Settings.{Settings}
@@ -24,10 +25,10 @@ use Rattle.kb_broker.specs.Parked.{IsQueueOf}
 use Rattle.kb_broker.proofs.Parked.{queue-tenants}
 
 -- the state, and the store and the files as they were
-pub numbered-made : {S : Type 0} (first : ℕ) (a b : OnStore S) (ts : List TenantState) (s : S) (o : Option (List ℕ)) (cs ns : List ℕ) → a ≡ b → ts ≡ tenants.numbered_from first a.state.tenants → s ≡ a.store → o ≡ a.strays
-    → cs ≡ a.by_store → ns ≡ a.commands → record { state = record a.state { tenants = ts }; store = s; strays = o; by_store = cs; commands = ns } ≡ record b { state = numbered_from first b.state }
+pub numbered-made : {S : Type 0} (first : ℕ) (a b : OnStore S) (ts : List TenantState) (s : S) (o : Option (List ℕ)) (cs : List Counts) (ns : List ℕ) → a ≡ b → ts ≡ tenants.numbered_from first a.state.tenants → s ≡ a.store → o ≡ a.strays
+    → cs ≡ a.counts → ns ≡ a.commands → record { state = record a.state { tenants = ts }; store = s; strays = o; counts = cs; commands = ns } ≡ record b { state = numbered_from first b.state }
 numbered-made {S} first a b ts s o cs ns e t u v w z =
-    let here : record { state = record a.state { tenants = ts }; store = s; strays = o; by_store = cs; commands = ns } ≡ record a { state = numbered_from first a.state } = (λ i. record { state = record a.state { tenants = t i }; store = u i; strays = v i; by_store = w i; commands = z i }) in
+    let here : record { state = record a.state { tenants = ts }; store = s; strays = o; counts = cs; commands = ns } ≡ record a { state = numbered_from first a.state } = (λ i. record { state = record a.state { tenants = t i }; store = u i; strays = v i; counts = w i; commands = z i }) in
     here ∙ ap (λ (x : OnStore S). record x { state = numbered_from first x.state }) e
 
 -- nobody waits where nobody is connected

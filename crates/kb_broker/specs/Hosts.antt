@@ -6,7 +6,8 @@ use Rattle.kb_tenant.specs.Batches.{HasSmallLogs}
 use Rattle.kb_tenant.specs.LimitsKept.{HasOrderedCommits}
 use Rattle.kb_tenant_api.specs.Hosted.{TenantState, refusals_of}
 use Rattle.kb_tenant_api.specs.Turns.{all_calm}
-use Rattle.kb_tenants.specs.Counts.{AreShared, store_counts}
+use Rattle.kb_tenants.specs.Counts.{AreShared, all_counts}
+use Rattle.kb_tenants.specs.declared.counts.Counts.{Counts}
 use Rattle.kb_tenants.specs.Tenants.{AreKept, AreKeptIn, AreLeftAlone, hosted, numbers_in}
 use Rattle.kb_tenants.specs.declared.tenants.Tenants.{Tenants}
 use Rattle.kb_isolation_spec.specs.Machine.{Happening, first_able}
@@ -26,7 +27,7 @@ AreHosted log disk hosts = AreKept log disk hosts
 -- At a later moment the store has told the truth only if it had before, and its failures are no fewer. No tenant's count of
 -- refusals is smaller, and the counts together have risen by at least as much as the failures, unless one has come to its end; and as many
 -- refusals more are the store's. The files that are left alone are the same, and have the bytes that they had.
-pub record IsLaterWith (old new : Disk) (strays left : Option (List ℕ)) (ts us : List TenantState) (cs ds : List ℕ) : Type 0 where
+pub record IsLaterWith (old new : Disk) (strays left : Option (List ℕ)) (ts us : List TenantState) (cs ds : List Counts) : Type 0 where
   pub honest : new.honest → old.honest
   pub failures : old.failures ≤ new.failures
   pub many : length us ≡ length ts
@@ -37,17 +38,17 @@ pub record IsLaterWith (old new : Disk) (strays left : Option (List ℕ)) (ts us
 
 abbrev pub AreLater : {L S : Type 0} → (L → Log) → (S → Disk) → Tenants L S → Tenants L S → Type 0
 AreLater log disk old new = IsLaterWith (disk old.shelf.store) (disk new.shelf.store) (numbers_in old.strays) (numbers_in new.strays)
-    (tenants_in log disk old) (tenants_in log disk new) (store_counts old) (store_counts new)
+    (tenants_in log disk old) (tenants_in log disk new) (all_counts old) (all_counts new)
 
 -- 2. The broker
 
 -- a broker, the store on which it stands, the files there that are of no log and are left alone, where it is known which they are; and by
--- place how many refusals of each tenant were the store's, and how many commands the log of its catalog has recorded
+-- place what is counted for each tenant beside its refusals, and how many commands the log of its catalog has recorded
 pub record OnStore (S : Type 0) : Type 0 where
   pub state : BrokerState
   pub store : S
   pub strays : Option (List ℕ)
-  pub by_store : List ℕ
+  pub counts : List Counts
   pub commands : List ℕ
 
 -- whether the store has told the truth so far
@@ -60,7 +61,7 @@ pub record IsLaterBy {S : Type 0} (disk : S → Disk) (Goes : BrokerState → Br
   pub failures : (disk old.store).failures ≤ (disk new.store).failures
   pub many : length new.state.tenants ≡ length old.state.tenants
   pub counts : (t : ℕ) → refusals_of old.state.tenants t ≤ refusals_of new.state.tenants t
-  pub accounted : AreShared old.state.tenants new.state.tenants (disk old.store).failures (disk new.store).failures old.by_store new.by_store
+  pub accounted : AreShared old.state.tenants new.state.tenants (disk old.store).failures (disk new.store).failures old.counts new.counts
   pub strays_are : new.strays ≡ old.strays
   pub left_alone : AreLeftAlone (unwrap_or old.strays []) (disk old.store) (disk new.store)
   pub spoken : is_honest disk new → Goes old.state new.state

@@ -4,3 +4,5 @@ pub mod Lens
 pub mod Listing
 pub mod Names
 pub mod Held
+pub mod Told
+pub mod Reading

@@ -1,5 +1,5 @@
 -- The names of files: 20 decimal digits and '.seg'.
-use Rattle.std.specs.Prelude.{◌+◌, ◌-◌, ◌*◌, ◌^◌, ◌&&◌, ◌==◌, ℕ, Bool, List, [], ◌∷◌, length, take, drop, nat_lt, not, string_bytes}
+use Rattle.std.specs.Prelude.{◌≡◌, ◌++◌, ◌+◌, ◌-◌, ◌*◌, ◌^◌, ◌&&◌, ◌==◌, ℕ, Bool, List, [], ◌∷◌, length, take, drop, nat_lt, not, string_bytes}
 use Rattle.std.specs.Prelude.{filter_map, bytes_eq, Option, Some, None, if◌then◌else◌}
 use Rattle.std.specs.List.{list_all}
 use Rattle.std.specs.declared.string.String.{String}
@@ -24,6 +24,10 @@ number_of ds = if list_all is_digit ds && nat_lt (spelled 0 ds) (2 ^ 64) then So
 -- the number of the file of a name
 abbrev pub number_named : List ℕ → Option ℕ
 number_named name = if length name == 24 && bytes_eq (drop 20 name) suffix then number_of (take 20 name) else None
+
+-- The path ends with a slash and the file's name.
+abbrev pub IsPathOf : List ℕ → ℕ → Type 0
+IsPathOf path file = (folder name : List ℕ) × (path ≡ folder ++ 47 ∷ name) × (number_named name ≡ Some file)
 
 -- the numbers in some names; other names have none
 abbrev pub numbers_named : {A : Type 0} → List (String A) → List ℕ

@@ -1,54 +1,49 @@
-//! A folder of the system.
+//! What is kept open of a folder of the system, and in mind.
 
-ghost use Rattle.std.specs.Prelude.{◌≡◌, true};
-ghost use Rattle.std.specs.Io.{ReadsAtMost, WritesAtMost};
+ghost use Rattle.std.specs.Prelude.{◌≡◌, ◌++◌, ◌∷◌, true, Ok, IfOk, OnErr, IsErr, string_bytes};
+ghost use Rattle.kb_folder.specs.Names.{IsPathOf};
 ghost use Rattle.kb_folder.specs.Reserve.{is_catalogs};
 
 use crate::changed::Changed;
-use crate::name::{file_name, file_number};
+use crate::history::Handle;
+use crate::name::file_name;
 use crate::refusal::{FolderCall, Refusal, Refusals};
-use crate::reserve::{FRONT, front_of, is_full, may_take_reserve};
-use crate::{Folder, FolderFault, reserve};
+use crate::reserve::{FRONT, front_of, may_take_reserve};
+use crate::{FolderFault, reserve};
 use lru::LruCache;
-use std::alloc::{AllocError, Global};
+use std::alloc::AllocError;
 use std::fs::{DirBuilder, File, OpenOptions};
+use std::io;
 use std::io::ErrorKind;
 use std::num::NonZeroUsize;
-use std::os::unix::fs::{DirBuilderExt, FileExt, OpenOptionsExt};
+use std::os::unix::fs::{DirBuilderExt, OpenOptionsExt};
 use std::rt::Files;
-use std::{fs, io};
 
 /// How many files are kept open between calls.
 const MOST_OPEN: usize = 256;
-
-/// Of which powers of two so many bytes are taken from the reserve, one after another, while they are too few.
-const LEAST_POWER: u32 = 13;
-
-const MOST_POWER: u32 = 23;
 
 /// The system's codes for want of descriptors, of the process and of all.
 const EMFILE: i32 = 24;
 
 const ENFILE: i32 = 23;
 
-/// A folder of the system. No contract says what it holds.
+/// A folder of the system: its path, the files that are open, and what is kept in mind of it.
 ///
-/// The files that were used last stay open, at most 256 of them, and fewer where the system has no descriptor for a further one. No
-/// call asks the system to write its own buffers out, unless the folder is [`HostFolder::syncing`]. Files that it makes are for the
-/// process's own user. A folder in it that has a file's name is as a file without bytes, and is noted as a refusal.
+/// The files that were used last stay open, at most 256 of them, and fewer where the system has no descriptor for a further one. What it
+/// reads and writes here is no answer on its files: the reserve, and the front of one that says whether it is a catalog's.
 #[derive(Drop)]
-pub struct HostFolder<R: Files<File = File> + AllocGlobal + Clone + Drop> {
+pub(crate) struct Host<R: Files<File = File> + AllocGlobal + Clone + Drop> {
     pub(crate) rt: R,
     pub(crate) path: String,
     /// Whether files are opened for writing, too.
     writes: bool,
-    pub(crate) open: LruCache<u64, File>,
+    pub(crate) open: LruCache<u64, Handle>,
     /// What has changed since it was made to last; none where it is not kept in mind.
     pub(crate) changed: Option<Changed>,
     /// How many bytes its reserve has; none where it keeps none.
-    reserve: Option<u64>,
+    pub(crate) reserve: Option<u64>,
     /// Where refusals are noted.
-    refusals: Option<Refusals>,
+    pub(crate) refusals: Option<Refusals>,
 }
 
 impl From<io::Error> for FolderFault {
@@ -62,23 +57,12 @@ impl From<io::Error> for FolderFault {
     }
 }
 
-impl<R: Files<File = File> + AllocGlobal + Clone + Drop> HostFolder<R> {
-    /// The folder at a path. Where there is none it is made, for the process's own user.
-    pub fn new(rt: R, path: &str) -> Result<Self, FolderFault> {
-        make_folder(&rt, path)?;
-        HostFolder::at(rt, path, true)
-    }
-
-    /// The folder at a path, to be read alone: files are not opened for writing, and no folder is made. Calls that write are refused.
-    pub fn to_read(rt: R, path: &str) -> Result<Self, FolderFault> {
-        HostFolder::at(rt, path, false)
-    }
-
+impl<R: Files<File = File> + AllocGlobal + Clone + Drop> Host<R> {
     /// The folder at a path, with no file open.
-    fn at(rt: R, path: &str, writes: bool) -> Result<Self, FolderFault> {
+    pub(crate) fn at(rt: R, path: &str, writes: bool) -> Result<Self, FolderFault> {
         let alloc = rt.alloc();
         let most = NonZeroUsize::new(MOST_OPEN).unwrap_or(NonZeroUsize::MIN);
-        Ok(HostFolder {
+        Ok(Host {
             rt,
             path: String::from_str(alloc, path)?,
             writes,
@@ -89,32 +73,18 @@ impl<R: Files<File = File> + AllocGlobal + Clone + Drop> HostFolder<R> {
         })
     }
 
-    /// The same folder, whose refusals are noted.
-    pub fn noting(mut self, refusals: Refusals) -> Self {
-        self.refusals = Some(refusals);
-        self
-    }
-
-    /// The same folder, with a file `reserve` of 4,194,304 bytes where there is room for it. On a full disk an append to a catalog takes
-    /// room from it, so that what takes files away can be written. It is filled again after a removal or a cut that leaves room.
-    pub fn with_reserve(mut self) -> Self {
-        let len = match self.open_reserve() {
-            Ok(file) => file.metadata().map_or(0, |found| found.len()),
-            Err(_) => 0,
-        };
-        self.reserve = Some(len.min(reserve::SIZE));
-        self.restore_reserve();
-        self
-    }
-
     /// The path of a file.
-    fn path(&self, file: u64) -> Result<String, AllocError> {
+    pub(crate) fn path(&self, file: u64) -> Result<String, AllocError>
+        ensures { IfOk result (λ path. IsPathOf (string_bytes path) file) }
+    {
         let name = file_name(self.rt.alloc(), file)?;
         self.path_of(name.as_str())
     }
 
     /// The path of a name in the folder.
-    fn path_of(&self, name: &str) -> Result<String, AllocError> {
+    fn path_of(&self, name: &str) -> Result<String, AllocError>
+        ensures { IfOk result (λ path. string_bytes path ≡ string_bytes self.now.path ++ 47 ∷ name.now) }
+    {
         let mut path = self.path.clone()?;
         path.push('/')?;
         path.push_str(name)?;
@@ -122,7 +92,9 @@ impl<R: Files<File = File> + AllocGlobal + Clone + Drop> HostFolder<R> {
     }
 
     /// A file, opened.
-    pub(crate) fn file(&mut self, file: u64) -> io::Result<&File> {
+    pub(crate) fn file(&mut self, file: u64) -> io::Result<&Handle>
+        ensures { IfOk result (λ opened. opened.now.number ≡ file) }
+    {
         self.open_one(file)?;
         self.opened(file)
     }
@@ -136,13 +108,15 @@ impl<R: Files<File = File> + AllocGlobal + Clone + Drop> HostFolder<R> {
         let mut options = OpenOptions::new();
         options.read(true).write(self.writes);
         let opened = self.open_with(&options, path.as_str())?;
-        self.keep_open(file, opened)
+        self.keep_open(Handle::at(path.as_str(), file, opened))
     }
 
     /// A file, where it is open and was used last. It costs no look-up.
-    pub(crate) fn opened(&self, file: u64) -> io::Result<&File> {
+    pub(crate) fn opened(&self, file: u64) -> io::Result<&Handle>
+        ensures { IfOk result (λ opened. opened.now.number ≡ file) }
+    {
         match self.open.peek_mru() {
-            Some((last, opened)) if *last == file => Ok(opened),
+            Some((_, opened)) if opened.number() == file => Ok(opened),
             _ => Err(ErrorKind::NotFound.into()),
         }
     }
@@ -168,7 +142,10 @@ impl<R: Files<File = File> + AllocGlobal + Clone + Drop> HostFolder<R> {
         call: FolderCall,
         file: Option<u64>,
         done: io::Result<T>,
-    ) -> Result<T, FolderFault> {
+    ) -> Result<T, FolderFault>
+        ensures ok { IfOk result (λ value. done ≡ Ok value) }
+        ensures err { OnErr result (IsErr done) }
+    {
         match done {
             Ok(value) => Ok(value),
             Err(error) => Err(self.fault(call, file, error)),
@@ -190,7 +167,7 @@ impl<R: Files<File = File> + AllocGlobal + Clone + Drop> HostFolder<R> {
     }
 
     /// Refused where the folder is to be read alone.
-    fn to_write(&self) -> io::Result<()> {
+    pub(crate) fn to_write(&self) -> io::Result<()> {
         if self.writes {
             Ok(())
         } else {
@@ -198,20 +175,10 @@ impl<R: Files<File = File> + AllocGlobal + Clone + Drop> HostFolder<R> {
         }
     }
 
-    pub(crate) fn list(&self, alloc: Global) -> io::Result<Vec<String>> {
-        let mut names = Vec::new(alloc);
-        for entry in fs::read_dir(&self.rt, self.path.as_str())? {
-            match entry {
-                Ok(entry) => names.push(String::from_str(alloc, entry.file_name())?)?,
-                // A name that is no text is none of ours.
-                Err(error) if error.kind() == ErrorKind::InvalidFilename => {}
-                Err(error) => return Err(error),
-            }
-        }
-        Ok(names)
-    }
-
-    fn make(&mut self, file: u64) -> io::Result<()> {
+    /// A file, made and opened.
+    pub(crate) fn make(&mut self, file: u64) -> io::Result<Handle>
+        ensures { IfOk result (λ made. made.number ≡ file) }
+    {
         self.to_write()?;
         let path = self.path(file)?;
         let mut options = OpenOptions::new();
@@ -219,11 +186,7 @@ impl<R: Files<File = File> + AllocGlobal + Clone + Drop> HostFolder<R> {
         let first = self.note(file)?;
         self.note_names();
         match self.open_with(&options, path.as_str()) {
-            // Where there is no room for the handle the file is opened again when it is used.
-            Ok(made) => {
-                let _ = self.keep_open(file, made);
-                Ok(())
-            }
+            Ok(made) => Ok(Handle::at(path.as_str(), file, made)),
             Err(error) => {
                 if first {
                     self.forget(file);
@@ -233,49 +196,12 @@ impl<R: Files<File = File> + AllocGlobal + Clone + Drop> HostFolder<R> {
         }
     }
 
-    /// Writes at a place. On a full disk a catalog may take room from the reserve.
-    fn write(&mut self, file: u64, at: u64, bytes: &[u8]) -> io::Result<usize>
-        ensures { WritesAtMost result bytes.now }
-    {
-        match write_at(self.to_change(file)?, at, bytes) {
-            Err(error) if is_full(&error) && self.reserve.unwrap_or(0) > 0 => {
-                let front = self.front(file, at, bytes)?;
-                if !may_take_reserve(&front) {
-                    return Err(error);
-                }
-                self.write_from_reserve(file, at, bytes, &front)
-            }
-            written => written,
-        }
-    }
-
-    /// Writes at a place of a file that begins with a front, and takes more and more room from the reserve while the disk is full.
-    fn write_from_reserve(
-        &mut self,
-        file: u64,
-        at: u64,
-        bytes: &[u8],
-        front: &[u8],
-    ) -> io::Result<usize>
-        requires { is_catalogs front.now ≡ true }
-        ensures { WritesAtMost result bytes.now }
-    {
-        for power in LEAST_POWER..MOST_POWER {
-            self.give_up(1 << power, front)?;
-            match write_at(self.to_change(file)?, at, bytes) {
-                Err(error) if is_full(&error) => {}
-                written => return written,
-            }
-        }
-        Err(ErrorKind::StorageFull.into())
-    }
-
     /// The first bytes of a file of a length, with new ones behind it.
-    fn front(&mut self, file: u64, len: u64, bytes: &[u8]) -> io::Result<Vec<u8>> {
+    pub(crate) fn front(&mut self, file: u64, len: u64, bytes: &[u8]) -> io::Result<Vec<u8>> {
         let mut kept = [0u8; FRONT];
         let size = len.min(FRONT as u64) as usize;
-        let read = read_whole(self.file(file)?, 0, &mut kept[..size])?;
-        Ok(front_of(self.rt.alloc(), &kept[..read], bytes)?)
+        self.file(file)?.front(&mut kept[..size])?;
+        Ok(front_of(self.rt.alloc(), &kept[..size], bytes)?)
     }
 
     /// Whether a file is a catalog's, by the bytes that it begins with. One that cannot be read is none.
@@ -287,7 +213,7 @@ impl<R: Files<File = File> + AllocGlobal + Clone + Drop> HostFolder<R> {
     }
 
     /// Gives so many bytes of the reserve up for a file that begins with a front, or all that it has.
-    fn give_up(&mut self, size: u64, _front: &[u8]) -> io::Result<()>
+    pub(crate) fn give_up(&mut self, size: u64, _front: &[u8]) -> io::Result<()>
         requires { is_catalogs _front.now ≡ true }
     {
         let left = self.reserve.unwrap_or(0).saturating_sub(size);
@@ -297,7 +223,7 @@ impl<R: Files<File = File> + AllocGlobal + Clone + Drop> HostFolder<R> {
     }
 
     /// Fills the reserve again where some of it is missing and there is room.
-    fn restore_reserve(&mut self) {
+    pub(crate) fn restore_reserve(&mut self) {
         let Some(len) = self.reserve else {
             return;
         };
@@ -310,21 +236,17 @@ impl<R: Files<File = File> + AllocGlobal + Clone + Drop> HostFolder<R> {
     }
 
     /// The file of the reserve, which is made where it is missing.
-    fn open_reserve(&mut self) -> io::Result<File> {
+    pub(crate) fn open_reserve(&mut self) -> io::Result<File> {
         let path = self.path_of(reserve::NAME)?;
         let mut options = OpenOptions::new();
         options.write(true).create(true).mode(0o600);
         self.open_with(&options, path.as_str())
     }
 
-    fn take_away(&mut self, file: u64) -> io::Result<()> {
-        self.to_write()?;
-        let path = self.path(file)?;
-        self.note_names();
-        fs::remove_file(&self.rt, path.as_str())?;
+    /// Closes a file, and forgets what it has changed.
+    pub(crate) fn let_go(&mut self, file: u64) {
         self.open.pop(&file);
         self.forget(file);
-        Ok(())
     }
 }
 
@@ -339,117 +261,4 @@ pub fn make_folder(files: &impl Files, path: &str) -> io::Result<()> {
 /// Whether a call was refused for want of descriptors.
 fn wants_descriptor(error: &io::Error) -> bool {
     matches!(error.raw_os_error(), Some(EMFILE | ENFILE))
-}
-
-/// Writes bytes at a place of a file. A call that a signal interrupts is made again.
-fn write_at(file: &File, at: u64, bytes: &[u8]) -> io::Result<usize>
-    ensures { WritesAtMost result bytes.now }
-{
-    for _ in 0..u64::MAX {
-        match file.write_at(bytes, at) {
-            Err(error) if error.kind() == ErrorKind::Interrupted => {}
-            written => return written,
-        }
-    }
-    Err(ErrorKind::Interrupted.into())
-}
-
-/// Reads bytes of a file from a place on, up to the end of the buffer or of the file, and answers how many.
-fn read_whole(file: &File, at: u64, buffer: &mut [u8]) -> io::Result<usize>
-    ensures { ReadsAtMost result buffer.new }
-{
-    let mut read = 0;
-    for _ in 0..u64::MAX {
-        if read >= buffer.len() {
-            return Ok(read);
-        }
-        match file.read_at(&mut buffer[read..], at.saturating_add(read as u64)) {
-            Ok(0) => return Ok(read),
-            Ok(n) => read += n,
-            Err(error) if error.kind() == ErrorKind::Interrupted => {}
-            Err(error) => return Err(error),
-        }
-    }
-    Err(ErrorKind::Interrupted.into())
-}
-
-impl<R: Files<File = File> + AllocGlobal + Clone + Drop> Folder for HostFolder<R> {
-    ghost use Rattle.std.specs.FinMap as map;
-    ghost use Rattle.kb_store.specs.Loss.{nothing_left};
-    ghost use Rattle.kb_store.specs.LossLaws.{nothing_timely};
-
-    ghost contents = { λ _. record { files = map.empty; honest = ⊥ } };
-
-    ghost loss = { λ _. nothing_left };
-
-    ghost timely = { λ _. nothing_timely };
-
-    fn names(&mut self, alloc: Global) -> Result<Vec<String>, FolderFault> {
-        let listed = self.list(alloc);
-        self.answer(FolderCall::List, None, listed)
-    }
-
-    fn len(&mut self, file: u64) -> Result<u64, FolderFault> {
-        match length(self.file(file)) {
-            Err(error) if error.kind() == ErrorKind::IsADirectory => {
-                // What is no file has no bytes. It is noted, and nothing of it is read.
-                let _ = self.fault(FolderCall::Length, Some(file), error);
-                Ok(0)
-            }
-            len => self.answer(FolderCall::Length, Some(file), len),
-        }
-    }
-
-    fn create(&mut self, file: u64) -> Result<(), FolderFault> {
-        let made = self.make(file);
-        self.answer(FolderCall::Create, Some(file), made)
-    }
-
-    fn write_end(&mut self, file: u64, end: u64, bytes: &[u8]) -> Result<usize, FolderFault> {
-        match self.write(file, end, bytes) {
-            Ok(written) => Ok(written),
-            Err(error) => Err(self.fault(FolderCall::Write, Some(file), error)),
-        }
-    }
-
-    fn read_at(&mut self, file: u64, at: u64, buffer: &mut [u8]) -> Result<usize, FolderFault> {
-        if buffer.is_empty() {
-            return Ok(0);
-        }
-        let read = match self.file(file) {
-            Ok(opened) => read_whole(opened, at, buffer),
-            Err(error) => Err(error),
-        };
-        self.answer(FolderCall::Read, Some(file), read)
-    }
-
-    fn cut(&mut self, file: u64, len: u64) -> Result<(), FolderFault> {
-        let cut = match self.to_change(file) {
-            Ok(opened) => opened.set_len(len),
-            Err(error) => Err(error),
-        };
-        self.answer(FolderCall::Cut, Some(file), cut)?;
-        self.restore_reserve();
-        Ok(())
-    }
-
-    fn remove(&mut self, file: u64) -> Result<(), FolderFault> {
-        let removed = self.take_away(file);
-        self.answer(FolderCall::Remove, Some(file), removed)?;
-        self.restore_reserve();
-        Ok(())
-    }
-
-    fn sync(&mut self) -> Result<(), FolderFault> {
-        self.sync_changed()
-    }
-}
-
-/// The length of a file that was opened. A folder is none.
-fn length(opened: io::Result<&File>) -> io::Result<u64> {
-    let found = opened?.metadata()?;
-    if found.is_dir() {
-        return Err(ErrorKind::IsADirectory.into());
-    }
-    Ok(found.len())
 }

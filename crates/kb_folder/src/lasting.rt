@@ -1,33 +1,23 @@
 //! How a folder of the system's makes what it has changed last through a loss of power.
 
-ghost use Rattle.std.specs.Prelude.{IsErr, IsSome, OnOk};
+ghost use Rattle.std.specs.Prelude.{◌≡◌, IfOk, IsErr, IsSome, OnOk};
 ghost use Rattle.kb_folder.specs.Changed.{AllLasts, refused_in};
 
-use crate::changed::Changed;
+use crate::FolderFault;
+use crate::history::{Handle, names_in};
+use crate::host::Host;
 use crate::name::file_number;
 use crate::refusal::{FolderCall, Refusal};
-use crate::{FolderFault, HostFolder};
 use std::fs::{File, OpenOptions};
 use std::io;
 use std::io::ErrorKind;
-use std::os::fd::AsRawFd;
 use std::rt::Files;
 
-impl<R: Files<File = File> + AllocGlobal + Clone + Drop> HostFolder<R> {
-    /// The same folder, which keeps in mind what it has changed, so that `sync` can make it last. Without this a sync does nothing.
-    ///
-    /// A file that has changed is synced before it is closed. Once a sync was refused every later one is: the system may take for
-    /// written what it could not write.
-    pub fn syncing(mut self) -> Self {
-        self.changed = Some(Changed::new(self.rt.alloc()));
-        self
-    }
-
-    /// Syncs every file that has a number, and the names, and asks the system to forget what it has in memory of each file: what a
-    /// process that was killed left unsynced is to be believed only where it lasts. It syncs the names of the folders above, too, so that
-    /// the folder's own lasts. It is for an opening, before anything is read.
-    pub fn sync_found(&mut self) -> Result<(), FolderFault> {
-        let listed = self.list(self.rt.alloc());
+impl<R: Files<File = File> + AllocGlobal + Clone + Drop> Host<R> {
+    /// Syncs every file that has a number, and the names, and asks the system to forget what it has in memory of each file. It syncs the
+    /// names of the folders above, too.
+    pub(crate) fn sync_found(&mut self) -> Result<(), FolderFault> {
+        let listed = names_in(&self.rt, self.path.as_str(), self.rt.alloc());
         let names = self.answer(FolderCall::List, None, listed)?;
         for name in &names {
             if let Some(file) = file_number(name.as_str()) {
@@ -50,7 +40,9 @@ impl<R: Files<File = File> + AllocGlobal + Clone + Drop> HostFolder<R> {
     }
 
     /// A file, opened to be changed.
-    pub(crate) fn to_change(&mut self, file: u64) -> io::Result<&File> {
+    pub(crate) fn to_change(&mut self, file: u64) -> io::Result<&Handle>
+        ensures { IfOk result (λ opened. opened.now.number ≡ file) }
+    {
         self.open_one(file)?;
         self.note(file)?;
         self.opened(file)
@@ -71,11 +63,11 @@ impl<R: Files<File = File> + AllocGlobal + Clone + Drop> HostFolder<R> {
     }
 
     /// Keeps a file open. Where there are too many, the one that was used least lately is closed.
-    pub(crate) fn keep_open(&mut self, file: u64, opened: File) -> io::Result<()> {
+    pub(crate) fn keep_open(&mut self, opened: Handle) -> io::Result<()> {
         if self.open.len() >= self.open.cap().get() {
             self.close_one();
         }
-        self.open.put(file, opened)?;
+        self.open.put(opened.number(), opened)?;
         Ok(())
     }
 
@@ -85,7 +77,7 @@ impl<R: Files<File = File> + AllocGlobal + Clone + Drop> HostFolder<R> {
             return false;
         };
         if self.has_changed(file) {
-            let _ = self.came_to(Some(file), opened.sync_data());
+            let _ = self.came_to(Some(file), opened.sync());
         }
         true
     }
@@ -155,7 +147,7 @@ impl<R: Files<File = File> + AllocGlobal + Clone + Drop> HostFolder<R> {
     /// Makes a file last.
     fn sync_file(&mut self, file: u64) -> Result<(), FolderFault> {
         let synced = match self.file(file) {
-            Ok(opened) => opened.sync_data(),
+            Ok(opened) => opened.sync(),
             Err(error) => Err(error),
         };
         self.came_to(Some(file), synced)
@@ -264,19 +256,9 @@ impl<R: Files<File = File> + AllocGlobal + Clone + Drop> HostFolder<R> {
     /// Syncs a file that was found, and drops what the system has in memory of it. What is no file is left.
     fn sync_one_found(&mut self, file: u64) -> io::Result<()> {
         match self.file(file) {
-            Ok(opened) => settle(opened),
+            Ok(opened) => opened.settle(),
             Err(error) if error.kind() == ErrorKind::IsADirectory => Ok(()),
             Err(error) => Err(error),
         }
     }
-}
-
-/// Syncs a file, and drops what the system has in memory of it.
-fn settle(file: &File) -> io::Result<()> {
-    file.sync_all()?;
-    let advised = libc::posix_fadvise(file.as_raw_fd(), 0, 0, libc::POSIX_FADV_DONTNEED);
-    if advised != 0 {
-        return Err(io::Error::from_raw_os_error(advised));
-    }
-    Ok(())
 }

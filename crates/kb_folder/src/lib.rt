@@ -5,12 +5,15 @@
 //! folder: it knows each file's length, so that a call costs one call of the folder, and counts what the folder refuses.
 //!
 //! The contract: over a folder that is honest, that is, one that gives back what was written and that nobody else writes, the
-//! store is what `Store` says. Of the system's own folder nothing is claimed. Files with other names are left alone.
+//! store is what `Store` says. The system's own folder is honest while the system's answers are true of what was there at first and
+//! what its calls made of that. Files with other names are left alone.
 #![tactic(auto)]
 
 mod changed;
 mod folder;
+mod history;
 mod host;
+mod host_folder;
 mod lasting;
 mod memory;
 mod name;
@@ -19,7 +22,8 @@ mod reserve;
 mod store;
 
 pub use folder::{Folder, FolderFault};
-pub use host::{HostFolder, make_folder};
+pub use host::make_folder;
+pub use host_folder::HostFolder;
 pub use memory::MemoryFolder;
 pub use name::{file_name, file_number};
 pub use refusal::{FolderCall, Refusal, Refusals};

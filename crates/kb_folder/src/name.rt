@@ -2,7 +2,7 @@
 
 ghost use Rattle.std.specs.Prelude.{◌≡◌, ◌<◌, ◌≤◌, IfOk, Some, true, length, bytes_eq, string_bytes};
 ghost use Rattle.std.specs.List.{list_all};
-ghost use Rattle.kb_folder.specs.Names.{is_digit, spelled, suffix, number_of, number_named};
+ghost use Rattle.kb_folder.specs.Names.{is_digit, spelled, suffix, number_of, number_named, numbers_named};
 
 use std::alloc::{AllocError, Global};
 
@@ -79,4 +79,16 @@ pub fn file_number(name: &str) -> Option<u64>
         return None;
     }
     number_of(&bytes[..DIGITS])
+}
+
+/// The numbers of the files of some names.
+pub fn numbers_of(alloc: Global, names: &[String]) -> Result<Vec<u64>, AllocError>
+    ensures { IfOk result (λ numbers. numbers.items ≡ numbers_named names.now) }
+{
+    Ok(
+        names
+            .iter()
+            .filter_map(|name| file_number(name.as_str()))
+            .collect(alloc)?,
+    )
 }

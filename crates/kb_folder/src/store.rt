@@ -6,15 +6,13 @@ ghost use Rattle.std.specs.FinMap as map;
 ghost use Rattle.std.specs.Ordering.{nat_cmp};
 ghost use Rattle.std.specs.BTreeMap.{is_at};
 ghost use Rattle.std.specs.Map.{lookup};
-ghost use Rattle.std.specs.List.{filter_map};
 ghost use Rattle.kb_store.specs.declared.fault.StoreFault.TheVariants.{Device, Memory};
 ghost use Rattle.kb_store.specs.Loss.{Goes, Same, Tears};
 ghost use Rattle.kb_folder.specs.declared.folder.FolderFault.TheVariants as faults;
 ghost use Rattle.kb_folder.specs.Folder.{AreNumbersOf, Stays, HasLength, Adds};
-ghost use Rattle.kb_folder.specs.Names.{numbers_named};
 ghost use Rattle.kb_folder.specs.Store.{Foldered, counted, disk_over, table_of, AreLengths};
 
-use crate::name::file_number;
+use crate::name::numbers_of;
 use crate::{Folder, FolderFault};
 use kb_store::{Direct, Store, StoreFault};
 use std::alloc::{AllocError, Global};
@@ -94,18 +92,6 @@ fn numbers_in(alloc: Global, lens: &BTreeMap<u64, u64>) -> Result<Vec<u64>, Allo
         numbers.push(*number)?;
     }
     Ok(numbers)
-}
-
-/// The numbers of the files of some names.
-fn numbers_of(alloc: Global, names: &[String]) -> Result<Vec<u64>, FolderFault>
-    ensures { IfOk result (λ numbers. numbers.items ≡ numbers_named names.now) }
-{
-    Ok(
-        names
-            .iter()
-            .filter_map(|name| file_number(name.as_str()))
-            .collect(alloc)?,
-    )
 }
 
 /// The lengths of a folder's files.

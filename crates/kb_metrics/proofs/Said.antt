@@ -6,6 +6,7 @@ use Rattle.kb_metrics.specs.Causes.{cause_text, each_cause}
 use Rattle.kb_metrics.specs.Families.{api_name, api_text, counted_text, front_of, head_of, known_text}
 use Rattle.kb_metrics.specs.Families.{lag_text, members_text, number_text, placed, requests_text, said_of}
 use Rattle.kb_metrics.specs.Limits.{each_limit, limit_text, most_text}
+use Rattle.kb_metrics.specs.Overs.{each_over, over_text}
 use Rattle.kb_metrics.specs.Rows.{Group, Lag, Tenant}
 use Rattle.kb_metrics.specs.Text.{HeadText, behind_text, head_text, kind_text, more_text}
 use Rattle.kb_metrics.specs.declared.families.Family.{Family}
@@ -49,6 +50,7 @@ name_quiet families.Requests = refl
 name_quiet families.RequestBytes = refl
 name_quiet families.ResponseBytes = refl
 name_quiet families.Refusals = refl
+name_quiet families.OverLimit = refl
 name_quiet families.Start = refl
 name_quiet families.End = refl
 name_quiet families.Committed = refl
@@ -67,6 +69,7 @@ help_quiet families.Requests = refl
 help_quiet families.RequestBytes = refl
 help_quiet families.ResponseBytes = refl
 help_quiet families.Refusals = refl
+help_quiet families.OverLimit = refl
 help_quiet families.Start = refl
 help_quiet families.End = refl
 help_quiet families.Committed = refl
@@ -125,6 +128,9 @@ requests own ns = says_each (api_text (front_of families.Requests own)) (λ c. c
 cause : (own : List ℕ) (c : List ℕ × ℕ) → Says own (cause_text (front_of families.Refusals own) c)
 cause own c = sample families.Refusals own ((codes "cause", c.0) ∷ []) c.1 (one_label (codes "cause") c.0 refl)
 
+over : (own : List ℕ) (o : List ℕ × ℕ) → Says own (over_text (front_of families.OverLimit own) o)
+over own o = sample families.OverLimit own ((codes "what", o.0) ∷ []) o.1 (one_label (codes "what") o.0 refl)
+
 pub said : (family : Family) (t : Tenant) → Says t.name (said_of family t)
 said families.Connections t = number families.Connections t.name t.connections
 said families.Waiting t = number families.Waiting t.name t.waiting
@@ -139,6 +145,7 @@ said families.Requests t = requests t.name t.requests
 said families.RequestBytes t = number families.RequestBytes t.name t.request_bytes
 said families.ResponseBytes t = number families.ResponseBytes t.name t.response_bytes
 said families.Refusals t = says_each (cause_text (front_of families.Refusals t.name)) (cause t.name) (each_cause t.refusals t.store_refusals)
+said families.OverLimit t = says_each (over_text (front_of families.OverLimit t.name)) (over t.name) (each_over t.over)
 said families.Start t = says_nothing
 said families.End t = says_nothing
 said families.Committed t = says_nothing

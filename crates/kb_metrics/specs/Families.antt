@@ -4,6 +4,7 @@ use Rattle.std.specs.Fmt.{signed_decimal}
 use Rattle.std.specs.List.{flat_map, range_with_len}
 use Rattle.kb_metrics.specs.Causes.{cause_text, each_cause}
 use Rattle.kb_metrics.specs.Limits.{each_limit, limit_text}
+use Rattle.kb_metrics.specs.Overs.{each_over, over_text}
 use Rattle.kb_metrics.specs.Rows.{Commit, Group, Lag, Partition, Tenant}
 use Rattle.kb_metrics.specs.Text.{HeadText, behind_text, counter_head, front_text, gauge_head, rows_text, sample_text}
 use Rattle.kb_metrics.specs.declared.families.Family.{Family}
@@ -26,6 +27,7 @@ head_of families.Requests = counter_head (codes "kbroker_requests_total") (codes
 head_of families.RequestBytes = counter_head (codes "kbroker_request_bytes_total") (codes "Bytes of requests.")
 head_of families.ResponseBytes = counter_head (codes "kbroker_response_bytes_total") (codes "Bytes of responses.")
 head_of families.Refusals = counter_head (codes "kbroker_refusals_total") (codes "Calls of memory and of the store that were refused, by cause.")
+head_of families.OverLimit = counter_head (codes "kbroker_over_limit_total") (codes "Topics, batches, commits and members that were refused for a limit, by what is limited.")
 head_of families.Start = gauge_head (codes "kbroker_partition_start_offset") (codes "Offset of the first record.")
 head_of families.End = gauge_head (codes "kbroker_partition_end_offset") (codes "Offset behind the last record.")
 head_of families.Committed = gauge_head (codes "kbroker_group_committed_offset") (codes "Offset that a group committed.")
@@ -102,6 +104,7 @@ said_of families.Requests t = requests_text (front_of families.Requests t.name) 
 said_of families.RequestBytes t = number_text families.RequestBytes t.name t.request_bytes
 said_of families.ResponseBytes t = number_text families.ResponseBytes t.name t.response_bytes
 said_of families.Refusals t = flat_map (cause_text (front_of families.Refusals t.name)) (each_cause t.refusals t.store_refusals)
+said_of families.OverLimit t = flat_map (over_text (front_of families.OverLimit t.name)) (each_over t.over)
 said_of _ t = []
 
 abbrev pub family_text : List Tenant → Family → List ℕ
@@ -111,7 +114,7 @@ abbrev pub all_families : List Family
 all_families =
     families.Connections ∷ families.Waiting ∷ families.Topics ∷ families.Partitions ∷ families.StoredBytes ∷ families.CommittedOffsets
     ∷ families.Limit ∷ families.Members ∷ families.Lag ∷ families.Requests ∷ families.RequestBytes ∷ families.ResponseBytes
-    ∷ families.Refusals ∷ []
+    ∷ families.Refusals ∷ families.OverLimit ∷ []
 
 -- all that is said of tenants, a family after another
 abbrev pub families_text : List Tenant → List ℕ

@@ -13,6 +13,7 @@ use Rattle.kb_tenant_state.specs.declared.topic_partition.TopicPartition.{TopicP
 use Rattle.kb_metrics.specs.Families.{committed_text, families_text, offsets_text}
 use Rattle.kb_metrics.specs.Rows.{Commit, Group, Lag, Partition, Tenant}
 use Rattle.kb_metrics.specs.declared.limits.Limits.{Limits}
+use Rattle.kb_over_limit.specs.declared.over.OverLimit.{OverLimit}
 
 -- 1. Lag
 
@@ -85,7 +86,7 @@ commits w = flat_map (λ t. topic_commits t.1) (by_name w.known.topics)
 -- 3. What is said of a tenant
 
 -- a tenant: its name, what it keeps of topics and of groups, the bytes of its batches where they are known, its limits, what is counted
--- of its connections, its refusals, and how many of these are the store's
+-- of its connections, its refusals, how many of these are the store's, and how often it was told that it is past a limit
 pub record Observed : Type 0 where
   pub name : List ℕ
   pub world : World
@@ -99,6 +100,7 @@ pub record Observed : Type 0 where
   pub response_bytes : ℕ
   pub refusals : ℕ
   pub store_refusals : ℕ
+  pub over : OverLimit
 
 -- as far as 64 bits go
 abbrev pub counted : ℕ → ℕ
@@ -129,6 +131,7 @@ tenant_of o = record {
   response_bytes = o.response_bytes;
   refusals = o.refusals;
   store_refusals = o.store_refusals;
+  over = o.over;
 }
 
 -- all that is said of tenants

@@ -3,6 +3,7 @@ pub mod Server
 pub mod Rows
 pub mod Limits
 pub mod Causes
+pub mod Overs
 pub mod Families
 pub mod Rates
 pub mod Markup

@@ -1,6 +1,7 @@
 -- What pages show of a tenant, row by row.
 use Rattle.std.specs.Prelude.{ℕ, ℤ, List, map, Option}
 use Rattle.kb_metrics.specs.declared.limits.Limits.{Limits}
+use Rattle.kb_over_limit.specs.declared.over.OverLimit.{OverLimit}
 use Rattle.kb_metrics.specs.declared.rows.LagRow.{LagRow}
 use Rattle.kb_metrics.specs.declared.rows.GroupRow.{GroupRow}
 use Rattle.kb_metrics.specs.declared.rows.PartitionRow.{PartitionRow}
@@ -34,7 +35,8 @@ pub record Commit : Type 0 where
   pub offset : ℤ
 
 -- a tenant: numbers of its connections, of what it keeps, and of its traffic, and its limits; the bytes of its batches where they are
--- known; requests stand at the places of their API keys; the store's refusals are among all of them
+-- known; requests stand at the places of their API keys; the store's refusals are among all of them;
+-- and how often it was told that it is past a limit
 pub record Tenant : Type 0 where
   pub name : List ℕ
   pub connections : ℕ
@@ -51,6 +53,7 @@ pub record Tenant : Type 0 where
   pub response_bytes : ℕ
   pub refusals : ℕ
   pub store_refusals : ℕ
+  pub over : OverLimit
 
 -- ---- as the code has them
 
@@ -83,4 +86,5 @@ tenant_row t = record {
   response_bytes = t.response_bytes;
   refusals = t.refusals;
   store_refusals = t.store_refusals;
+  over = t.over;
 }

@@ -20,4 +20,5 @@ observed log files g = record {
   response_bytes = g.traffic.response_bytes;
   refusals = g.parts.now.refusals;
   store_refusals = g.store_refusals;
+  over = g.over;
 }

@@ -8,15 +8,18 @@ ghost use Rattle.kb_metrics.specs.Families.{end_text, ends_text, families_text, 
 ghost use Rattle.kb_metrics.specs.Families.{known_text, lag_text, members_text, number_text, offset_text, offsets_text, requests_text};
 ghost use Rattle.kb_metrics.specs.Families.{said_of, start_text, starts_text, tenant_label};
 ghost use Rattle.kb_metrics.specs.Limits.{each_limit, limit_text};
+ghost use Rattle.kb_metrics.specs.Overs.{each_over, over_text};
 ghost use Rattle.kb_metrics.specs.Rows.{commit_row, group_row, lag_row, partition_row, tenant_row};
 ghost use Rattle.kb_metrics.specs.Text.{head_seen, label_of};
 
 use crate::causes::cause_rows;
 use crate::limits::{Limits, limit_rows};
+use crate::overs::over_rows;
 use crate::row::{Row, push_rows};
 use crate::rows::{CommitRow, GroupRow, LagRow, PartitionRow, TenantRow};
 use crate::text::{Head, Kind, Label, push_behind, push_family, push_front, push_sample};
 use itoa::Buffer;
+use kb_over_limit::OverLimit;
 use std::alloc::AllocError;
 
 /// What is counted of a tenant, or of its partitions.
@@ -35,6 +38,7 @@ pub enum Family {
     RequestBytes,
     ResponseBytes,
     Refusals,
+    OverLimit,
     Start,
     End,
     Committed,
@@ -68,6 +72,7 @@ impl Family {
             Family::RequestBytes => "kbroker_request_bytes_total",
             Family::ResponseBytes => "kbroker_response_bytes_total",
             Family::Refusals => "kbroker_refusals_total",
+            Family::OverLimit => "kbroker_over_limit_total",
             Family::Start => "kbroker_partition_start_offset",
             Family::End => "kbroker_partition_end_offset",
             Family::Committed => "kbroker_group_committed_offset",
@@ -93,6 +98,8 @@ impl Family {
             Family::RequestBytes => "Bytes of requests.",
             Family::ResponseBytes => "Bytes of responses.",
             Family::Refusals => "Calls of memory and of the store that were refused, by cause.",
+            Family::OverLimit =>
+                "Topics, batches, commits and members that were refused for a limit, by what is limited.",
             Family::Start => "Offset of the first record.",
             Family::End => "Offset behind the last record.",
             Family::Committed => "Offset that a group committed.",
@@ -103,8 +110,11 @@ impl Family {
         ensures { result ≡ (head_of self).kind }
     {
         match self {
-            Family::Requests | Family::RequestBytes | Family::ResponseBytes | Family::Refusals =>
-                Kind::Counter,
+            Family::Requests
+            | Family::RequestBytes
+            | Family::ResponseBytes
+            | Family::Refusals
+            | Family::OverLimit => Kind::Counter,
             _ => Kind::Gauge,
         }
     }
@@ -159,6 +169,7 @@ pub(crate) fn push_families(out: &mut Vec<u8>, tenants: &[TenantRow<'_>]) -> Res
         Family::RequestBytes,
         Family::ResponseBytes,
         Family::Refusals,
+        Family::OverLimit,
     ];
     push_each_family(out, &families, tenants)
 }
@@ -238,6 +249,7 @@ impl<'a> Row<Family> for TenantRow<'a> {
                 self.refusals,
                 self.store_refusals,
             ),
+            Family::OverLimit => push_overs(out, family, tenant, self.over),
             Family::Start | Family::End | Family::Committed => Ok(()),
         }
     }
@@ -297,6 +309,20 @@ fn push_causes(
 {
     let front = front(out, family, tenant)?;
     push_rows(out, front.as_slice(), &cause_rows(all, store))
+}
+
+/// Writes how often each limit was passed.
+fn push_overs(
+    out: &mut Vec<u8>,
+    family: Family,
+    tenant: &str,
+    over: OverLimit,
+) -> Result<(), AllocError>
+    ensures { OnOk result (out.new.items
+        ≡ out.old.items ++ flat_map (over_text (front_of family tenant.now)) (each_over over)) }
+{
+    let front = front(out, family, tenant)?;
+    push_rows(out, front.as_slice(), &over_rows(over))
 }
 
 /// Writes how many members each group has.

@@ -60,6 +60,7 @@ pub(crate) fn tenant_row<'a, L: PartitionLog>(
         response_bytes: tenant.traffic.response_bytes,
         refusals: parts.refusals(),
         store_refusals: tenant.store_refusals,
+        over: tenant.over,
     })
 }
 

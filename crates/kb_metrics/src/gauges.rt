@@ -10,6 +10,7 @@ use crate::gather::{commit_rows, partition_rows, tenant_rows};
 use crate::limits::Limits;
 use kb_coordinator::Coordinator;
 use kb_log::PartitionLog;
+use kb_over_limit::OverLimit;
 use kb_tenant_state::Parts;
 use std::alloc::{AllocError, Global};
 
@@ -36,11 +37,13 @@ pub struct TenantGauges<'a, L: PartitionLog> {
     pub traffic: Traffic<'a>,
     /// How many of the refusals that its parts count are the store's.
     pub store_refusals: u64,
+    /// How often it was told that it is past one of its limits.
+    pub over: OverLimit,
 }
 
 /// Writes what is said of tenants, a family after another: connections, what waits, topics, partitions, stored bytes where they are known,
-/// committed offsets, limits, the members of each group, its lag in each topic, requests by API, bytes, and refusals
-/// by cause.
+/// committed offsets, limits, the members of each group, its lag in each topic, requests by API, bytes, refusals
+/// by cause, and how often it was told that it is past a limit.
 ///
 /// What is said of a tenant is a function of what stands in its own gauges. After an `Err`, which is want of memory, some of it may be
 /// there.

@@ -18,6 +18,7 @@ mod lag;
 mod laws;
 mod limits;
 mod markup;
+mod overs;
 mod pages;
 mod rates;
 mod row;

@@ -1,6 +1,7 @@
 //! What pages show of a tenant, row by row.
 
 use crate::limits::Limits;
+use kb_over_limit::OverLimit;
 
 /// How far a group is behind in a topic.
 #[derive(Clone, Copy)]
@@ -57,4 +58,6 @@ pub(crate) struct TenantRow<'a> {
     pub(crate) refusals: u64,
     /// How many of its refusals are the store's.
     pub(crate) store_refusals: u64,
+    /// How often it was told that it is past one of its limits.
+    pub(crate) over: OverLimit,
 }

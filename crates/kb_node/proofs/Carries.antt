@@ -11,8 +11,8 @@ use Rattle.kb_isolation_spec.specs.Machine.{Closes, Comes}
 use Rattle.kb_isolation_spec.specs.Calls.{output_of, taken}
 use Rattle.kb_broker.specs.Hosts.{OnStore}
 use Rattle.kb_node.specs.declared.socket.Socket.{Socket}
-use Rattle.kb_node.specs.Traffic.{AreAbout, IsDone, Event, Happens, IsUsed, Read, Take, Write, connection_of, handed_by, read_by, taken_by, written_by}
-use Rattle.kb_node.specs.Carries.{Carries, GoesOn, HandsOn, unhanded_of, unwritten_of}
+use Rattle.kb_node.specs.Traffic.{Along, AreAbout, IsDone, Event, Happens, IsUsed, Read, Take, Write, connection_of, handed_by, is_telling, is_write, read_by, taken_by, written_by}
+use Rattle.kb_node.specs.Carries.{Carries, GoesOn, HandsOn, Tells, unhanded_of, unwritten_of}
 use Rattle.kb_node.proofs.Traffic.{along_then, all_then}
 
 -- what went on is in front of what went on since
@@ -21,7 +21,7 @@ goes_on : (all gone left more on rest : List ℕ) (holds : Type 0) → all ≡ g
 goes_on all gone left more on rest holds is h =
     (h.0, ap (λ x. x ++ more) is ∙ append_assoc gone left more ∙ ap (λ x. gone ++ x) h.1 ∙ sym (append_assoc gone on h.0), h.2)
 
-either : (b : Bool) → (b ≡ true) ⊎ (b ≡ false)
+pub either : (b : Bool) → (b ≡ true) ⊎ (b ≡ false)
 either true = inl refl
 either false = inr refl
 
@@ -41,7 +41,7 @@ or_mid true b e h = absurd (let no : true ≡ false = h in cc)
 or_mid false true e h = absurd (let no : true ≡ false = h in cc)
 or_mid false false e h = refl
 
-zero_of : (n : ℕ) → (n == 0) ≡ true → n ≡ 0
+pub zero_of : (n : ℕ) → (n == 0) ≡ true → n ≡ 0
 zero_of n h = grind (arith, nat_tests)
 
 pub none_in : (xs : List ℕ) → (length xs == 0) ≡ true → xs ≡ []
@@ -263,4 +263,104 @@ module _ {S T : Type 0} (disk : S → Disk) (contents remaining : T → Option (
     done = (to, came, refl);
     none_taken = refl;
     hands_on = (rest, ap (λ x. x ++ piece) none ∙ is ∙ ap (λ x. x ++ rest) (sym (append-nil handed)), λ there. sym (kept there ∙ ap (λ x. x ++ rest) none));
+  }
+
+  -- The same where nothing was asked.
+
+  -- one after another
+  pub tells_then : (old mid new : Socket T) (from at to : OnStore S) → Tells disk contents remaining old mid from at
+      → Tells disk contents remaining mid new at to → mid.connection ≡ old.connection → mid.is_ended ≡ false
+      → Tells disk contents remaining old new from to
+  unfolding carries_then
+  tells_then old mid new from at to one two same unended = record {
+    carries = carries_then old mid new from at to one.carries two.carries same unended;
+    told = record {
+      deeds = all_then (λ d. is_telling d ≡ true) one.carries.deeds two.carries.deeds one.told.deeds two.told.deeds;
+      uses = all_then (λ u. is_write u ≡ true) one.carries.uses two.carries.uses one.told.uses two.told.uses;
+      store = two.told.store ∙ one.told.store;
+    };
+  }
+
+  -- nothing was done
+  pub still_told : (old new : Socket T) (from : OnStore S) → new.stream ≡ old.stream → unwritten_of new ≡ unwritten_of old
+      → unhanded_of new ≡ unhanded_of old → (old.is_over ≡ true → new.is_over ≡ true) → Tells disk contents remaining old new from from
+  unfolding stays
+  still_told old new from stream out in_ over = record {
+    carries = stays old new from from refl stream out in_ over;
+    told = record { deeds = tt; uses = tt; store = refl };
+  }
+
+  -- the output was taken, where all was written
+  pub takes_told : (old new : Socket T) (from to : OnStore S) → to ≡ record from { state = taken from.state old.connection }
+      → new.stream ≡ old.stream → unwritten_of old ≡ [] → unwritten_of new ≡ output_of old.connection from.state
+      → unhanded_of new ≡ unhanded_of old → (old.is_over ≡ true → new.is_over ≡ true) → Tells disk contents remaining old new from to
+  unfolding takes
+  takes_told old new from to host stream none out in_ over = record {
+    carries = takes old new from to host stream none out in_ over;
+    told = record { deeds = (refl, tt); uses = tt; store = ap (λ (b : OnStore S). b.store) host };
+  }
+
+  -- some of the output was written
+  pub writes_told : (old new : Socket T) (from : OnStore S) (put : List ℕ) → Appends (contents old.stream) (contents new.stream) put
+      → unwritten_of old ≡ put ++ unwritten_of new → unhanded_of new ≡ unhanded_of old
+      → (old.is_over ≡ true → new.is_over ≡ true) → Tells disk contents remaining old new from from
+  unfolding writes
+  writes_told old new from put stream out in_ over = record {
+    carries = writes old new from from put refl stream out in_ over;
+    told = record { deeds = tt; uses = (refl, tt); store = refl };
+  }
+
+  -- the connection was closed
+  pub closes_told : (old new : Socket T) (from to : OnStore S) → Happens disk (Closes old.connection) from to → to.store ≡ from.store
+      → new.stream ≡ old.stream → new.is_ended ≡ true → (old.is_over ≡ true → new.is_over ≡ true)
+      → Tells disk contents remaining old new from to
+  unfolding closes
+  closes_told old new from to closed store stream ended over = record {
+    carries = closes old new from to closed stream ended over;
+    told = record { deeds = (refl, tt); uses = tt; store = store };
+  }
+
+  -- before that the peer was taken to be gone
+  pub gone_told : (old mid new : Socket T) (from to : OnStore S) → mid.connection ≡ old.connection → mid.stream ≡ old.stream
+      → unwritten_of mid ≡ unwritten_of old → unhanded_of mid ≡ unhanded_of old → mid.is_over ≡ true
+      → Tells disk contents remaining mid new from to → Tells disk contents remaining old new from to
+  gone_told old mid new from to number stream out in_ over h = let c = h.carries in record {
+    carries = record {
+      deeds = c.deeds;
+      uses = c.uses;
+      about = subst (λ n. AreAbout n c.deeds) number c.about;
+      done = c.done;
+      used = subst (λ s. Along (IsUsed contents remaining) c.uses s new.stream) stream c.used;
+      writes = subst (λ xs. GoesOn (xs ++ flat_map taken_by c.deeds) (flat_map written_by c.uses) (new.is_ended ≡ false) (unwritten_of new)) out c.writes;
+      hands_on = subst (λ xs. GoesOn (xs ++ flat_map read_by c.uses) (flat_map handed_by c.deeds) ((new.is_over || new.is_ended) ≡ false) (unhanded_of new)) in_ c.hands_on;
+      over = λ _. c.over over;
+    };
+    told = record { deeds = h.told.deeds; uses = h.told.uses; store = h.told.store };
+  }
+
+  -- a socket that told, and whose connection stays open
+  pub record StaysTelling (old new : Socket T) (from to : OnStore S) : Type 0 where
+    pub tells : Tells disk contents remaining old new from to
+    pub connection : new.connection ≡ old.connection
+    pub ended : new.is_ended ≡ false
+
+  pub telling_on : (old mid new : Socket T) (from at to : OnStore S) → StaysTelling old mid from at → Tells disk contents remaining mid new at to
+      → Tells disk contents remaining old new from to
+  telling_on old mid new from at to one two = tells_then old mid new from at to one.tells two one.connection one.ended
+
+  pub telling_at : (old new new' : Socket T) (from to to' : OnStore S) → new' ≡ new → to' ≡ to → StaysTelling old new from to
+      → StaysTelling old new' from to'
+  telling_at old new new' from to to' s h is = subst (λ x. StaysTelling old x from to') (sym s) (subst (λ x. StaysTelling old new from x) (sym h) is)
+
+  pub stays_telling : (old : Socket T) (from : OnStore S) → old.is_ended ≡ false → StaysTelling old old from from
+  stays_telling old from ended = record { tells = still_told old old from refl refl refl (λ is. is); connection = refl; ended = ended }
+
+  -- it was noted on it that it has logged in, and that a login failed
+  pub noted_telling : (old mid new : Socket T) (from : OnStore S) → old.is_ended ≡ false → mid ≡ record old { is_known = mid.is_known }
+      → new ≡ record mid { is_denied = new.is_denied } → StaysTelling old new from from
+  unfolding noted stays
+  noted_telling old mid new from unended one two = let h = noted old mid new from unended one two in record {
+    tells = record { carries = h.carries; told = record { deeds = tt; uses = tt; store = refl } };
+    connection = h.connection;
+    ended = h.ended;
   }

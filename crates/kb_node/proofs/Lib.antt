@@ -6,6 +6,8 @@ pub mod Traffic
 pub mod Carries
 pub mod Cores
 pub mod Goes
+pub mod Telling
+pub mod ToldAll
 pub mod Numbers
 pub mod Waiting
 pub mod Told

@@ -1,10 +1,13 @@
 -- What a socket carries between its stream and its connection.
-use Rattle.std.specs.Prelude.{◌≡◌, ℕ, List, ◌++◌, drop, true, false, ◌||◌, [], Option}
-use Rattle.std.specs.List.{flat_map}
+use Rattle.std.specs.Prelude.{◌≡◌, ◌⊎◌, ℕ, List, ◌++◌, drop, true, false, ◌||◌, [], Option}
+use Rattle.std.specs.List.{AllByRecursion, flat_map}
 use Rattle.kb_store.specs.Disk.{Disk}
+use Rattle.kb_isolation_spec.specs.Broker.{BrokerState}
+use Rattle.kb_isolation_spec.specs.Calls.{output_of}
 use Rattle.kb_broker.specs.Hosts.{OnStore}
 use Rattle.kb_node.specs.declared.socket.Socket.{Socket}
-use Rattle.kb_node.specs.Traffic.{Along, AreAbout, AreDone, Deed, IsUsed, Use, handed_by, read_by, taken_by, written_by}
+use Rattle.kb_node.specs.Sockets.{is_held}
+use Rattle.kb_node.specs.Traffic.{Along, AreAbout, AreDone, Deed, IsUsed, Use, handed_by, is_telling, is_write, read_by, taken_by, written_by}
 
 -- what was said to its connection and is not written
 abbrev pub unwritten_of : {T : Type 0} → Socket T → List ℕ
@@ -34,6 +37,20 @@ pub record Carries {S T : Type 0} (disk : S → Disk) (contents remaining : T �
   -- where the peer is gone it stays so, and nothing is read or handed on
   pub over : old.is_over ≡ true → (new.is_over ≡ true) × (flat_map read_by uses ≡ []) × (flat_map handed_by deeds ≡ [])
 
+-- What was carried was told alone: output was taken and written, or the connection was closed. Nothing was read, no piece came, and the
+-- store stays.
+pub record IsTold {S T : Type 0} {disk : S → Disk} {contents remaining : T → Option (List ℕ)} {old new : Socket T} {from to : OnStore S}
+    (carries : Carries disk contents remaining old new from to) : Type 0 where
+  pub deeds : AllByRecursion (λ d. is_telling d ≡ true) carries.deeds
+  pub uses : AllByRecursion (λ u. is_write u ≡ true) carries.uses
+  pub store : to.store ≡ from.store
+
+-- A socket told what there was to say to its connection, and carried nothing else.
+pub record Tells {S T : Type 0} (disk : S → Disk) (contents remaining : T → Option (List ℕ)) (old new : Socket T)
+    (from to : OnStore S) : Type 0 where
+  pub carries : Carries disk contents remaining old new from to
+  pub told : IsTold carries
+
 -- A piece was read where so much was kept: what of both was handed on is in front, as pieces on its own connection.
 pub record HandsOn {S T : Type 0} (disk : S → Disk) (old new : Socket T) (piece : List ℕ) (from to : OnStore S) : Type 0 where
   pub deeds : List Deed
@@ -41,3 +58,11 @@ pub record HandsOn {S T : Type 0} (disk : S → Disk) (old new : Socket T) (piec
   pub done : AreDone disk deeds from to
   pub none_taken : flat_map taken_by deeds ≡ []
   pub hands_on : GoesOn (unhanded_of old ++ piece) (flat_map handed_by deeds) ((new.is_over || new.is_ended) ≡ false) (unhanded_of new)
+
+-- Either all that was said to a socket's connection is written, or the broker has nothing more to say to it.
+abbrev pub TellsInTurn : {T : Type 0} → Socket T → BrokerState → Type 0
+TellsInTurn s b = (unwritten_of s ≡ []) ⊎ (output_of s.connection b ≡ [])
+
+-- The broker has nothing more to say to it. Or all that was said is written, and a failed login waits until it may be answered.
+abbrev pub HasToldAll : {T : Type 0} → Socket T → BrokerState → Type 0
+HasToldAll s b = (output_of s.connection b ≡ []) ⊎ ((unwritten_of s ≡ []) × (is_held s.may_answer s.connection b ≡ true))

@@ -8,7 +8,7 @@ use Rattle.kb_broker.specs.Hosts.{OnStore}
 use Rattle.kb_node.specs.Commits.{Host}
 use Rattle.kb_node.specs.declared.socket.Socket.{Socket}
 use Rattle.kb_node.specs.Traffic.{Along, AreDone, Deed, Happens, IsCommitted, events_of, is_moment, moments_of, tried_after}
-use Rattle.kb_node.specs.Carries.{Carries}
+use Rattle.kb_node.specs.Carries.{Carries, IsTold}
 use Rattle.kb_node.specs.Cores.{Core, Seen, core, open_ones}
 
 -- A connection opens, and its socket joins the others. Or a socket carries for its connection, all leave whose connections are closed, or
@@ -61,6 +61,17 @@ IsMoved disk contents remaining Settle from to = HasSettled disk from to
 pub record Goes {S T : Type 0} (disk : S → Disk) (contents remaining : T → Option (List ℕ)) (from to : Seen S T) : Type 0 where
   pub moves : List Move
   pub done : Along (IsMoved disk contents remaining) moves from to
+
+-- the socket of the connection of that number told what there was to say, and carried nothing else
+pub record HasTold {S T : Type 0} (disk : S → Disk) (contents remaining : T → Option (List ℕ)) (n : ℕ) (from to : Seen S T) : Type 0 where
+  pub carried : HasCarried disk contents remaining n from to
+  pub told : IsTold carried.carries
+
+-- Sockets told what there was to say, one after another, or none did. Nothing was read of any, no piece came, and the store stays.
+pub record GoesTelling {S T : Type 0} (disk : S → Disk) (contents remaining : T → Option (List ℕ)) (from to : Seen S T) : Type 0 where
+  pub numbers : List ℕ
+  pub done : Along (HasTold disk contents remaining) numbers from to
+  pub store : to.host.broker.store ≡ from.host.broker.store
 
 -- a turn: the one moment that it is given, and then moves
 pub record IsTurn {S T : Type 0} (disk : S → Disk) (contents remaining : T → Option (List ℕ)) (now : ℕ) (from to : Seen S T) : Type 0 where

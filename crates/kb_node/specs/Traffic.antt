@@ -103,6 +103,15 @@ is_moment (Event (Moment now)) = true
 is_moment (Take n bytes) = false
 is_moment Commit = false
 
+-- whether it takes output or closes a connection
+abbrev pub is_telling : Deed → Bool
+is_telling (Event (Opens n)) = false
+is_telling (Event (Comes n piece)) = false
+is_telling (Event (Closes n)) = true
+is_telling (Event (Moment now)) = false
+is_telling (Take n bytes) = true
+is_telling Commit = false
+
 -- the moments among them, in order
 abbrev pub moments_of : List Deed → List ℕ
 moments_of [] = []
@@ -124,6 +133,11 @@ pub data Use : Type 0 where
 abbrev pub IsUsed : {T : Type 0} → (T → Option (List ℕ)) → (T → Option (List ℕ)) → Use → T → T → Type 0
 IsUsed contents remaining (Write bytes) old new = Appends (contents old) (contents new) bytes
 IsUsed contents remaining (Read bytes) old new = Consumes (remaining old) (remaining new) bytes
+
+-- whether it was written to
+abbrev pub is_write : Use → Bool
+is_write (Write bytes) = true
+is_write (Read bytes) = false
 
 abbrev pub written_by : Use → List ℕ
 written_by (Write bytes) = bytes

@@ -1,5 +1,5 @@
 -- How long an edge waits, and for what.
-use Rattle.std.specs.Prelude.{ℕ, zero, suc, ◌+◌, ◌-◌, ◌^◌, ◌&&◌, ◌||◌, min, length, List, [], ◌∷◌, Bool, true, false, not, map, nat_eq, nat_le, nat_lt, slice_get, if◌then◌else◌, Option, Some, None}
+use Rattle.std.specs.Prelude.{◌≡◌, ◌≤◌, ℕ, zero, suc, ◌+◌, ◌-◌, ◌^◌, ◌&&◌, ◌||◌, min, length, List, [], ◌∷◌, Bool, true, false, not, map, nat_eq, nat_le, nat_lt, slice_get, if◌then◌else◌, Option, Some, None}
 use Rattle.kb_shares.specs.Shares.{Pool, has_room, piece_for}
 use Rattle.kb_shares.specs.Turns.{Lines, after_next, joined}
 use Rattle.kb_isolation_spec.specs.declared.login.Login.{Login}
@@ -95,6 +95,12 @@ rounds_behind lanes = if takes_long lanes then 0 else min (lanes.short_rounds + 
 abbrev pub behind : ℕ → Lines → Lines
 behind zero lane = lane
 behind (suc n) lane = behind n (after_next lane)
+
+-- The lanes behind some turns of the long one, at most so many.
+pub record IsBehind (most : ℕ) (old new : Lanes) : Type 0 where
+  pub turns : ℕ
+  pub within : turns ≤ most
+  pub lanes : new ≡ record old { long = behind turns old.long }
 
 -- The lanes behind a round: one left the long lane, or the next 16 the short one.
 abbrev pub behind_round : Lanes → Lanes

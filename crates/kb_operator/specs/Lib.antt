@@ -3,3 +3,4 @@ pub mod Device
 pub mod Others
 pub mod Settings
 pub mod Sums
+pub mod Unread

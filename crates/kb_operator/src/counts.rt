@@ -1,5 +1,8 @@
 //! What a broker counts of what it refuses.
 
+ghost use Rattle.std.specs.Prelude.{◌≡◌, ℕ};
+ghost use Rattle.kb_operator.specs.declared.counts.Unread.{Unread};
+
 /// How many requests of a tenant were refused.
 #[derive(Clone, Copy, Debug, PartialEq, Eq)]
 pub struct TenantRefusals {
@@ -19,6 +22,9 @@ pub struct Unread {
 
 /// What a broker counts of what it refuses. Tenants are named by their places in the order of their names.
 pub trait RefusalCounts {
+    /// How the tenant at each place waits for those that read its replies.
+    ghost unread: { Self → ℕ → Unread };
+
     /// Whether it refused nothing yet.
     fn is_calm(&self) -> bool;
 
@@ -29,7 +35,8 @@ pub trait RefusalCounts {
     fn sockets_of_tenant(&self, place: usize) -> u64;
 
     /// How the tenant at a place waits for those that read its replies.
-    fn unread_of_tenant(&self, place: usize) -> Unread;
+    fn unread_of_tenant(&self, place: usize) -> Unread
+        ensures { result ≡ unread self.now place };
 
     /// How many requests it refused before a login.
     fn before_login(&self) -> u64;

@@ -3,3 +3,4 @@ pub mod Checksums
 pub mod Found
 pub mod Keys
 pub mod Listed
+pub mod Lost

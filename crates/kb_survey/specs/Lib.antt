@@ -1,5 +1,6 @@
 pub mod Changes
 pub mod Listed
+pub mod Lost
 pub mod Postponed
 pub mod Snapshot
 pub mod Stray

@@ -5,6 +5,7 @@ use Rattle.std.proofs.lemmas.Bool.{cases_eq}
 use Rattle.std.specs.FinMap.{get, insert, remove}
 use Rattle.kb_store.proofs.Maps.{get_inserted, get_other, get_removed, get_kept}
 use Rattle.kb_store.specs.Disk.{Disk, Files, IsLawfulDisk, Keeps, Table}
+use Rattle.kb_store.specs.Loss.{Goes, Loss, Same}
 use Rattle.kb_survey.specs.Changes.{disk_after, files_after, files_with, table_after, table_with}
 use Rattle.kb_survey.specs.declared.change.Change.{Change}
 use Rattle.kb_survey.specs.declared.change.Change.TheVariants.{Cut, Remove}
@@ -22,10 +23,11 @@ postponing s cs w = record { store = s; put_off = cs; waits = w }
 abbrev pub disk_with : {S : Type 0} → (S → Disk) → Postponing S → Disk
 disk_with inner s = disk_after s.put_off (inner s.store)
 
--- Where there was no write the store inside stays as it is.
-pub record IsUntouched {S : Type 0} (inner : S → Disk) (old new : Postponing S) : Type 0 where
+-- Where there was no write the store inside stays as it is, and so does what a loss of power leaves of it.
+pub record IsUntouched {S : Type 0} (inner : S → Disk) (loss : S → Loss) (old new : Postponing S) : Type 0 where
   pub waits : new.waits ≡ old.waits
   pub inside : old.waits ≡ true → Keeps (inner old.store) (inner new.store)
+  pub lost : old.waits ≡ true → Goes Same (loss old.store) (loss new.store)
 
 -- Nothing is put off, nor will be.
 pub record HasMade {S : Type 0} (s : Postponing S) : Type 0 where

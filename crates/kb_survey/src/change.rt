@@ -37,6 +37,7 @@ pub(crate) fn make_all<S: Store>(
 ) -> Result<(), StoreFault>
     requires { ArePossible changes.old.items (S.disk store.old).table }
     ensures none { OnOk result (changes.new.items ≡ []) }
+    ensures still { changes.old.items ≡ [] → (store.new ≡ store.old) × (changes.new.items ≡ []) }
     ensures made { OnOk result (Keeps (disk_after changes.old.items (S.disk store.old)) (S.disk store.new)) }
     ensures possible { ArePossible changes.new.items (S.disk store.new).table }
     ensures unchanged { Keeps (disk_after changes.old.items (S.disk store.old)) (disk_after changes.new.items (S.disk store.new)) }

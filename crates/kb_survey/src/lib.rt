@@ -8,12 +8,14 @@
 mod change;
 mod look;
 mod postponed;
+mod promises;
 mod snapshot;
 mod stray;
 mod whole;
 
 pub use look::{bytes_among, header_among, snapshot_end_among, stray_among, whole_among};
 pub use postponed::{Postponed, PutsOff};
+pub use promises::{a_loss_is_that_inside, sync_lasts_inside};
 pub use snapshot::snapshot_end;
 pub use stray::{Stray, read_stray};
 pub use whole::{Whole, whole_batches};

@@ -29,8 +29,9 @@ pub trait PutsOff: Store {
 /// So a process that ends before its first write has changed nothing. Each change that is put off takes 24 bytes, and makes a call for
 /// a file's length, or for the list, longer by one comparison.
 ///
-/// A sync makes what was put off, as a write does, and syncs the store inside. What a loss of power may leave is said of that one alone:
-/// of this one nothing is said, since a change that is put off is lost with the process.
+/// A sync makes what was put off, as a write does, and syncs the store inside. From then on a loss of power leaves what it leaves of the
+/// store inside. Before that anything may be left to callers, since a change that is put off is lost with the process. Of the store inside
+/// a loss leaves what it left before.
 #[derive(Drop)]
 pub struct Postponed<S: Store> {
     store: S,
@@ -84,19 +85,19 @@ impl<S: Store> Postponed<S> {
 impl<S: Store> Store for Postponed<S> {
     ghost use Rattle.kb_store.specs.Disk.{IsThere, len_of, bytes_of, Keeps, Creates, Appends, Cuts, Removes, MayCreate, AppendsSome};
     ghost use Rattle.kb_store.specs.Disk.{HasCause};
-    ghost use Rattle.kb_store.specs.Loss.{Clears, Drops, Goes, Makes, Only, Same, Tears, nothing_left};
-    ghost use Rattle.kb_store.specs.LossLaws.{nothing_timely};
+    ghost use Rattle.kb_store.specs.Loss.{Clears, Drops, Goes, Makes, Only, Same, Tears};
+    ghost use Rattle.kb_survey.specs.Lost.{loss_with, timely_of};
     ghost use Rattle.kb_survey.specs.Postponed.{disk_with, postponed_lawful, IsUntouched, HasMade};
 
     ghost disk = { disk_with S.disk };
 
-    ghost loss = { λ _. nothing_left };
+    ghost loss = { loss_with S.loss };
 
     ghost settled = { λ s. (s.put_off ≡ []) × S.settled s.store };
 
     ghost lawful = { λ s. postponed_lawful s.put_off (S.disk s.store) (S.lawful s.store) };
 
-    ghost timely = { λ _. nothing_timely };
+    ghost timely = { λ s. timely_of s.waits s.put_off (S.loss s.store) (S.timely s.store) };
 
     fn failures(&self) -> u64 {
         self.store.failures()
@@ -106,8 +107,8 @@ impl<S: Store> Store for Postponed<S> {
         ensures numbers { IfOk result (λ numbers. numbers.items ≡ map.keys (disk_with S.disk self.old).table) }
         ensures unchanged { Keeps (disk_with S.disk self.old) (disk_with S.disk self.new) }
         ensures cause { HasCause (disk_with S.disk self.old) result (disk_with S.disk self.new) }
-        ensures loss { Goes Same nothing_left nothing_left }
-        ensures untouched { IsUntouched S.disk self.old self.new }
+        ensures loss { Goes Same (loss_with S.loss self.old) (loss_with S.loss self.new) }
+        ensures untouched { IsUntouched S.disk S.loss self.old self.new }
     {
         let numbers = self.store.list(alloc)?;
         Ok(numbers_left(alloc, &self.put_off, &numbers)?)
@@ -118,8 +119,8 @@ impl<S: Store> Store for Postponed<S> {
         ensures len { IfOk result (λ n. n ≡ len_of (disk_with S.disk self.old) file) }
         ensures unchanged { Keeps (disk_with S.disk self.old) (disk_with S.disk self.new) }
         ensures cause { HasCause (disk_with S.disk self.old) result (disk_with S.disk self.new) }
-        ensures loss { Goes Same nothing_left nothing_left }
-        ensures untouched { IsUntouched S.disk self.old self.new }
+        ensures loss { Goes Same (loss_with S.loss self.old) (loss_with S.loss self.new) }
+        ensures untouched { IsUntouched S.disk S.loss self.old self.new }
     {
         let len = self.store.len(file)?;
         Ok(length_after(&self.put_off, file, len))
@@ -130,7 +131,7 @@ impl<S: Store> Store for Postponed<S> {
         ensures created { OnOk result (Creates (disk_with S.disk self.old) file (disk_with S.disk self.new)) }
         ensures refused { OnErr result (MayCreate (disk_with S.disk self.old) file (disk_with S.disk self.new)) }
         ensures cause { HasCause (disk_with S.disk self.old) result (disk_with S.disk self.new) }
-        ensures loss { Goes (Makes file) nothing_left nothing_left }
+        ensures loss { Goes (Makes file) (loss_with S.loss self.old) (loss_with S.loss self.new) }
         ensures made { OnOk result (HasMade self.new) }
     {
         self.waits = false;
@@ -143,7 +144,7 @@ impl<S: Store> Store for Postponed<S> {
         ensures appended { OnOk result (Appends (disk_with S.disk self.old) file bytes.now (disk_with S.disk self.new)) }
         ensures refused { OnErr result (AppendsSome (disk_with S.disk self.old) file bytes.now (disk_with S.disk self.new)) }
         ensures cause { HasCause (disk_with S.disk self.old) result (disk_with S.disk self.new) }
-        ensures loss { Goes (Tears file (len_of (disk_with S.disk self.old) file)) nothing_left nothing_left }
+        ensures loss { Goes (Tears file (len_of (disk_with S.disk self.old) file)) (loss_with S.loss self.old) (loss_with S.loss self.new) }
         ensures made { OnOk result (HasMade self.new) }
     {
         self.waits = false;
@@ -158,8 +159,8 @@ impl<S: Store> Store for Postponed<S> {
             → buffer.new ≡ take (length buffer.old) (drop at (bytes_of (disk_with S.disk self.old) file))) }
         ensures unchanged { Keeps (disk_with S.disk self.old) (disk_with S.disk self.new) }
         ensures cause { HasCause (disk_with S.disk self.old) result (disk_with S.disk self.new) }
-        ensures loss { Goes Same nothing_left nothing_left }
-        ensures untouched { IsUntouched S.disk self.old self.new }
+        ensures loss { Goes Same (loss_with S.loss self.old) (loss_with S.loss self.new) }
+        ensures untouched { IsUntouched S.disk S.loss self.old self.new }
     {
         self.store.read_at(file, at, buffer)
     }
@@ -170,8 +171,8 @@ impl<S: Store> Store for Postponed<S> {
         ensures cut { OnOk result (Cuts (disk_with S.disk self.old) file len (disk_with S.disk self.new)) }
         ensures refused { OnErr result (Keeps (disk_with S.disk self.old) (disk_with S.disk self.new)) }
         ensures cause { HasCause (disk_with S.disk self.old) result (disk_with S.disk self.new) }
-        ensures loss { Goes (Tears file len) nothing_left nothing_left }
-        ensures untouched { IsUntouched S.disk self.old self.new }
+        ensures loss { Goes (Tears file len) (loss_with S.loss self.old) (loss_with S.loss self.new) }
+        ensures untouched { IsUntouched S.disk S.loss self.old self.new }
     {
         if self.waits {
             self.put_off.push_back(Change::Cut { file, len })?;
@@ -186,8 +187,8 @@ impl<S: Store> Store for Postponed<S> {
         ensures removed { OnOk result (Removes (disk_with S.disk self.old) file (disk_with S.disk self.new)) }
         ensures refused { OnErr result (Keeps (disk_with S.disk self.old) (disk_with S.disk self.new)) }
         ensures cause { HasCause (disk_with S.disk self.old) result (disk_with S.disk self.new) }
-        ensures loss { Goes (Drops file) nothing_left nothing_left }
-        ensures untouched { IsUntouched S.disk self.old self.new }
+        ensures loss { Goes (Drops file) (loss_with S.loss self.old) (loss_with S.loss self.new) }
+        ensures untouched { IsUntouched S.disk S.loss self.old self.new }
     {
         if self.waits {
             self.put_off.push_back(Change::Remove { file })?;
@@ -199,10 +200,12 @@ impl<S: Store> Store for Postponed<S> {
 
     fn sync(&mut self) -> Result<(), StoreFault>
         ensures synced { OnOk result ((self.new.put_off ≡ []) × S.settled self.new.store → (disk_with S.disk self.new).honest
-            → Only (disk_with S.disk self.new).files nothing_left) }
+            → Only (disk_with S.disk self.new).files (loss_with S.loss self.new)) }
         ensures unchanged { Keeps (disk_with S.disk self.old) (disk_with S.disk self.new) }
         ensures cause { HasCause (disk_with S.disk self.old) result (disk_with S.disk self.new) }
-        ensures loss { Goes (Clears (disk_with S.disk self.old).table) nothing_left nothing_left }
+        ensures loss { Goes (Clears (disk_with S.disk self.old).table) (loss_with S.loss self.old) (loss_with S.loss self.new) }
+        ensures prompt { (self.old.put_off ≡ []) × S.settled self.old.store
+            → Goes Same (loss_with S.loss self.old) (loss_with S.loss self.new) }
         ensures made { OnOk result (HasMade self.new) }
         // The store inside was synced, and a loss leaves of it what its own sync says.
         ensures inside { OnOk result (S.settled self.new.store → (S.disk self.new.store).honest
@@ -215,9 +218,12 @@ impl<S: Store> Store for Postponed<S> {
 
     fn is_synced(&self) -> bool
         ensures settled { result ≡ true → (self.now.put_off ≡ []) × S.settled self.now.store }
+        ensures synced { result ≡ true → (disk_with S.disk self.now).honest
+            → Only (disk_with S.disk self.now).files (loss_with S.loss self.now) }
+        ensures made { result ≡ true → HasMade self.now }
         ensures inside { result ≡ true → (S.disk self.now.store).honest → Only (S.disk self.now.store).files (S.loss self.now.store) }
     {
-        self.put_off.is_empty() && self.store.is_synced()
+        !self.waits && self.put_off.is_empty() && self.store.is_synced()
     }
 }
 

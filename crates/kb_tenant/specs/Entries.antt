@@ -1,5 +1,5 @@
 -- How many entries a request names.
-use Rattle.std.specs.Prelude.{ℕ, ◌+◌, ◌*◌, List, length, Option, Some, None, Result, Ok, Err, if◌then◌else◌}
+use Rattle.std.specs.Prelude.{ℕ, pos, ◌+◌, ◌-◌, ◌*◌, int_lt, nat_le, List, length, Option, Some, None, Result, Ok, Err, if◌then◌else◌}
 use Rattle.std.specs.List.{sum_by}
 use Rattle.kb_wire.specs.declared.fault.WireFault.{WireFault}
 use Rattle.kb_wire.specs.declared.fault.WireFault.TheVariants as faults
@@ -11,6 +11,7 @@ use Rattle.kb_api_data.specs.declared.describe_configs.ConfigResource.{ConfigRes
 use Rattle.kb_api_data.specs.declared.describe_configs.DescribeConfigsRequest.{DescribeConfigsRequest}
 use Rattle.kb_api_data.specs.declared.fetch.FetchRequest.{FetchRequest}
 use Rattle.kb_api_data.specs.declared.fetch.FetchTopic.{FetchTopic}
+use Rattle.kb_api_data.specs.declared.list_offsets.ListOffsetsPartition.{ListOffsetsPartition}
 use Rattle.kb_api_data.specs.declared.list_offsets.ListOffsetsRequest.{ListOffsetsRequest}
 use Rattle.kb_api_data.specs.declared.list_offsets.ListOffsetsTopic.{ListOffsetsTopic}
 use Rattle.kb_api_data.specs.declared.metadata.MetadataRequest.{MetadataRequest}
@@ -36,8 +37,12 @@ produce_entries r = with_entries (λ (t : ProduceTopic). length t.partitions) r.
 abbrev pub fetch_entries : FetchRequest → ℕ
 fetch_entries r = with_entries (λ (t : FetchTopic). length t.partitions) r.topics
 
+-- a partition whose end or start is asked for is one entry; a search by time counts as much as 16, since it reads batches
+abbrev pub listing_weight : ListOffsetsPartition → ℕ
+listing_weight p = if int_lt p.timestamp (pos 0) then 1 else 16
+
 abbrev pub list_offsets_entries : ListOffsetsRequest → ℕ
-list_offsets_entries r = with_entries (λ (t : ListOffsetsTopic). length t.partitions) r.topics
+list_offsets_entries r = with_entries (λ (t : ListOffsetsTopic). sum_by listing_weight t.partitions) r.topics
 
 abbrev pub commit_entries : OffsetCommitRequest → ℕ
 commit_entries r = with_entries (λ (t : CommitTopic). length t.partitions) r.topics
@@ -80,6 +85,10 @@ abbrev pub delete_groups_entries : DeleteGroupsRequest → ℕ
 delete_groups_entries r = length r.group_ids * 512
 
 -- ---- the limit
+
+-- what is left of so many behind others, where they are no more
+abbrev pub left_behind : ℕ → ℕ → Option ℕ
+left_behind left n = if nat_le n left then Some (left - n) else None
 
 -- A request that names more entries than a limit allows is none of the API's.
 abbrev pub within : {A : Type 0} → Option ℕ → (A → ℕ) → Result A WireFault → Result A WireFault

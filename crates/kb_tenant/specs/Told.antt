@@ -86,7 +86,7 @@ pub record IsFaultOf (Want : CatalogFault → Type 0) (code : ℤ) : Type 0 wher
   pub told : code ≡ fault_code fault
   pub want : Want fault
 
--- A deletion did what is defined, also where the removal of a file was refused.
+-- A deletion did what is defined, also where the removal of a file or a look at a size was refused.
 abbrev pub IsDeleted : Scene Seen → Scene Seen → Type 0 → Type 0
 IsDeleted a b P = IsDone a b P ⊎ IsLeft a b P
 

@@ -15,7 +15,8 @@ pub struct DataLimits {
     pub group_bytes: Option<u64>,
     /// How many bytes of batches, in all of its logs.
     pub bytes: Option<u64>,
-    /// How many entries one request may name: topics and partitions together, or groups. A group that is deleted counts as 512.
+    /// How many entries one request may name: topics and partitions together, or groups. A search by time
+    /// counts as 16, and a group that is deleted as 512.
     pub request_entries: Option<u64>,
     /// How many bytes of records a reply of Fetch has, but for a first batch, which is given whole.
     pub fetch_bytes: Option<u64>,

@@ -1,13 +1,14 @@
 //! How many entries a request names, which is limited before anything is done.
+ghost use Rattle.std.specs.List.{sum_by};
 ghost use Rattle.std.specs.Prelude.{◌≡◌, ℕ, IfOk, Ok, length, nat_lt};
 ghost use Rattle.kb_wire.specs.Codec.{whole};
 ghost use Rattle.kb_wire.specs.Reads.{ReadsWhole};
-ghost use Rattle.kb_tenant.specs.Entries.{with_entries, within};
+ghost use Rattle.kb_tenant.specs.Entries.{left_behind, listing_weight, with_entries, within};
 
 use kb_api_data::{
     ConfigResource, CreateTopicsRequestV1, DeleteRecordsRequest, DeleteRecordsTopic,
-    DeleteTopicsRequest, DescribeConfigsRequest, FetchRequest, FetchTopic, ListOffsetsRequest,
-    ListOffsetsTopic, MetadataRequest, ProduceRequest, ProduceTopic,
+    DeleteTopicsRequest, DescribeConfigsRequest, FetchRequest, FetchTopic, ListOffsetsPartition,
+    ListOffsetsRequest, MetadataRequest, ProduceRequest, ProduceTopic,
 };
 use kb_api_group::{
     CommitTopic, DeleteGroupsRequest, DescribeGroupsRequest, OffsetCommitRequest,
@@ -15,6 +16,9 @@ use kb_api_group::{
 };
 use kb_wire::{Layout, ReadFault, WireFault};
 use std::alloc::Global;
+
+/// How many entries a search by time counts as. It reads what lies between two entries of a log's index.
+const BY_TIME: u64 = 16;
 
 /// A topic of a request, which has entries of its own.
 trait Entries {
@@ -49,6 +53,28 @@ fn are_past<T: Entries>(topics: &[T], limit: u64) -> bool
         left -= own + 1;
     }
     false
+}
+
+/// How many entries a partition of ListOffsets counts as: a search by time is many.
+fn listing_weight(partition: &ListOffsetsPartition) -> u64
+    ensures { result ≡ listing_weight partition.now }
+{
+    if partition.timestamp < 0 { 1 } else { BY_TIME }
+}
+
+/// What is left of so many entries behind the partitions of a topic of ListOffsets, where they are no more.
+fn left_behind(partitions: &[ListOffsetsPartition], left: u64) -> Option<u64>
+    ensures { result ≡ left_behind left (sum_by listing_weight partitions.now) }
+{
+    let mut left = left;
+    for partition in partitions {
+        let weight = listing_weight(partition);
+        if left < weight {
+            return None;
+        }
+        left -= weight;
+    }
+    Some(left)
 }
 
 /// A request, unless it names more entries than a limit allows: that is a fault of its body. None is no limit.
@@ -91,16 +117,6 @@ impl Entries for ProduceTopic<'_> {
 }
 
 impl Entries for FetchTopic<'_> {
-    ghost use Rattle.std.specs.Prelude.{length};
-
-    ghost own = { λ t. length t.partitions };
-
-    fn own(&self) -> usize {
-        self.partitions.len()
-    }
-}
-
-impl Entries for ListOffsetsTopic<'_> {
     ghost use Rattle.std.specs.Prelude.{length};
 
     ghost own = { λ t. length t.partitions };
@@ -179,7 +195,14 @@ impl Named for ListOffsetsRequest<'_> {
     ghost entries = { list_offsets_entries };
 
     fn is_past(&self, limit: u64) -> bool {
-        are_past(self.topics.as_slice(), limit)
+        let mut left = limit;
+        for topic in self.topics.as_slice() {
+            match left_behind(topic.partitions.as_slice(), left) {
+                None | Some(0) => return true,
+                Some(rest) => left = rest - 1,
+            }
+        }
+        false
     }
 }
 

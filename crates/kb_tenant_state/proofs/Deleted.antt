@@ -20,10 +20,13 @@ use Rattle.kb_topics.specs.declared.catalog.Catalog.{Catalog}
 use Rattle.kb_topics.specs.Known.{Known, named, topic_at, without_topic, step}
 use Rattle.kb_topics.specs.declared.command.Command.TheVariants as commands
 use Rattle.kb_tenant_state.specs.Logs.{without_logs}
-use Rattle.kb_tenant_state.specs.Partitions.{AreStarted, Entries, IsUnmade, logs_of, partition_at, places_of, scene_on}
+use Rattle.kb_tenant_state.specs.Partitions.{Agree, AreStarted, Entries, IsUnmade, logs_of, partition_at, places_of, scene_on}
 use Rattle.kb_tenant_state.specs.Scene.{Frame, Settles, WhereHonest}
+use Rattle.kb_tenant_state.specs.Gone.{Went, stored_without}
+use Rattle.kb_tenant_state.specs.Stored.{bytes_in_all}
 use Rattle.kb_tenant_state.specs.declared.partition.Partition.{Partition}
 use Rattle.kb_tenant_state.specs.declared.partitions.Partitions.{Partitions}
+use Rattle.kb_tenant_state.proofs.Gone.{told_went}
 use Rattle.kb_tenant_state.proofs.Put.{own_number}
 use Rattle.kb_tenant_state.specs.Parts as parts
 use Rattle.kb_tenant_state.specs.Parts.{IsSound, Agrees, meta, entries, recorded_start, world_of}
@@ -105,25 +108,25 @@ module _ {L : Type 0} (log : L → Log) (law : (l : L) → IsLawfulLog (log l)) 
         subst (λ n. (log x.log).resumes n) (sym (ap (λ k. recorded_start k j q) new ∙ delete_starts (known old.catalog) i j q ne)) (started j q x at)
 
     -- and the partitions are gone
-    pub delete_move : (o t : ℕ) → IsCounted o t (known changed) → KeepNames log (entries old) ps.topics.entries → KeepStarts log (entries old) ps.topics.entries
-        → IsMove (parts.scene_on log old d next) (parts.scene_on log (record old { catalog = changed; partitions = ps; stored = None; offsets = o; texts = t }) e last)
-    delete_move o t counts named starts =
-        move_then (parts.scene_on log old d next) (untied_on log (recorded_start (known old.catalog)) (record old { catalog = changed }) d' next') (parts.scene_on log (record old { catalog = changed; partitions = ps; stored = None; offsets = o; texts = t }) e last) recorded
-        (parts_move log law (recorded_start (known old.catalog)) (record old { catalog = changed }) (record old { catalog = changed; partitions = ps; stored = None; offsets = o; texts = t }) d' e next' last refl (refl, refl) named
+    pub delete_move : (bytes : Option ℕ) → IfSome bytes (λ n. WhereHonest (scene_on log (entries old) d' next') (scene_on log ps.topics.entries e last) (Went (bytes_in_all (logs_of log (entries old) d'.files)) (bytes_in_all (logs_of log ps.topics.entries e.files)) n)) → (o t : ℕ) → IsCounted o t (known changed) → KeepNames log (entries old) ps.topics.entries → KeepStarts log (entries old) ps.topics.entries
+        → IsMove (parts.scene_on log old d next) (parts.scene_on log (record old { catalog = changed; partitions = ps; stored = stored_without bytes old.stored; offsets = o; texts = t }) e last)
+    delete_move bytes lost o t counts named starts =
+        move_then (parts.scene_on log old d next) (untied_on log (recorded_start (known old.catalog)) (record old { catalog = changed }) d' next') (parts.scene_on log (record old { catalog = changed; partitions = ps; stored = stored_without bytes old.stored; offsets = o; texts = t }) e last) recorded
+        (parts_move log law (recorded_start (known old.catalog)) (record old { catalog = changed }) (record old { catalog = changed; partitions = ps; stored = stored_without bytes old.stored; offsets = o; texts = t }) d' e next' last refl (refl, refl) named
         (still_unmade i (entries old) ps.topics.entries sound.logs.ordered places) (still_small i (entries old) ps.topics.entries sound.logs.ordered places) (omega arith) tied
         recorded.frame.sound frame (λ honest agree. still (starts (recorded_start (known old.catalog)) agree.started))
         (λ honest agree. kept_deleted old.next_retention_time (world_of log (record old { catalog = changed }) d'.files) (world_of log (record old { catalog = changed; partitions = ps }) e.files) i gone
         (as_before (known changed) (known changed) refl) (removed honest agree.logs) agree.until)
-        counts (λ honest agree. tt))
+        counts (λ honest agree. told_went old.stored bytes (logs_of log (entries old) d'.files) (logs_of log ps.topics.entries e.files) e.honest (Agree log (entries old) d'.files) lost honest agree.logs agree.stored))
 
-    pub delete_step : (o t : ℕ) → IsCounted o t (known changed) → KeepNames log (entries old) ps.topics.entries → KeepStarts log (entries old) ps.topics.entries
+    pub delete_step : (bytes : Option ℕ) → IfSome bytes (λ n. WhereHonest (scene_on log (entries old) d' next') (scene_on log ps.topics.entries e last) (Went (bytes_in_all (logs_of log (entries old) d'.files)) (bytes_in_all (logs_of log ps.topics.entries e.files)) n)) → (o t : ℕ) → IsCounted o t (known changed) → KeepNames log (entries old) ps.topics.entries → KeepStarts log (entries old) ps.topics.entries
         → ⊥ ⊎ one.Settles (on_shelf (meta log old) d next) (on_shelf (log (meta_log changed)) d' next')
         → Settles (scene_on log (entries old) d' next') (scene_on log ps.topics.entries e last)
-        → IsStep (parts.scene_on log old d next) (parts.scene_on log (record old { catalog = changed; partitions = ps; stored = None; offsets = o; texts = t }) e last)
-    delete_step o t counts named starts settled settles =
+        → IsStep (parts.scene_on log old d next) (parts.scene_on log (record old { catalog = changed; partitions = ps; stored = stored_without bytes old.stored; offsets = o; texts = t }) e last)
+    delete_step bytes lost o t counts named starts settled settles =
         let mid = record old { catalog = changed } in
-        let last_of = record old { catalog = changed; partitions = ps; stored = None; offsets = o; texts = t } in
-        as_step (parts.scene_on log old d next) (parts.scene_on log last_of e last) (delete_move o t counts named starts) (λ calm.
+        let last_of = record old { catalog = changed; partitions = ps; stored = stored_without bytes old.stored; offsets = o; texts = t } in
+        as_step (parts.scene_on log old d next) (parts.scene_on log last_of e last) (delete_move bytes lost o t counts named starts) (λ calm.
         settles_then (parts.scene_on log old d next) (parts.scene_on log mid d' next') (parts.scene_on log last_of e last)
         (⊎_elim (λ bad. absurd bad) (catalog_settles log law old changed d d' next next' sound frames old.offsets old.texts) settled)
         (parts_settle log law mid last_of d' e next' last refl recorded.frame.sound frame settles))

@@ -110,7 +110,7 @@ module _ {L : Type 0} (log : L → Log) (xs : List (Partition L)) (d : Disk) (ne
 -- ---- all topics
 
 module _ {L : Type 0} (log : L → Log) where
-  each_among : (P : Partition L → Type 0) (xs : List (Partition L)) → ((q : ℕ) (x : Partition L) → slice_get xs q ≡ Some x → P x) → AllByRecursion P xs
+  pub each_among : (P : Partition L → Type 0) (xs : List (Partition L)) → ((q : ℕ) (x : Partition L) → slice_get xs q ≡ Some x → P x) → AllByRecursion P xs
   each_among P [] h = tt
   each_among P (x ∷ xs) h = (h 0 x refl, each_among P xs (λ q y at. h (suc q) y at))
 
@@ -131,7 +131,7 @@ module _ {L : Type 0} (log : L → Log) where
   abbrev pub sizes : Entries L → Files → ℕ
   sizes es files = total (λ (t : Vec (Partition L) Global). size_of_logs log t.items files) es
 
-  seen_size : (xs : List (Partition L)) (files : Files) → bytes_in (map (λ (x : Partition L). log_state (log x.log) files) xs) ≡ size_of_logs log xs files
+  pub seen_size : (xs : List (Partition L)) (files : Files) → bytes_in (map (λ (x : Partition L). log_state (log x.log) files) xs) ≡ size_of_logs log xs files
   seen_size [] files = refl
   seen_size (x ∷ xs) files =
       let state : LogState = log_state (log x.log) files in

@@ -88,7 +88,7 @@ sum_put f (w ∷ ws) zero x y at =
 sum_put f (w ∷ ws) (suc p) x y at = omega (arith, sum_put f ws p x y at, sum_by-cons f w (slice_set ws p y), sum_by-cons f w ws)
 
 -- an item that is there is part of the sum
-sum_has : {A : Type 0} (f : A → ℕ) (xs : List A) (p : ℕ) (x : A) → slice_get xs p ≡ Some x → f x ≤ sum_by f xs
+pub sum_has : {A : Type 0} (f : A → ℕ) (xs : List A) (p : ℕ) (x : A) → slice_get xs p ≡ Some x → f x ≤ sum_by f xs
 sum_has f [] p x at = absurd cc
 sum_has f (w ∷ ws) zero x at = let same : w ≡ x = cc in omega (arith, ap f same, sum_by-cons f w ws)
 sum_has f (w ∷ ws) (suc p) x at = omega (arith, sum_has f ws p x at, sum_by-cons f w ws)

@@ -2,6 +2,7 @@ pub mod Calls
 pub mod Counts
 pub mod Dropping
 pub mod Fault
+pub mod Gone
 pub mod Ids
 pub mod Logs
 pub mod Made

@@ -24,7 +24,7 @@ pub record IsRefused (a b : Scene Seen) (Want : Type 0) : Type 0 where
 abbrev pub Failed : Scene Seen → Scene Seen → Type 0
 Failed a b = WhereHonest a b (Grew a.disk.failures b.disk.failures ⊎ (2 ^ 64 ≤ a.next))
 
--- It did what is defined, but the removal of a file was refused, which was counted once.
+-- It did what is defined, but the removal of a file or a look at a size was refused, which was counted once.
 pub record IsLeft (a b : Scene Seen) (P : Type 0) : Type 0 where
   pub counted : b.state.refusals ≡ counted_once a.state.refusals
   pub met : WhereHonest a b P
@@ -68,7 +68,7 @@ abbrev pub Tells : {T F : Type 0} → Scene Seen → Scene Seen → Type 0 → (
 Tells a b P want (Ok x) = IsDone a b P
 Tells a b P want (Err f) = IsDone a b P ⊎ IsRefused a b (want f)
 
--- The same of a deletion, which is accepted also where the removal of a file is refused.
+-- The same of a deletion, which is accepted also where the removal of a file or a look at a size is refused.
 abbrev pub Deletes : {T F : Type 0} → Scene Seen → Scene Seen → Type 0 → (F → Type 0) → Result T F → Type 0
 Deletes a b P want (Ok x) = IsDone a b P ⊎ IsLeft a b P
 Deletes a b P want (Err f) = IsDone a b P ⊎ IsRefused a b (want f)

@@ -5,6 +5,7 @@ ghost use Rattle.kb_store.specs.Disk.{Files, Table};
 ghost use Rattle.kb_topics.specs.Catalog.{known};
 ghost use Rattle.kb_topics.specs.Known.{committed_at, topic_at};
 ghost use Rattle.kb_tenant_state.specs.Calls.{known_at};
+ghost use Rattle.kb_tenant_state.specs.Gone.{stored_without};
 ghost use Rattle.kb_tenant_state.specs.Parts.{Agrees, IsSound, scene, world_of};
 ghost use Rattle.kb_tenant_state.specs.Steps.{IsStep, Meets};
 ghost use Rattle.kb_tenant_state.specs.Stored.{commits_to, offsets_in, offsets_to, partitions_in, stored_in, up_to_end, IsTold};
@@ -109,6 +110,19 @@ pub(crate) fn more_stored(stored: Option<u64>, bytes: u64) -> Option<u64>
     Some(stored?.saturating_add(bytes))
 }
 
+/// What is known of the bytes of all batches, once some went: nothing where it is not known how many, or behind the greatest number.
+pub(crate) fn less_stored(stored: Option<u64>, lost: Option<u64>) -> Option<u64>
+    ensures { result ≡ stored_without lost stored }
+{
+    let stored = stored?;
+    let lost = lost?;
+    if stored < u64::MAX {
+        Some(stored.saturating_sub(lost))
+    } else {
+        None
+    }
+}
+
 impl<L: PartitionLog> Parts<L> {
     /// How many groups have committed an offset to a partition.
     pub(crate) fn commit_count(&self, place: TopicPartition) -> u64
@@ -167,8 +181,8 @@ impl<L: PartitionLog> Parts<L> {
 
     /// How many bytes the batches in all logs have, or else the greatest number.
     ///
-    /// As a rule it is known. Where batches have gone since, or the tenant was just opened, each log is asked, and the answer is kept. A
-    /// log makes a store call only where a read of its first batch was refused. A refusal is counted once.
+    /// As a rule it is known. Where the tenant was just opened, or a read of a size was refused when batches went, each log is asked, and
+    /// the answer is kept. A log makes a store call only where a read of its first batch was refused. A refusal is counted once.
     pub fn stored<S: Store>(&mut self, shelf: &mut Shelf<S>) -> Result<u64, PartitionFault>
         requires { (scene L.log S.disk self.old shelf.old).sound }
         ensures step { IsStep (scene L.log S.disk self.old shelf.old) (scene L.log S.disk self.new shelf.new) }

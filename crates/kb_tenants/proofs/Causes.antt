@@ -6,6 +6,8 @@ use Rattle.std.proofs.lemmas.List.{map-set, get_or-set_other}
 use Rattle.std.proofs.lemmas.Option.{get_or_from_slice_get}
 use Rattle.std.proofs.Math.Seq.{map-set_same}
 use Rattle.kb_coordinator.specs.Groups.{Groups}
+use Rattle.kb_over_limit.specs.Over.{both}
+use Rattle.kb_over_limit.specs.declared.over.OverLimit.{OverLimit}
 use Rattle.kb_store.specs.Disk.{Disk}
 use Rattle.kb_log.specs.OnShelf.{Log, IsLawfulLog}
 use Rattle.kb_log.specs.Shelf.{Shelved}
@@ -15,7 +17,7 @@ use Rattle.kb_tenant_state.specs.declared.parts.Parts.{Parts}
 use Rattle.kb_tenant.proofs.LogMoves.{same_or_not}
 use Rattle.kb_tenant_api.specs.Hosted.{TenantState, refusals_of}
 use Rattle.kb_tenant_api.specs.Turns.{IsAccounted}
-use Rattle.kb_tenants.specs.Counts.{AreCounted, HasEndedAtStore, IsCounted, IsCountedFor, counts_of, no_counts, risen, store_counts, store_total, with_store}
+use Rattle.kb_tenants.specs.Counts.{AreCounted, HasEndedAtStore, IsCounted, IsCountedBy, IsCountedFor, IsCountedWith, counts_of, no_counts, risen, all_counts, store_total, with_over, with_store}
 use Rattle.kb_tenants.specs.Members.{renumbered}
 use Rattle.kb_tenants.specs.Tenants.{AreKept, all_commands, hosted, state_of}
 use Rattle.kb_tenants.specs.declared.counts.Counts.{Counts}
@@ -49,10 +51,10 @@ counts_stay {L} log disk old t x p gs shelf lt read u =
 
 -- the groups of one are others
 pub stores_stay : {L S : Type 0} (log : L → Log) (disk : S → Disk) (old : Tenants L S) (t : ℕ) (x : Tenant L) (gs : Groups)
-    → t < length (hosted log disk old) → x ≡ get_or old.tenants.items t x → store_counts (after old t x x.parts gs x.counts old.shelf) ≡ store_counts old
+    → t < length (hosted log disk old) → x ≡ get_or old.tenants.items t x → all_counts (after old t x x.parts gs x.counts old.shelf) ≡ all_counts old
 stores_stay {L} log disk old t x gs lt read =
-    map-set_same (λ (z : Tenant L). z.counts.by_store) old.tenants.items t (record x { groups = gs }) x
-    (ap (λ (z : Tenant L). z.counts.by_store) (sym (get_or_from_slice_get old.tenants.items t x x (stands log disk old t x lt read))))
+    map-set_same (λ (z : Tenant L). z.counts) old.tenants.items t (record x { groups = gs }) x
+    (ap (λ (z : Tenant L). z.counts) (sym (get_or_from_slice_get old.tenants.items t x x (stands log disk old t x lt read))))
 
 -- ... and no log of a catalog has other commands by that
 pub commands_stay : {L S : Type 0} (log : L → Log) (disk : S → Disk) (old : Tenants L S) (t : ℕ) (x : Tenant L) (gs : Groups)
@@ -66,9 +68,9 @@ commands_numbered log first [] = refl
 commands_numbered log first (x ∷ ts) = ap (λ ns. recorded log x ∷ ns) (commands_numbered log first ts)
 
 -- the groups of each are numbered from another number
-pub stores_numbered : {L : Type 0} (first : ℕ) (ts : List (Tenant L)) → map (λ (z : Tenant L). z.counts.by_store) (map (renumbered first) ts) ≡ map (λ (z : Tenant L). z.counts.by_store) ts
+pub stores_numbered : {L : Type 0} (first : ℕ) (ts : List (Tenant L)) → map (λ (z : Tenant L). z.counts) (map (renumbered first) ts) ≡ map (λ (z : Tenant L). z.counts) ts
 stores_numbered first [] = refl
-stores_numbered first (x ∷ ts) = ap (λ ns. x.counts.by_store ∷ ns) (stores_numbered first ts)
+stores_numbered first (x ∷ ts) = ap (λ ns. x.counts ∷ ns) (stores_numbered first ts)
 
 -- another number of commands is said for one
 pub counts_timed : {L S : Type 0} (log : L → Log) (disk : S → Disk) (ts : Tenants L S) (t : ℕ) (x : Tenant L) (n : ℕ) → x ≡ get_or ts.tenants.items t x → (u : ℕ)
@@ -105,6 +107,32 @@ module _ {L S : Type 0} (log : L → Log) (disk : S → Disk) (law : (l : L) →
         accounted = accounted_called log disk law old t x lt read kept mid p n gs cs shelf counted step m count sum;
         store = omega (arith, sum, was, is, grown);
         among = omega (arith, sum, count, more, before, now);
+        over = (let a = ap (λ (c : Counts). c.over) (counts_here old.tenants.items t x first) in
+            let b = ap (λ (c : Counts). c.over) (counts_here new.tenants.items t (record x { parts = p; groups = gs; counts = cs }) last) in
+            b ∙ ap (λ (c : Counts). c.over) noted ∙ sym a);
+        others = counts_elsewhere log disk old t x p gs cs shelf;
+      }
+
+  -- ... and its reply told that
+  pub counted_served : (m : ℕ) (told : OverLimit) → n ≡ min (x.parts.refusals + m) END → (disk shelf.store).failures ≡ (disk old.shelf.store).failures + m
+      → cs ≡ with_over told (with_store m x.counts) → IsCountedWith told log disk t old (after old t x p gs cs shelf)
+  counted_served m told count sum noted =
+      let new = after old t x p gs cs shelf in
+      let first = stands log disk old t x lt read in
+      let last = there_after log disk law old t x p gs cs shelf lt read kept (step_called log disk law old t x lt read kept mid p n gs cs shelf counted step) in
+      let was = ap (λ (c : Counts). c.by_store) (counts_here old.tenants.items t x first) in
+      let is = ap (λ (c : Counts). c.by_store) (counts_here new.tenants.items t (record x { parts = p; groups = gs; counts = cs }) last) in
+      let grown = ap (λ (c : Counts). c.by_store) noted in
+      let before = refusals_here log (disk old.shelf.store).files old.tenants.items t x first in
+      let now = refusals_here log (disk shelf.store).files new.tenants.items t (record x { parts = p; groups = gs; counts = cs }) last in
+      let more = ap (λ (v : Parts L). v.refusals) counted in
+      record {
+        accounted = accounted_called log disk law old t x lt read kept mid p n gs cs shelf counted step m count sum;
+        store = omega (arith, sum, was, is, grown);
+        among = omega (arith, sum, count, more, before, now);
+        over = (let a = ap (λ (c : Counts). both c.over told) (counts_here old.tenants.items t x first) in
+            let b = ap (λ (c : Counts). c.over) (counts_here new.tenants.items t (record x { parts = p; groups = gs; counts = cs }) last) in
+            b ∙ ap (λ (c : Counts). c.over) noted ∙ sym a);
         others = counts_elsewhere log disk old t x p gs cs shelf;
       }
 
@@ -119,6 +147,7 @@ counted_still t ps qs f g old new same accounted grows stay =
       accounted = accounted;
       store = omega (arith, is, same);
       among = omega (arith, grows, same);
+      over = ap (λ (c : Counts). c.over) (stay t);
       others = λ u ne. stay u;
     }
 
@@ -138,6 +167,7 @@ counted_then t ps qs rs f g h old mid new some more grows first second =
       accounted = accounted_then ps qs rs f g h grows first.accounted second.accounted;
       store = omega (arith, some, more, a, b);
       among = omega (arith, some, more, c, d);
+      over = second.over ∙ first.over;
       others = λ u ne. second.others u ne ∙ first.others u ne;
     }
 
@@ -169,9 +199,16 @@ total_risen (suc n) t d f g lt here others = ⊎_elim
 pub all_counted_none : (ps : List TenantState) (f : ℕ) (old : ℕ → Counts) → AreCounted ps ps f f old old
 all_counted_none ps f old = record { accounted = accounted_same ps f; store = inl refl; among = λ t. omega arith; rise = λ t. omega arith }
 
+-- nothing but what was counted of refusals is another
+pub over_stays : (t : ℕ) (ps qs : List TenantState) (f g : ℕ) (old new : ℕ → Counts) → IsCounted t ps qs f g old new → (u : ℕ) → (new u).over ≡ (old u).over
+over_stays t ps qs f g old new h u = ⊎_elim
+    (λ (here : u ≡ t). subst (λ k. (new k).over ≡ (old k).over) (sym here) h.over)
+    (λ (ne : u ≡ t → ⊥). ap (λ (c : Counts). c.over) (h.others u ne))
+    (same_or_not u t)
+
 -- one tenant's turn
-module _ (t : ℕ) (ps qs rs : List TenantState) (f g h : ℕ) (old mid new : ℕ → Counts) (lt : t < length ps) (some : f ≤ g) (more : g ≤ h)
-    (grows : (u : ℕ) → refusals_of qs u ≤ refusals_of rs u) (done : AreCounted ps qs f g old mid) (turn : IsCounted t qs rs g h mid new) where
+module _ {told : OverLimit → OverLimit} (t : ℕ) (ps qs rs : List TenantState) (f g h : ℕ) (old mid new : ℕ → Counts) (lt : t < length ps) (some : f ≤ g) (more : g ≤ h)
+    (grows : (u : ℕ) → refusals_of qs u ≤ refusals_of rs u) (done : AreCounted ps qs f g old mid) (turn : IsCountedBy told t qs rs g h mid new) where
   at_or_else : (P : ℕ → Type 0) → P t → ((u : ℕ) → (u ≡ t → ⊥) → P u) → (u : ℕ) → P u
   at_or_else P here else u = ⊎_elim (λ (same : u ≡ t). subst P (sym same) here) (λ ne. else u ne) (same_or_not u t)
 
@@ -240,5 +277,6 @@ counted_timed {L} {S} log disk old mid new shelf hosts t stay before =
       accounted = accounted;
       store = omega (arith, is, was, failures);
       among = omega (arith, among, failures, refusals);
+      over = ap (λ (c : Counts). c.over) (stay t) ∙ before.over;
       others = λ u ne. stay u ∙ before.others u ne;
     }

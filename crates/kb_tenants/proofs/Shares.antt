@@ -2,12 +2,13 @@
 use Rattle.std.proofs.Common.{◌≡◌, ◌∙◌, ◌⊎◌, ⊎_elim, inl, inr, ◌≤◌, ◌<◌, ◌+◌, ◌-◌, ℕ, List, [], ◌∷◌, zero, suc, length, get_or, ap, refl, subst, sym, arith}
 use Rattle.std.specs.Prelude.{map, max, min}
 use Rattle.std.proofs.lemmas.List.{get_or_past, length-map}
+use Rattle.kb_over_limit.specs.declared.over.OverLimit.{OverLimit}
 use Rattle.kb_store.specs.Disk.{Disk}
 use Rattle.kb_log.specs.OnShelf.{Log}
 use Rattle.kb_tenant_state.specs.Counts.{END}
 use Rattle.kb_tenant.proofs.LogMoves.{same_or_not}
 use Rattle.kb_tenant_api.specs.Hosted.{TenantState, refusals_of}
-use Rattle.kb_tenants.specs.Counts.{AreCounted, AreCountedFor, AreSameCounts, AreShared, HasEndedAtStore, IsCountedFor, counts_of, no_counts, risen, shared_as, store_counts, store_total}
+use Rattle.kb_tenants.specs.Counts.{AreCounted, AreCountedFor, AreSameCounts, AreShared, HasEndedAtStore, IsCountedBy, counts_of, no_counts, risen, shared_as, all_counts, store_total}
 use Rattle.kb_tenants.specs.Tenants.{hosted, state_of}
 use Rattle.kb_tenants.specs.declared.counts.Counts.{Counts}
 use Rattle.kb_tenants.specs.declared.tenants.Tenant.{Tenant}
@@ -17,11 +18,6 @@ use Rattle.kb_tenants.proofs.Causes.{all_counted_next, all_counted_none}
 
 -- 1. By place
 
-share_is : {L : Type 0} (ts : List (Tenant L)) (t : ℕ) → get_or (map (λ (x : Tenant L). x.counts.by_store) ts) t 0 ≡ (get_or (map (λ (x : Tenant L). x.counts) ts) t no_counts).by_store
-share_is [] t = refl
-share_is (x ∷ ts) zero = refl
-share_is (x ∷ ts) (suc t) = share_is ts t
-
 total_as : (n : ℕ) (f g : ℕ → Counts) → ((u : ℕ) → (g u).by_store ≡ (f u).by_store) → store_total n g ≡ store_total n f
 total_as zero f g same = refl
 total_as (suc n) f g same =
@@ -29,28 +25,13 @@ total_as (suc n) f g same =
     let last = same n in
     omega (arith, rest, last)
 
-counted_as : (ps qs : List TenantState) (f g : ℕ) (old new was is : ℕ → Counts) → ((u : ℕ) → (was u).by_store ≡ (old u).by_store) → ((u : ℕ) → (is u).by_store ≡ (new u).by_store)
-    → AreCounted ps qs f g old new → AreCounted ps qs f g was is
-counted_as ps qs f g old new was is before after h = record {
-  accounted = h.accounted;
-  store = ⊎_elim
-      (λ sum.
-      let a = total_as (length ps) old was before in
-      let b = total_as (length ps) new is after in
-      inl (omega (arith, sum, a, b)))
-      (λ ended. inr (let far = ended.1 in let same = after ended.0 in (ended.0, omega (arith, far, same))))
-      h.store;
-  among = λ t. (let m = h.among t in let a = before t in let b = after t in omega (arith, m, a, b));
-  rise = λ t. (let r = h.rise t in let a = before t in let b = after t in omega (arith, r, a, b));
-}
-
 -- 2. No call, and calls in turn
 
-pub shares_same : (ps : List TenantState) (f : ℕ) (counts : List ℕ) → AreShared ps ps f f counts counts
+pub shares_same : (ps : List TenantState) (f : ℕ) (counts : List Counts) → AreShared ps ps f f counts counts
 shares_same ps f counts = all_counted_none ps f (shared_as counts)
 
 -- refusals were counted, none of which is the store's
-pub shares_rise : (ps qs : List TenantState) (f : ℕ) (counts : List ℕ) → length qs ≡ length ps → ((u : ℕ) → refusals_of ps u ≤ refusals_of qs u) → AreShared ps qs f f counts counts
+pub shares_rise : (ps qs : List TenantState) (f : ℕ) (counts : List Counts) → length qs ≡ length ps → ((u : ℕ) → refusals_of ps u ≤ refusals_of qs u) → AreShared ps qs f f counts counts
 shares_rise ps qs f counts many grows = record {
   accounted = accounted_rises ps qs f many grows;
   store = inl refl;
@@ -58,7 +39,7 @@ shares_rise ps qs f counts many grows = record {
   rise = λ t. omega arith;
 }
 
-pub shares_then : (ps qs rs : List TenantState) (f g h : ℕ) (old mid new : List ℕ) → length qs ≡ length ps → ((u : ℕ) → refusals_of qs u ≤ refusals_of rs u)
+pub shares_then : (ps qs rs : List TenantState) (f g h : ℕ) (old mid new : List Counts) → length qs ≡ length ps → ((u : ℕ) → refusals_of qs u ≤ refusals_of rs u)
     → AreShared ps qs f g old mid → AreShared qs rs g h mid new → AreShared ps rs f h old new
 shares_then ps qs rs f g h old mid new many grows first second =
     let then : AreCounted qs rs g h (shared_as mid) (shared_as new) = second in
@@ -81,31 +62,29 @@ shares_then ps qs rs f g h old mid new many grows first second =
 -- none of the counts is another
 all_same : {L : Type 0} (xs ys : List (Tenant L)) → length ys ≡ length xs
     → ((t : ℕ) → get_or (map (λ (x : Tenant L). x.counts) ys) t no_counts ≡ get_or (map (λ (x : Tenant L). x.counts) xs) t no_counts)
-    → map (λ (x : Tenant L). x.counts.by_store) ys ≡ map (λ (x : Tenant L). x.counts.by_store) xs
+    → map (λ (x : Tenant L). x.counts) ys ≡ map (λ (x : Tenant L). x.counts) xs
 all_same [] [] many same = refl
 all_same [] (y ∷ ys) many same = absurd (omega (arith, many))
 all_same (x ∷ xs) [] many same = absurd (omega (arith, many))
 all_same {L} (x ∷ xs) (y ∷ ys) many same =
-    ap (λ n. n ∷ map (λ (z : Tenant L). z.counts.by_store) ys) (ap (λ (c : Counts). c.by_store) (same 0))
-    ∙ ap (λ ns. x.counts.by_store ∷ ns) (all_same xs ys (omega (arith, many)) (λ t. same (suc t)))
+    ap (λ n. n ∷ map (λ (z : Tenant L). z.counts) ys) (same 0)
+    ∙ ap (λ ns. x.counts ∷ ns) (all_same xs ys (omega (arith, many)) (λ t. same (suc t)))
 
 module _ {L S : Type 0} (log : L → Log) (disk : S → Disk) (old new : Tenants L S) where
-  pub shares_kept : length (hosted log disk new) ≡ length (hosted log disk old) → AreSameCounts old new → store_counts new ≡ store_counts old
+  pub shares_kept : length (hosted log disk new) ≡ length (hosted log disk old) → AreSameCounts old new → all_counts new ≡ all_counts old
   shares_kept many same =
       let before = length-map old.tenants.items (state_of log (disk old.shelf.store).files) in
       let after = length-map new.tenants.items (state_of log (disk new.shelf.store).files) in
       all_same old.tenants.items new.tenants.items (omega (arith, many, before, after)) same
 
   pub shares_passed : AreCountedFor log disk old new
-      → AreShared (hosted log disk old) (hosted log disk new) (disk old.shelf.store).failures (disk new.shelf.store).failures (store_counts old) (store_counts new)
-  shares_passed h =
-      counted_as (hosted log disk old) (hosted log disk new) (disk old.shelf.store).failures (disk new.shelf.store).failures (counts_of old) (counts_of new)
-      (shared_as (store_counts old)) (shared_as (store_counts new)) (share_is old.tenants.items) (share_is new.tenants.items) h
+      → AreShared (hosted log disk old) (hosted log disk new) (disk old.shelf.store).failures (disk new.shelf.store).failures (all_counts old) (all_counts new)
+  shares_passed h = h
 
   -- a call for one of them
-  pub shares_called : (t : ℕ) → t < length (hosted log disk old) → (disk old.shelf.store).failures ≤ (disk new.shelf.store).failures
-      → ((u : ℕ) → refusals_of (hosted log disk old) u ≤ refusals_of (hosted log disk new) u) → IsCountedFor log disk t old new
-      → AreShared (hosted log disk old) (hosted log disk new) (disk old.shelf.store).failures (disk new.shelf.store).failures (store_counts old) (store_counts new)
+  pub shares_called : {told : OverLimit → OverLimit} (t : ℕ) → t < length (hosted log disk old) → (disk old.shelf.store).failures ≤ (disk new.shelf.store).failures
+      → ((u : ℕ) → refusals_of (hosted log disk old) u ≤ refusals_of (hosted log disk new) u) → IsCountedBy told t (hosted log disk old) (hosted log disk new) (disk old.shelf.store).failures (disk new.shelf.store).failures (counts_of old) (counts_of new)
+      → AreShared (hosted log disk old) (hosted log disk new) (disk old.shelf.store).failures (disk new.shelf.store).failures (all_counts old) (all_counts new)
   shares_called t lt more grows h =
       let ps = hosted log disk old in
       let f = (disk old.shelf.store).failures in
@@ -114,12 +93,12 @@ module _ {L S : Type 0} (log : L → Log) (disk : S → Disk) (old new : Tenants
   uncounted : (ts : Tenants L S) (t : ℕ) → length (hosted log disk ts) ≤ t → (counts_of ts t).by_store ≡ 0
   uncounted ts t past =
       let many = length-map ts.tenants.items (state_of log (disk ts.shelf.store).files) in
-      sym (share_is ts.tenants.items t) ∙ get_or_past (store_counts ts) t 0 (omega (arith, past, many, length-map ts.tenants.items (λ (x : Tenant L). x.counts.by_store)))
+      ap (λ (c : Counts). c.by_store) (get_or_past (all_counts ts) t no_counts (omega (arith, past, many, length-map ts.tenants.items (λ (x : Tenant L). x.counts))))
 
   -- or for none, at a place behind the last
-  pub shares_turned : (t : ℕ) → length (hosted log disk new) ≡ length (hosted log disk old) → (disk old.shelf.store).failures ≤ (disk new.shelf.store).failures
-      → ((u : ℕ) → refusals_of (hosted log disk old) u ≤ refusals_of (hosted log disk new) u) → IsCountedFor log disk t old new
-      → AreShared (hosted log disk old) (hosted log disk new) (disk old.shelf.store).failures (disk new.shelf.store).failures (store_counts old) (store_counts new)
+  pub shares_turned : {told : OverLimit → OverLimit} (t : ℕ) → length (hosted log disk new) ≡ length (hosted log disk old) → (disk old.shelf.store).failures ≤ (disk new.shelf.store).failures
+      → ((u : ℕ) → refusals_of (hosted log disk old) u ≤ refusals_of (hosted log disk new) u) → IsCountedBy told t (hosted log disk old) (hosted log disk new) (disk old.shelf.store).failures (disk new.shelf.store).failures (counts_of old) (counts_of new)
+      → AreShared (hosted log disk old) (hosted log disk new) (disk old.shelf.store).failures (disk new.shelf.store).failures (all_counts old) (all_counts new)
   shares_turned t many more grows h = ⊎_elim (λ lt. shares_called t lt more grows h) (λ past. shares_passed (behind past)) (there_or_past t (length (hosted log disk old)))
     where
       there_or_past : (m n : ℕ) → (m < n) ⊎ (n ≤ m)

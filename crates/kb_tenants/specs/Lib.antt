@@ -2,6 +2,7 @@ pub mod Counts
 pub mod Ids
 pub mod Limited
 pub mod Members
+pub mod Over
 pub mod Renewal
 pub mod Tenants
 pub mod Turns

@@ -6,3 +6,4 @@ pub mod Refusals
 pub mod Server
 pub mod Shortened
 pub mod Turned
+pub mod Unread

@@ -15,7 +15,8 @@ use Rattle.kb_metrics.specs.declared.gauges.TenantGauges.{TenantGauges}
 use Rattle.kb_metrics.specs.declared.limits.Limits.{Limits}
 use Rattle.kb_node.specs.declared.tenant_traffic.TenantTraffic.{TenantTraffic}
 use Rattle.kb_tenant_api.specs.Hosted.{TenantState}
-use Rattle.kb_tenants.specs.Counts.{store_share}
+use Rattle.kb_tenants.specs.Counts.{over_at, store_share}
+use Rattle.kb_tenants.specs.declared.counts.Counts.{Counts}
 
 -- the requests that were counted, by API key: of nobody where they are not counted
 abbrev pub requests_of : Option TenantTraffic → List ℕ
@@ -47,8 +48,8 @@ limits_of name values = limits_in (data_of name values) (groups_of name values)
 
 -- What is told of the tenant at a place: what it keeps, its limits, how many connections are bound to it and how many of them wait, and what
 -- was counted at its place. One number stands apart: the bytes of its batches, which may not be known.
-abbrev pub observed_at : Values → ℕ → List Line → List ℕ → List TenantTraffic → TenantState → Observed
-observed_at values place lines by_store traffic t = record {
+abbrev pub observed_at : Values → ℕ → List Line → List Counts → List TenantTraffic → TenantState → Observed
+observed_at values place lines counts traffic t = record {
   name = t.name;
   world = t.kept.world;
   stored = None;
@@ -60,7 +61,8 @@ observed_at values place lines by_store traffic t = record {
   request_bytes = request_bytes_of (slice_get traffic place);
   response_bytes = response_bytes_of (slice_get traffic place);
   refusals = t.refusals;
-  store_refusals = store_share by_store place t.refusals;
+  store_refusals = store_share counts place t.refusals;
+  over = over_at counts place;
 }
 
 -- what there is, as a list
@@ -69,13 +71,13 @@ listed None = []
 listed (Some x) = x ∷ []
 
 -- of the tenant at a place of a broker, where there is one
-abbrev pub observed_slot : Values → BrokerState → List ℕ → List TenantTraffic → ℕ → List Observed
-observed_slot values b by_store traffic place =
-    listed (option_map (observed_at values place b.lines by_store traffic) (slice_get b.tenants place))
+abbrev pub observed_slot : Values → BrokerState → List Counts → List TenantTraffic → ℕ → List Observed
+observed_slot values b counts traffic place =
+    listed (option_map (observed_at values place b.lines counts traffic) (slice_get b.tenants place))
 
 -- of all its tenants, by their places
-abbrev pub observed_from : Values → BrokerState → List ℕ → List TenantTraffic → List Observed
-observed_from values b by_store traffic = flat_map (observed_slot values b by_store traffic) (range_with_len 0 (length b.tenants))
+abbrev pub observed_from : Values → BrokerState → List Counts → List TenantTraffic → List Observed
+observed_from values b counts traffic = flat_map (observed_slot values b counts traffic) (range_with_len 0 (length b.tenants))
 
 -- what is observed of a tenant, but for the bytes of its batches
 abbrev pub unstored : Observed → Observed

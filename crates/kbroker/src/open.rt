@@ -194,6 +194,7 @@ fn deleted_in<S: PutsOff + Drop>(
                 parts,
                 groups: _,
                 store_refusals: _,
+                over: _,
             } = view;
             catalogs.push(CatalogOf {
                 tenant: name,

@@ -7,6 +7,7 @@ ghost use Rattle.kb_node.specs.Cores.{seen};
 ghost use Rattle.kb_node.specs.Moves.{IsTurn};
 ghost use Rattle.kb_broker.specs.Hosts.{is_honest};
 ghost use Rattle.kbroker.specs.Ids.{AllGiveFresh};
+ghost use Rattle.kbroker.specs.Shortened.{may_shorten, AreShort};
 ghost use Rattle.kbroker.specs.Turned.{AreTurned, IsServed};
 
 use crate::catalogs::{may_shorten, shorten_catalogs};
@@ -174,7 +175,8 @@ fn serve_broker<S: Store + Drop, L: PartitionLog + Drop>(
 /// Opens the broker that is served, to which nobody is connected, and says what it has then. Members of a broker before are none of this
 /// one, and no producer id of a batch is given out again.
 ///
-/// Catalogs that get shorter by it are written anew, whatever files are of no log: but with `--drop-damaged` none is beside such a file.
+/// Each catalog to whose tenant nothing was refused is short then, whatever files are of no log: but with `--drop-damaged` no catalog is
+/// written anew beside such a file.
 fn open<S: PutsOff + Drop>(
     rt: &HostRuntime,
     start: Start<'_>,
@@ -184,6 +186,8 @@ fn open<S: PutsOff + Drop>(
 ) -> Result<(Restarted<S>, Held), Fault>
     ensures alone { IfOk result (λ both. both.0.broker.state.lines ≡ []) }
     ensures fresh { IfOk result (λ both. is_honest S.disk both.0.broker → AllGiveFresh both.0.broker.state) }
+    ensures short { IfOk result (λ both. is_honest S.disk both.0.broker
+        → may_shorten start.entry.consent both.0.strays.items ≡ true → AreShort both.0.broker) }
 {
     let (mut opened, _) = open_on(rt, start, store, folder, journal)?;
     let limits = group_limits(rt.alloc(), start.settings)?;

@@ -45,7 +45,7 @@ impl<'a, R: Net, S: Store, L: PartitionLog + Drop> Source for Shown<'a, R, S, L>
         let edge = shown.edge.now in
         let past = shown.history.now in
         let broker = edge.host.broker in
-        let seen = observed_from (values_of shown.settings.now) broker.state broker.by_store edge.traffic.items in
+        let seen = observed_from (values_of shown.settings.now) broker.state broker.counts edge.traffic.items in
         let server = server_at broker.state broker.strays (S.disk broker.store).failures (vec_len edge.sockets) edge.limit
         past.turns past.longest in
         let IsThis = IsProcess past.started (string_bytes past.start_text) in record {
@@ -132,7 +132,7 @@ fn push_metrics<R: Net, S: Store, L: PartitionLog + Drop>(
 ) -> Result<(), AllocError>
     requires { out.old.items ≡ [] }
     ensures { OnOk result (IsMetrics
-        (observed_from (values_of settings.now) edge.now.host.broker.state edge.now.host.broker.by_store edge.now.traffic.items)
+        (observed_from (values_of settings.now) edge.now.host.broker.state edge.now.host.broker.counts edge.now.traffic.items)
         (server_at edge.now.host.broker.state edge.now.host.broker.strays (S.disk edge.now.host.broker.store).failures
         (vec_len edge.now.sockets) edge.now.limit history.now.turns history.now.longest)
         (IsProcess history.now.started (string_bytes history.now.start_text)) out.new.items) }
@@ -155,7 +155,7 @@ fn push_status_page<R: Net, S: Store, L: PartitionLog + Drop>(
 ) -> Result<(), AllocError>
     requires { out.old.items ≡ [] }
     ensures { OnOk result (IsStatus
-        (observed_from (values_of settings.now) edge.now.host.broker.state edge.now.host.broker.by_store edge.now.traffic.items)
+        (observed_from (values_of settings.now) edge.now.host.broker.state edge.now.host.broker.counts edge.now.traffic.items)
         (server_at edge.now.host.broker.state edge.now.host.broker.strays (S.disk edge.now.host.broker.store).failures
         (vec_len edge.now.sockets) edge.now.limit history.now.turns history.now.longest)
         (IsProcess history.now.started (string_bytes history.now.start_text)) history.now.rates.items out.new.items) }
@@ -189,7 +189,7 @@ fn tenants_of<'a, R: Net, S: Store, L: PartitionLog + Drop>(
     settings: &Settings,
 ) -> Result<Vec<TenantGauges<'a, L>>, AllocError>
     ensures { IfOk result (λ tenants. map (looked_at L.log (S.disk edge.now.host.broker.store).files) tenants.items
-        ≡ observed_from (values_of settings.now) edge.now.host.broker.state edge.now.host.broker.by_store edge.now.traffic.items) }
+        ≡ observed_from (values_of settings.now) edge.now.host.broker.state edge.now.host.broker.counts edge.now.traffic.items) }
 {
     let count = edge.broker().tenants_len();
     let mut tenants = Vec::with_capacity(alloc, count)?;
@@ -208,7 +208,7 @@ fn push_gauges<'a, R: Net, S: Store, L: PartitionLog + Drop>(
 ) -> Result<(), AllocError>
     ensures { OnOk result (map (looked_at L.log (S.disk edge.now.host.broker.store).files) tenants.new.items
         ≡ map (looked_at L.log (S.disk edge.now.host.broker.store).files) tenants.old.items
-        ++ observed_slot (values_of settings.now) edge.now.host.broker.state edge.now.host.broker.by_store edge.now.traffic.items place) }
+        ++ observed_slot (values_of settings.now) edge.now.host.broker.state edge.now.host.broker.counts edge.now.traffic.items place) }
 {
     if let Some(gauges) = gauges_at(edge, settings, place) {
         tenants.push(gauges)?;
@@ -223,7 +223,7 @@ fn gauges_at<'a, R: Net, S: Store, L: PartitionLog + Drop>(
     place: usize,
 ) -> Option<TenantGauges<'a, L>>
     ensures { option_map (looked_at L.log (S.disk edge.now.host.broker.store).files) result
-        ≡ option_map (observed_at (values_of settings.now) place edge.now.host.broker.state.lines edge.now.host.broker.by_store
+        ≡ option_map (observed_at (values_of settings.now) place edge.now.host.broker.state.lines edge.now.host.broker.counts
         edge.now.traffic.items) (slice_get edge.now.host.broker.state.tenants place) }
 {
     let broker = edge.broker();
@@ -232,6 +232,7 @@ fn gauges_at<'a, R: Net, S: Store, L: PartitionLog + Drop>(
         parts,
         groups,
         store_refusals,
+        over,
     } = broker.tenant(place)?;
     Some(TenantGauges {
         name,
@@ -242,6 +243,7 @@ fn gauges_at<'a, R: Net, S: Store, L: PartitionLog + Drop>(
         waiting: broker.waiting_of(place) as u64,
         traffic: traffic_at(edge, place),
         store_refusals,
+        over,
     })
 }
 

@@ -2,6 +2,7 @@
 
 ghost use Rattle.std.specs.Prelude.{◌≡◌, ◌≤◌, ◌^◌};
 ghost use Rattle.kbroker.specs.Refusals.{refusals_at};
+ghost use Rattle.kbroker.specs.Unread.{unread_at};
 
 use crate::causes::text_of;
 use kb_broker::Broker;
@@ -22,6 +23,8 @@ pub struct CountsOf<'a, S: Store, L: PartitionLog + Drop>(
 );
 
 impl<'a, S: Store, L: PartitionLog + Drop> RefusalCounts for CountsOf<'a, S, L> {
+    ghost unread = { λ counts place. unread_at place counts.2.now };
+
     fn is_calm(&self) -> bool {
         self.0.is_calm()
     }
@@ -35,13 +38,7 @@ impl<'a, S: Store, L: PartitionLog + Drop> RefusalCounts for CountsOf<'a, S, L> 
     }
 
     fn unread_of_tenant(&self, place: usize) -> Unread {
-        match self.2.get(place) {
-            Some(waits) => Unread {
-                waits: waits.times,
-                bytes: waits.bytes,
-            },
-            None => Unread { waits: 0, bytes: 0 },
-        }
+        unread_at(self.2, place)
     }
 
     fn before_login(&self) -> u64 {
@@ -58,7 +55,7 @@ fn refusals_at<S: Store, L: PartitionLog + Drop>(
     broker: &Broker<S, L>,
     place: usize,
 ) -> TenantRefusals
-    ensures { result ≡ refusals_at place broker.now.state.tenants broker.now.by_store }
+    ensures { result ≡ refusals_at place broker.now.state.tenants broker.now.counts }
 {
     match broker.tenant(place) {
         Some(
@@ -67,12 +64,26 @@ fn refusals_at<S: Store, L: PartitionLog + Drop>(
                 parts,
                 groups: _,
                 store_refusals,
+                over: _,
             },
         ) => TenantRefusals {
             all: parts.refusals(),
             by_disk: store_refusals,
         },
         None => TenantRefusals { all: 0, by_disk: 0 },
+    }
+}
+
+/// How the tenant at a place waits for those that read its replies, by what was counted of each: not at all where nothing was.
+fn unread_at(counted: &[ReaderWaits], place: usize) -> Unread
+    ensures { result ≡ unread_at place counted.now }
+{
+    match counted.get(place) {
+        Some(waits) => Unread {
+            waits: waits.times,
+            bytes: waits.bytes,
+        },
+        None => Unread { waits: 0, bytes: 0 },
     }
 }
 

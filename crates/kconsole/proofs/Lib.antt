@@ -1,1 +1,2 @@
 mod Building
+mod Giving

@@ -1,9 +1,10 @@
 //! `kconsole consume`: prints the lines of a partition.
 
-ghost use Rattle.std.specs.Prelude.{◌≡◌, OnOk, IfOk};
+ghost use Rattle.std.specs.Prelude.{◌≡◌, [], OnOk, IfOk};
 ghost use Rattle.std.specs.Io.KnownBytes.{Appends};
 ghost use Rattle.kb_client.specs.Consumer.{fresh, without_text};
 ghost use Rattle.kconsole.specs.Console.{IsWithin, address_of, address_text, target_of};
+ghost use Rattle.kconsole.specs.Printing.{Gives, Prints, PrintsAll};
 
 use crate::console::ConsoleLine;
 use crate::fault::Fault;
@@ -11,7 +12,6 @@ use crate::link::Link;
 use crate::place::Place;
 use kb_client::ConsumerCore;
 use std::alloc::{AllocError, Global};
-use std::io;
 use std::io::Write;
 
 /// How often it asks or waits at most.
@@ -21,25 +21,19 @@ const TURNS: u64 = 9_223_372_036_854_775_807;
 const BUFFER_BYTES: usize = 262_144;
 
 /// Prints the lines of a partition from an offset on, at most so many.
-pub fn consume(
+pub fn consume<W: Write>(
     rt: &HostRuntime,
     line: ConsoleLine,
     from: i64,
     max: Option<u64>,
     follow: bool,
+    writer: &mut W,
 ) -> Result<(), Fault>
     requires { IsWithin line }
+    ensures { OnOk result (PrintsAll (fresh (target_of line) from max follow) (W.contents writer.old) (W.contents writer.new)) }
 {
-    let alloc = rt.alloc();
-    let (mut core, mut link) = begin(alloc, line, from, max, follow)?;
-    let mut buffer = vec![in alloc; 0; BUFFER_BYTES]?;
-    for _ in 0..TURNS {
-        if core.finished() {
-            return Ok(());
-        }
-        turn(rt, &mut core, &mut link, &mut buffer)?;
-    }
-    Err(Fault::Read)
+    let (mut core, mut link) = begin(rt.alloc(), line, from, max, follow)?;
+    print_all(rt, &mut core, &mut link, writer)
 }
 
 /// A consumer of the line's partition as the line's user, and the way to the line's broker.
@@ -64,27 +58,72 @@ fn begin(
     Ok((core, link))
 }
 
+/// Goes on until each line that is asked for is printed.
+fn print_all<W: Write>(
+    rt: &HostRuntime,
+    core: &mut ConsumerCore,
+    link: &mut Link,
+    writer: &mut W,
+) -> Result<(), Fault>
+    ensures { OnOk result (PrintsAll core.old (W.contents writer.old) (W.contents writer.new)) }
+{
+    let mut buffer = vec![in rt.alloc(); 0; BUFFER_BYTES]?;
+    for _ in 0..TURNS {
+        if core.finished() {
+            return Ok(());
+        }
+        turn(rt, core, link, &mut buffer, writer)?;
+    }
+    Err(Fault::Read)
+}
+
 /// Sends a request, or waits for a piece of its reply and prints the lines that it completes.
-fn turn(
+fn turn<W: Write>(
     rt: &HostRuntime,
     core: &mut ConsumerCore,
     link: &mut Link,
     buffer: &mut [u8],
-) -> Result<(), Fault> {
-    if link.connect(rt)? {
-        core.connected();
-    }
-    let request = core.take_output()?;
-    if !request.is_empty() && !link.send(&request) {
+    writer: &mut W,
+) -> Result<(), Fault>
+    ensures { OnOk result (Prints core.old (W.contents writer.old) (W.contents writer.new) core.new) }
+{
+    if !ask(rt, core, link)? {
         return Ok(());
     }
     let n = link.receive(buffer);
     if n == 0 {
         return Ok(());
     }
-    let done = core.input(&buffer[..n]);
-    print_lines(core, &mut io::writer(rt))?;
-    Ok(done?)
+    take_in(core, &buffer[..n], writer)
+}
+
+/// Sends the request whose turn it is, over a new connection where there is none. `false`: the connection ended.
+fn ask(rt: &HostRuntime, core: &mut ConsumerCore, link: &mut Link) -> Result<bool, Fault>
+    ensures { OnOk result (Gives core.old [] core.new) }
+{
+    connect(rt, core, link)?;
+    let request = core.take_output()?;
+    Ok(request.is_empty() || link.send(&request))
+}
+
+/// Connects where there is no connection.
+fn connect(rt: &HostRuntime, core: &mut ConsumerCore, link: &mut Link) -> Result<(), Fault>
+    ensures { OnOk result (Gives core.old [] core.new) }
+{
+    if !link.connect(rt)? {
+        return Ok(());
+    }
+    core.connected();
+    Ok(())
+}
+
+/// Takes a piece of a reply, and prints the lines that it completes.
+fn take_in<W: Write>(core: &mut ConsumerCore, piece: &[u8], writer: &mut W) -> Result<(), Fault>
+    ensures { OnOk result (Prints core.old (W.contents writer.old) (W.contents writer.new) core.new) }
+{
+    let taken = core.input(piece);
+    print_lines(core, writer)?;
+    Ok(taken?)
 }
 
 /// Prints the lines that were found and not printed yet, each once and in order.

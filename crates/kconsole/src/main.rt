@@ -17,6 +17,7 @@ mod words;
 use console::Task;
 use fault::Fault;
 use kb_process::hold_streams;
+use std::io;
 use std::process::ExitCode;
 
 fn run(rt: &HostRuntime) -> Result<(), Fault> {
@@ -24,7 +25,9 @@ fn run(rt: &HostRuntime) -> Result<(), Fault> {
     let task = line.task;
     match task {
         Task::Produce { create } => produce::produce(rt, line, create),
-        Task::Consume { from, max, follow } => consume::consume(rt, line, from, max, follow),
+        Task::Consume { from, max, follow } => {
+            consume::consume(rt, line, from, max, follow, &mut io::writer(rt))
+        }
     }
 }
 

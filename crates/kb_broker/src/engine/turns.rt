@@ -44,7 +44,7 @@ impl<L: PartitionLog + Drop, S: Store> Engine<L, S> {
         ensures spoken { SpeaksAt (Comes (number_at i self.old.state) piece.now) self.old.state self.new.state }
         ensures store { self.new.store ≡ self.old.store }
         ensures strays { self.new.strays ≡ self.old.strays }
-        ensures by_store { self.new.by_store ≡ self.old.by_store }
+        ensures counts { self.new.counts ≡ self.old.counts }
     {
         if self.connections[i].overruns(piece) {
             self.leave(i); // it is shut
@@ -73,7 +73,7 @@ impl<L: PartitionLog + Drop, S: Store> Engine<L, S> {
             } }
         ensures store { self.new.store ≡ self.old.store }
         ensures strays { self.new.strays ≡ self.old.strays }
-        ensures by_store { self.new.by_store ≡ self.old.by_store }
+        ensures counts { self.new.counts ≡ self.old.counts }
         ensures commands { self.new.commands ≡ self.old.commands }
     {
         let connection = &self.connections[i];
@@ -379,7 +379,7 @@ impl<L: PartitionLog + Drop, S: Store> Engine<L, S> {
         ensures counted { IsCountedAt number (stage_of phase) self.old.state self.new.state }
         ensures store { self.new.store ≡ self.old.store }
         ensures strays { self.new.strays ≡ self.old.strays }
-        ensures by_store { self.new.by_store ≡ self.old.by_store }
+        ensures counts { self.new.counts ≡ self.old.counts }
     {
         match phase {
             Phase::Greets(_) => self.unbound_refusals = counted(self.unbound_refusals),

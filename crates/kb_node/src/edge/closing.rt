@@ -2,7 +2,7 @@
 
 ghost use Rattle.std.specs.Prelude.{◌≡◌, ◌<◌, true, None, IfSome, slice_get, slice_set, vec_len};
 ghost use Rattle.kb_node.specs.Cores.{seen};
-ghost use Rattle.kb_node.specs.Moves.{Goes};
+ghost use Rattle.kb_node.specs.Moves.{Goes, GoesTelling};
 ghost use Rattle.std.specs.Bool.{OnTrue};
 ghost use Rattle.kb_shares.specs.Ledger.{amount_of, let_go};
 ghost use Rattle.kb_shares.specs.Shares.{has_room};
@@ -368,15 +368,16 @@ impl<R: Net, S: Store, L: PartitionLog + Drop> Edge<R, S, L> {
     }
 
     /// Closes the socket of a connection.
-    #[tactic(auto, using(crate::proofs::Goes::goes_then, crate::proofs::Goes::goes_none))]
+    #[tactic(auto, using(crate::proofs::Goes::goes_then, crate::proofs::Goes::goes_none, crate::proofs::Telling::telling_none))]
     pub(super) fn close(&mut self, alloc: Global, number: u64, turn: &mut Turn)
         ensures lanes { self.new.lanes ≡ self.old.lanes }
         ensures commits { self.new.host.commits ≡ self.old.host.commits }
-        ensures store { self.new.host.broker.store ≡ self.old.host.broker.store }
         ensures released { holder_of number self.new.shares.sockets ≡ None }
         ensures shares { self.new.shares ≡ released number self.old.shares }
         ensures replies { self.new.replies ≡ let_go number self.old.replies }
         ensures inputs { self.new.inputs ≡ let_go number self.old.inputs }
+        ensures tells { GoesTelling S.disk R.Stream.contents R.Stream.remaining (seen self.old.host self.old.sockets.items)
+            (seen self.new.host self.new.sockets.items) }
         ensures goes { Goes S.disk R.Stream.contents R.Stream.remaining (seen self.old.host self.old.sockets.items)
             (seen self.new.host self.new.sockets.items) }
     {

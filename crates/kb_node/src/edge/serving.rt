@@ -1,7 +1,7 @@
 //! How an edge serves its sockets.
 
 ghost use Rattle.std.specs.Prelude.{◌≡◌, ◌-◌, true, false, None, Some, IfErr, IfSome, OnOk, slice_get, slice_set, vec_len};
-ghost use Rattle.kb_node.specs.Moves.{Goes};
+ghost use Rattle.kb_node.specs.Moves.{Goes, GoesTelling};
 ghost use Rattle.kb_node.specs.Cores.{seen};
 ghost use Rattle.kb_node.specs.Commits.{may_tell, tells_at_once};
 ghost use Rattle.kb_shares.specs.Ledger.{set_to};
@@ -11,7 +11,7 @@ ghost use Rattle.kb_node.specs.Numbers.{IsInOrder, socket_of};
 ghost use Rattle.kb_node.specs.Seats.{IsLeft};
 ghost use Rattle.kb_node.specs.TenantTraffic.{with_traffic};
 ghost use Rattle.kb_node.specs.Replies.{kept_for, place_of};
-ghost use Rattle.kb_node.specs.Waiting.{begun_by, behind, room_behind};
+ghost use Rattle.kb_node.specs.Waiting.{IsBehind, begun_by, behind, room_behind};
 
 use crate::committed::Committed;
 use crate::edge::Edge;
@@ -36,6 +36,9 @@ const TOGETHER: usize = 256;
 
 /// Behind them sockets with long requests are asked in such a turn until their requests have so many bytes together.
 const LONG_TOGETHER: u64 = 524_288;
+
+/// How many of these are asked at most: a long request has 65,536 bytes or more.
+const MOST_LONG: usize = 8;
 
 /// What was seen of a socket, and of a turn, before the socket was served.
 #[derive(Clone, Copy)]
@@ -102,14 +105,15 @@ impl<R: Net, S: Store, L: PartitionLog + Drop> Edge<R, S, L> {
     }
 
     /// Serves the socket of a connection once.
-    #[tactic(auto, using(crate::proofs::Goes::goes_then, crate::proofs::Goes::goes_none, crate::proofs::Goes::goes_carried))]
+    #[tactic(auto, using(crate::proofs::Goes::goes_then, crate::proofs::Goes::goes_none, crate::proofs::Goes::goes_carried, crate::proofs::Telling::telling_none))]
     pub(super) fn serve_one(&mut self, alloc: Global, number: u64, turn: &mut Turn)
         requires { tells_at_once self.old.host.commits ≡ true }
         ensures commits { tells_at_once self.new.host.commits ≡ true }
         ensures lanes { self.new.lanes ≡ self.old.lanes }
-        // Nothing is handed on where its holder has too much that is unread.
+        // Nothing is read or handed on where its holder has too much that is unread.
         ensures unasked { has_room (place_of number self.old.shares) 1 self.old.replies.pool ≡ false
-            → self.new.host.broker.store ≡ self.old.host.broker.store }
+            → GoesTelling S.disk R.Stream.contents R.Stream.remaining (seen self.old.host self.old.sockets.items)
+            (seen self.new.host self.new.sockets.items) }
         ensures goes { Goes S.disk R.Stream.contents R.Stream.remaining (seen self.old.host self.old.sockets.items)
             (seen self.new.host self.new.sockets.items) }
     {
@@ -179,15 +183,15 @@ impl<R: Net, S: Store, L: PartitionLog + Drop> Edge<R, S, L> {
         }
     }
 
-    /// The same for those of the long lane, until their requests have too many bytes together.
+    /// The same for those of the long lane, eight at most, until their requests have too many bytes together.
     #[tactic(auto, using(crate::proofs::Goes::goes_then, crate::proofs::Goes::goes_none))]
     fn hand_on_long(&mut self, alloc: Global, turn: &mut Turn)
-        ensures short { self.new.lanes.short ≡ self.old.lanes.short }
+        ensures lanes { IsBehind 8 self.old.lanes self.new.lanes }
         ensures goes { Goes S.disk R.Stream.contents R.Stream.remaining (seen self.old.host self.old.sockets.items)
             (seen self.new.host self.new.sockets.items) }
     {
         let mut room = LONG_TOGETHER;
-        for _ in 0..TOGETHER {
+        for _ in 0..MOST_LONG {
             room = self.hand_on_within(alloc, room, turn);
             if room == 0 {
                 break;
@@ -224,12 +228,13 @@ impl<R: Net, S: Store, L: PartitionLog + Drop> Edge<R, S, L> {
     }
 
     /// The same for the socket of a connection.
-    #[tactic(auto, using(crate::proofs::Goes::goes_then, crate::proofs::Goes::goes_none))]
+    #[tactic(auto, using(crate::proofs::Goes::goes_then, crate::proofs::Goes::goes_none, crate::proofs::Telling::telling_none))]
     fn hand_on_next(&mut self, alloc: Global, number: u64, turn: &mut Turn)
         ensures lanes { self.new.lanes ≡ self.old.lanes }
-        // Nothing is handed on where its holder has too much that is unread.
+        // Nothing is read or handed on where its holder has too much that is unread.
         ensures unasked { has_room (place_of number self.old.shares) 1 self.old.replies.pool ≡ false
-            → self.new.host.broker.store ≡ self.old.host.broker.store }
+            → GoesTelling S.disk R.Stream.contents R.Stream.remaining (seen self.old.host self.old.sockets.items)
+            (seen self.new.host self.new.sockets.items) }
         ensures goes { Goes S.disk R.Stream.contents R.Stream.remaining (seen self.old.host self.old.sockets.items)
             (seen self.new.host self.new.sockets.items) }
     {
@@ -254,9 +259,10 @@ impl<R: Net, S: Store, L: PartitionLog + Drop> Edge<R, S, L> {
     }
 
     /// Hands on a request of the socket of a connection, where it may ask.
-    #[tactic(auto, using(crate::proofs::Goes::goes_then, crate::proofs::Goes::goes_none, crate::proofs::Goes::goes_carried))]
+    #[tactic(auto, using(crate::proofs::Goes::goes_then, crate::proofs::Goes::goes_none, crate::proofs::Goes::goes_carried, crate::proofs::Telling::telling_none))]
     fn hand_on_one(&mut self, alloc: Global, number: u64, may_ask: bool, turn: &mut Turn)
-        ensures unasked { may_ask ≡ false → self.new.host.broker.store ≡ self.old.host.broker.store }
+        ensures unasked { may_ask ≡ false → GoesTelling S.disk R.Stream.contents R.Stream.remaining
+            (seen self.old.host self.old.sockets.items) (seen self.new.host self.new.sockets.items) }
         ensures lanes { self.new.lanes ≡ self.old.lanes }
         ensures goes { Goes S.disk R.Stream.contents R.Stream.remaining (seen self.old.host self.old.sockets.items)
             (seen self.new.host self.new.sockets.items) }
@@ -289,11 +295,11 @@ impl<R: Net, S: Store, L: PartitionLog + Drop> Edge<R, S, L> {
     }
 
     /// Each socket that can go on and was not asked is told what there is to say to it.
-    #[tactic(auto, using(crate::proofs::Goes::goes_then, crate::proofs::Goes::goes_none))]
+    #[tactic(auto, using(crate::proofs::Telling::telling_then, crate::proofs::Telling::telling_none))]
     fn tell(&mut self, alloc: Global, turn: &mut Turn)
         requires { may_tell self.old.host.commits ≡ true }
         ensures commits { self.new.host.commits ≡ self.old.host.commits }
-        ensures goes { Goes S.disk R.Stream.contents R.Stream.remaining (seen self.old.host self.old.sockets.items)
+        ensures tells { GoesTelling S.disk R.Stream.contents R.Stream.remaining (seen self.old.host self.old.sockets.items)
             (seen self.new.host self.new.sockets.items) }
     {
         let spare = mem::replace(&mut self.spare, Vec::new(alloc));
@@ -306,11 +312,11 @@ impl<R: Net, S: Store, L: PartitionLog + Drop> Edge<R, S, L> {
     }
 
     /// Each socket that was asked is told what there is to say to it.
-    #[tactic(auto, using(crate::proofs::Goes::goes_then, crate::proofs::Goes::goes_none))]
+    #[tactic(auto, using(crate::proofs::Telling::telling_then, crate::proofs::Telling::telling_none))]
     fn tell_asked(&mut self, alloc: Global, turn: &mut Turn)
         requires { may_tell self.old.host.commits ≡ true }
         ensures commits { self.new.host.commits ≡ self.old.host.commits }
-        ensures goes { Goes S.disk R.Stream.contents R.Stream.remaining (seen self.old.host self.old.sockets.items)
+        ensures tells { GoesTelling S.disk R.Stream.contents R.Stream.remaining (seen self.old.host self.old.sockets.items)
             (seen self.new.host self.new.sockets.items) }
     {
         let mut round = mem::replace(&mut self.asked, Vec::new(alloc));
@@ -322,11 +328,11 @@ impl<R: Net, S: Store, L: PartitionLog + Drop> Edge<R, S, L> {
     }
 
     /// Tells the socket of a connection what there is to say to it.
-    #[tactic(auto, using(crate::proofs::Goes::goes_then, crate::proofs::Goes::goes_none, crate::proofs::Goes::goes_carried))]
+    #[tactic(auto, using(crate::proofs::Telling::telling_then, crate::proofs::Telling::telling_none))]
     fn tell_one(&mut self, alloc: Global, number: u64, turn: &mut Turn)
         requires { may_tell self.old.host.commits ≡ true }
         ensures commits { self.new.host.commits ≡ self.old.host.commits }
-        ensures goes { Goes S.disk R.Stream.contents R.Stream.remaining (seen self.old.host self.old.sockets.items)
+        ensures tells { GoesTelling S.disk R.Stream.contents R.Stream.remaining (seen self.old.host self.old.sockets.items)
             (seen self.new.host self.new.sockets.items) }
     {
         let Some(place) = self.place_of(number) else {
@@ -346,12 +352,11 @@ impl<R: Net, S: Store, L: PartitionLog + Drop> Edge<R, S, L> {
     }
 
     /// Notes what became of the socket at a place, which was served: whether its login failed, and whether it can go on.
-    #[tactic(auto, using(crate::proofs::Goes::goes_then, crate::proofs::Goes::goes_none))]
+    #[tactic(auto, using(crate::proofs::Telling::telling_then, crate::proofs::Telling::telling_none))]
     fn note(&mut self, alloc: Global, place: usize, before: Before, next: Next, turn: &mut Turn)
         ensures lanes { self.new.lanes ≡ self.old.lanes }
         ensures commits { self.new.host.commits ≡ self.old.host.commits }
-        ensures store { self.new.host.broker.store ≡ self.old.host.broker.store }
-        ensures goes { Goes S.disk R.Stream.contents R.Stream.remaining (seen self.old.host self.old.sockets.items)
+        ensures tells { GoesTelling S.disk R.Stream.contents R.Stream.remaining (seen self.old.host self.old.sockets.items)
             (seen self.new.host self.new.sockets.items) }
     {
         self.note_served(place, before);
@@ -402,12 +407,11 @@ impl<R: Net, S: Store, L: PartitionLog + Drop> Edge<R, S, L> {
 
     /// Where a login on the socket at a place failed now, it waits for its answer from now on. It answers false where that cannot be noted,
     /// and it is closed.
-    #[tactic(auto, using(crate::proofs::Goes::goes_then, crate::proofs::Goes::goes_none))]
+    #[tactic(auto, using(crate::proofs::Telling::telling_then, crate::proofs::Telling::telling_none))]
     fn note_denied(&mut self, alloc: Global, place: usize, turn: &mut Turn) -> bool
         ensures lanes { self.new.lanes ≡ self.old.lanes }
         ensures commits { self.new.host.commits ≡ self.old.host.commits }
-        ensures store { self.new.host.broker.store ≡ self.old.host.broker.store }
-        ensures goes { Goes S.disk R.Stream.contents R.Stream.remaining (seen self.old.host self.old.sockets.items)
+        ensures tells { GoesTelling S.disk R.Stream.contents R.Stream.remaining (seen self.old.host self.old.sockets.items)
             (seen self.new.host self.new.sockets.items) }
     {
         let Some(socket) = self.sockets.get_mut(place) else {
@@ -427,15 +431,14 @@ impl<R: Net, S: Store, L: PartitionLog + Drop> Edge<R, S, L> {
 
     /// Notes what the socket at a place has still to be written, for its own holder. It answers false where that cannot be noted, and it is
     /// closed.
-    #[tactic(auto, using(crate::proofs::Goes::goes_then, crate::proofs::Goes::goes_none))]
+    #[tactic(auto, using(crate::proofs::Telling::telling_then, crate::proofs::Telling::telling_none))]
     fn note_written(&mut self, alloc: Global, place: usize, before: Before, turn: &mut Turn) -> bool
         ensures lanes { self.new.lanes ≡ self.old.lanes }
         ensures commits { self.new.host.commits ≡ self.old.host.commits }
-        ensures store { self.new.host.broker.store ≡ self.old.host.broker.store }
         ensures booked { result ≡ true → IfSome (slice_get self.old.sockets.items place) (λ s. self.new.replies
             ≡ set_to s.connection (place_of s.connection self.old.shares)
             (kept_for (vec_len s.output - s.written) before.promised) self.old.replies) }
-        ensures goes { Goes S.disk R.Stream.contents R.Stream.remaining (seen self.old.host self.old.sockets.items)
+        ensures tells { GoesTelling S.disk R.Stream.contents R.Stream.remaining (seen self.old.host self.old.sockets.items)
             (seen self.new.host self.new.sockets.items) }
     {
         let Some(socket) = self.sockets.get_mut(place) else {
@@ -462,14 +465,13 @@ impl<R: Net, S: Store, L: PartitionLog + Drop> Edge<R, S, L> {
 
     /// Notes how many bytes the request has that the socket at a place has begun, for its own holder, and since when. It answers false
     /// where that cannot be noted, and it is closed.
-    #[tactic(auto, using(crate::proofs::Goes::goes_then, crate::proofs::Goes::goes_none))]
+    #[tactic(auto, using(crate::proofs::Telling::telling_then, crate::proofs::Telling::telling_none))]
     fn note_input(&mut self, alloc: Global, place: usize, before: Before, turn: &mut Turn) -> bool
         ensures lanes { self.new.lanes ≡ self.old.lanes }
         ensures commits { self.new.host.commits ≡ self.old.host.commits }
-        ensures store { self.new.host.broker.store ≡ self.old.host.broker.store }
         ensures booked { result ≡ true → IfSome (slice_get self.old.sockets.items place) (λ s. self.new.inputs
             ≡ set_to s.connection (place_of s.connection self.old.shares) s.input.progress.size self.old.inputs) }
-        ensures goes { Goes S.disk R.Stream.contents R.Stream.remaining (seen self.old.host self.old.sockets.items)
+        ensures tells { GoesTelling S.disk R.Stream.contents R.Stream.remaining (seen self.old.host self.old.sockets.items)
             (seen self.new.host self.new.sockets.items) }
     {
         let Some(socket) = self.sockets.get_mut(place) else {

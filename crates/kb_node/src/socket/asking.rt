@@ -47,6 +47,7 @@ impl<T: Read + Write + Drop> Socket<T> {
         requires { can_ask self.now.is_over (vec_len self.now.output - self.now.written) self.now.connection host.now.broker.state ≡ true }
         ensures carries { Carries S.disk T.contents T.remaining self.old self.new host.old.broker host.new.broker }
         ensures connection { self.new.connection ≡ self.old.connection }
+        ensures unwritten { unwritten_of self.new ≡ unwritten_of self.old }
         ensures seat { KeepsSeat self.old self.new }
         ensures ended { self.new.is_ended ≡ self.old.is_ended }
         ensures numbers { numbers host.new.broker.state ≡ numbers host.old.broker.state }

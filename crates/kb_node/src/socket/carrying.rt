@@ -1,11 +1,11 @@
 //! What a socket carries between its stream and its connection.
 
-ghost use Rattle.std.specs.Prelude.{◌≡◌, ◌≢◌, ◌<◌, ◌+◌, ◌-◌, ◌^◌, ◌++◌, min, ℕ, List, true, false, None, IfSome, vec_len};
+ghost use Rattle.std.specs.Prelude.{◌≡◌, ◌≢◌, ◌<◌, ◌+◌, ◌-◌, ◌^◌, ◌++◌, min, ℕ, List, [], true, false, None, IfSome, vec_len};
 ghost use Rattle.std.specs.Io.KnownBytes.{Appends};
 ghost use Rattle.kb_isolation_spec.specs.Broker.{bound_to};
-ghost use Rattle.kb_isolation_spec.specs.Calls.{is_open, login_of};
+ghost use Rattle.kb_isolation_spec.specs.Calls.{is_open, login_of, output_of};
 ghost use Rattle.kb_broker.specs.Places.{numbers};
-ghost use Rattle.kb_node.specs.Carries.{Carries, unhanded_of, unwritten_of};
+ghost use Rattle.kb_node.specs.Carries.{Carries, HasToldAll, Tells, TellsInTurn, unhanded_of, unwritten_of};
 ghost use Rattle.kb_node.specs.Commits.{may_tell, tells_at_once};
 ghost use Rattle.kb_node.specs.News.{IsAdded};
 ghost use Rattle.kb_node.specs.Seats.{IsReseated, KeepsSeat};
@@ -50,16 +50,19 @@ impl<T: Read + Write + Drop> Socket<T> {
         ensures connection { self.new.connection ≡ self.old.connection }
         ensures seat { IsReseated self.old self.new shares.old shares.new }
         ensures tried { host.new.tried ≡ host.old.tried }
-        // With nothing to be asked nothing is done but to tell what was said, and to close.
-        ensures unasked { may_ask ≡ false → host.new.broker.store ≡ host.old.broker.store }
+        // Where it may not be asked nothing is read or handed on.
+        ensures unasked { may_ask ≡ false
+            → Tells S.disk T.contents T.remaining self.old self.new host.old.broker host.new.broker }
         ensures at_once { tells_at_once host.new.commits ≡ true }
         // Where it has ended the broker was told, and its connection is not open.
         ensures ended { self.new.is_ended ≡ true → is_open self.old.connection host.new.broker.state ≡ false }
         ensures over { result ≡ End → self.new.is_ended ≡ true }
         // Else its connection and all others are open as before, and there is no cause to close it.
-        ensures open { result ≢ End → numbers host.new.broker.state ≡ numbers host.old.broker.state }
-        ensures stays { result ≢ End → is_done self.new.is_over self.new.is_half_closed self.new.may_answer
-            (vec_len self.new.output - self.new.written) self.new.connection host.new.broker.state ≡ false }
+        ensures stays { result ≢ End → (numbers host.new.broker.state ≡ numbers host.old.broker.state)
+            × (is_done self.new.is_over self.new.is_half_closed self.new.may_answer
+            (vec_len self.new.output - self.new.written) self.new.connection host.new.broker.state ≡ false) }
+        // Then the broker has nothing more to say to it, but to a failed login before its time.
+        ensures told { TellsInTurn self.old host.old.broker.state → result ≢ End → HasToldAll self.new host.new.broker.state }
     {
         self.write_output(alloc, host, turn);
         if may_ask && self.can_ask(host.broker()) {
@@ -93,8 +96,10 @@ impl<T: Read + Write + Drop> Socket<T> {
         ensures tried { host.new.tried ≡ host.old.tried }
         ensures ended { self.new.is_ended ≡ self.old.is_ended }
         ensures numbers { numbers host.new.broker.state ≡ numbers host.old.broker.state }
-        // With nothing to be asked the broker is not called.
-        ensures unasked { may_ask ≡ false → host.new ≡ host.old }
+        // Where it may not be asked the broker is not called, and nothing is read.
+        ensures uncalled { may_ask ≡ false → host.new ≡ host.old }
+        ensures unasked { may_ask ≡ false
+            → Tells S.disk T.contents T.remaining self.old self.new host.old.broker host.new.broker }
     {
         self.write_on(turn);
         if may_ask && self.can_ask(host.broker()) && !host.speaks(self.connection) {
@@ -118,11 +123,10 @@ impl<T: Read + Write + Drop> Socket<T> {
     ) -> Next
         requires not_ended { self.now.is_ended ≡ false }
         requires may_tell { may_tell host.old.commits ≡ true }
-        ensures carries { Carries S.disk T.contents T.remaining self.old self.new host.old.broker host.new.broker }
+        ensures tells { Tells S.disk T.contents T.remaining self.old self.new host.old.broker host.new.broker }
         ensures connection { self.new.connection ≡ self.old.connection }
         ensures seat { KeepsSeat self.old self.new }
         ensures tried { host.new.tried ≡ host.old.tried }
-        ensures store { host.new.broker.store ≡ host.old.broker.store }
         ensures commits { host.new.commits ≡ host.old.commits }
         // Where it has ended the broker was told, and its connection is not open.
         ensures ended { self.new.is_ended ≡ true → is_open self.old.connection host.new.broker.state ≡ false }
@@ -131,6 +135,8 @@ impl<T: Read + Write + Drop> Socket<T> {
         ensures open { result ≢ End → numbers host.new.broker.state ≡ numbers host.old.broker.state }
         ensures stays { result ≢ End → is_done self.new.is_over self.new.is_half_closed self.new.may_answer
             (vec_len self.new.output - self.new.written) self.new.connection host.new.broker.state ≡ false }
+        // Then the broker has nothing more to say to it, but to a failed login before its time.
+        ensures told { TellsInTurn self.old host.old.broker.state → result ≢ End → HasToldAll self.new host.new.broker.state }
     {
         if self.unwritten() == 0 && !self.is_over {
             self.write_output(alloc, host, turn);
@@ -147,15 +153,16 @@ impl<T: Read + Write + Drop> Socket<T> {
         turn: &mut Turn,
     ) -> Next
         requires { self.now.is_ended ≡ false }
-        ensures carries { Carries S.disk T.contents T.remaining self.old self.new host.old.broker host.new.broker }
+        ensures tells { Tells S.disk T.contents T.remaining self.old self.new host.old.broker host.new.broker }
         ensures connection { self.new.connection ≡ self.old.connection }
         ensures seat { KeepsSeat self.old self.new }
         ensures tried { host.new.tried ≡ host.old.tried }
-        ensures store { host.new.broker.store ≡ host.old.broker.store }
         ensures commits { host.new.commits ≡ host.old.commits }
         ensures ended { self.new.is_ended ≡ true → is_open self.old.connection host.new.broker.state ≡ false }
         ensures over { result ≡ End → self.new.is_ended ≡ true }
         ensures open { result ≢ End → numbers host.new.broker.state ≡ numbers host.old.broker.state }
+        ensures rest { result ≢ End → (host.new ≡ host.old)
+            × (self.new ≡ record self.old { is_known = self.new.is_known; is_denied = self.new.is_denied }) }
         ensures stays { result ≢ End → is_done self.new.is_over self.new.is_half_closed self.new.may_answer
             (vec_len self.new.output - self.new.written) self.new.connection host.new.broker.state ≡ false }
     {
@@ -252,11 +259,10 @@ impl<T: Read + Write + Drop> Socket<T> {
         host: &mut Committed<S, L>,
         turn: &mut Turn,
     )
-        ensures carries { Carries S.disk T.contents T.remaining self.old self.new host.old.broker host.new.broker }
+        ensures tells { Tells S.disk T.contents T.remaining self.old self.new host.old.broker host.new.broker }
         ensures connection { self.new.connection ≡ self.old.connection }
         ensures seat { KeepsSeat self.old self.new }
         ensures tried { host.new.tried ≡ host.old.tried }
-        ensures store { host.new.broker.store ≡ host.old.broker.store }
         ensures commits { host.new.commits ≡ host.old.commits }
         ensures ended { self.new.is_ended ≡ true }
         ensures closed { is_open self.old.connection host.new.broker.state ≡ false }
@@ -275,11 +281,10 @@ impl<T: Read + Write + Drop> Socket<T> {
     )
         requires { is_done self.now.is_over self.now.is_half_closed self.now.may_answer
             (vec_len self.now.output - self.now.written) self.now.connection host.now.broker.state ≡ true }
-        ensures carries { Carries S.disk T.contents T.remaining self.old self.new host.old.broker host.new.broker }
+        ensures tells { Tells S.disk T.contents T.remaining self.old self.new host.old.broker host.new.broker }
         ensures connection { self.new.connection ≡ self.old.connection }
         ensures seat { KeepsSeat self.old self.new }
         ensures tried { host.new.tried ≡ host.old.tried }
-        ensures store { host.new.broker.store ≡ host.old.broker.store }
         ensures commits { host.new.commits ≡ host.old.commits }
         ensures ended { self.new.is_ended ≡ true }
         ensures closed { is_open self.old.connection host.new.broker.state ≡ false }
@@ -302,11 +307,10 @@ impl<T: Read + Write + Drop> Socket<T> {
     )
         requires not_ended { self.now.is_ended ≡ false }
         requires may_tell { may_tell host.old.commits ≡ true }
-        ensures carries { Carries S.disk T.contents T.remaining self.old self.new host.old.broker host.new.broker }
+        ensures tells { Tells S.disk T.contents T.remaining self.old self.new host.old.broker host.new.broker }
         ensures connection { self.new.connection ≡ self.old.connection }
         ensures seat { KeepsSeat self.old self.new }
         ensures tried { host.new.tried ≡ host.old.tried }
-        ensures store { host.new.broker.store ≡ host.old.broker.store }
         ensures commits { host.new.commits ≡ host.old.commits }
         ensures ended { self.new.is_ended ≡ self.old.is_ended }
         ensures numbers { numbers host.new.broker.state ≡ numbers host.old.broker.state }
@@ -314,6 +318,7 @@ impl<T: Read + Write + Drop> Socket<T> {
         // Nothing is taken before all is written, and a failed login is not answered before its time.
         ensures held { (self.old.written < vec_len self.old.output → host.new ≡ host.old)
             × (is_held self.old.may_answer self.old.connection host.old.broker.state ≡ true → host.new ≡ host.old) }
+        ensures told { TellsInTurn self.old host.old.broker.state → HasToldAll self.new host.new.broker.state }
     {
         if self.unwritten() == 0 && !self.is_held(host.broker()) {
             self.take_output(alloc, host);
@@ -322,7 +327,7 @@ impl<T: Read + Write + Drop> Socket<T> {
     }
 
     /// Takes what the connection has to say, once all is written that it said before.
-    #[tactic(auto, using(crate::proofs::Closing::numbers_taken))]
+    #[tactic(auto, using(crate::proofs::Closing::numbers_taken, crate::proofs::Closing::none_left))]
     fn take_output<S: Store, L: PartitionLog + Drop>(
         &mut self,
         alloc: Global,
@@ -331,14 +336,14 @@ impl<T: Read + Write + Drop> Socket<T> {
         requires written { self.now.written ≡ vec_len self.now.output }
         requires may_tell { may_tell host.old.commits ≡ true }
         requires may_answer { is_held self.now.may_answer self.now.connection host.now.broker.state ≡ false }
-        ensures carries { Carries S.disk T.contents T.remaining self.old self.new host.old.broker host.new.broker }
+        ensures tells { Tells S.disk T.contents T.remaining self.old self.new host.old.broker host.new.broker }
         ensures connection { self.new.connection ≡ self.old.connection }
         ensures seat { KeepsSeat self.old self.new }
         ensures tried { host.new.tried ≡ host.old.tried }
-        ensures store { host.new.broker.store ≡ host.old.broker.store }
         ensures commits { host.new.commits ≡ host.old.commits }
         ensures ended { self.new.is_ended ≡ self.old.is_ended }
         ensures unwritten { self.new.written ≡ 0 }
+        ensures none { output_of self.old.connection host.new.broker.state ≡ [] }
         ensures numbers { numbers host.new.broker.state ≡ numbers host.old.broker.state }
     {
         self.written = 0;
@@ -355,6 +360,7 @@ impl<T: Read + Write + Drop> Socket<T> {
         ensures seat { KeepsSeat self.old self.new }
         ensures ended { self.new.is_ended ≡ self.old.is_ended }
         ensures read { turn.new.read ≡ turn.old.read }
+        ensures answer { self.new.may_answer ≡ self.old.may_answer }
     {
         let rest = &self.output[self.written..];
         if rest.is_empty() {

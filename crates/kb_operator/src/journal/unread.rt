@@ -1,36 +1,66 @@
 //! Tenants that wait for those that read their replies, as they are told.
 
-use crate::counts::{RefusalCounts, Unread};
+ghost use Rattle.std.specs.Prelude.{◌≡◌, false, true, map, option_map, string_bytes, IfOk};
+ghost use Rattle.kb_operator.specs.Unread.{told_by, unread_text, waits_line, with_waits};
+
+use crate::counts::RefusalCounts;
 use crate::journal::{Journal, Tenant};
+use crate::lines::Lines;
 use std::alloc::{AllocError, Global};
 
 impl Journal {
     /// Which tenants waited since the last line for those that read their replies: a line for each.
-    pub fn tell_unread<B: RefusalCounts>(&mut self, alloc: Global, now: u64, broker: &B) {
+    pub(super) fn tell_unread<B: RefusalCounts>(&mut self, alloc: Global, now: u64, broker: &B)
+        ensures quiet { self.old.is_quiet ≡ true → self.new ≡ self.old }
+        ensures told { self.old.is_quiet ≡ false
+            → self.new.tenants.items ≡ map (told_by (B.unread broker.now)) self.old.tenants.items }
+        ensures others { self.new ≡ record self.old { tenants = self.new.tenants; lines = self.new.lines } }
+    {
         if self.is_quiet {
             return;
         }
-        for tenant in &mut self.tenants {
-            let unread = broker.unread_of_tenant(tenant.place);
-            if let Some(text) = unread_text(alloc, tenant, unread).transpose() {
-                self.lines.tell(now, text);
-            }
+        tell_each(alloc, now, &mut self.tenants, broker, &mut self.lines);
+    }
+}
+
+/// Tells the line of each of these tenants that has one.
+fn tell_each<B: RefusalCounts>(
+    alloc: Global,
+    now: u64,
+    tenants: &mut [Tenant],
+    broker: &B,
+    lines: &mut Lines,
+)
+    ensures { tenants.new ≡ map (told_by (B.unread broker.now)) tenants.old }
+{
+    for tenant in tenants.iter_mut() {
+        if let Some(text) = unread_text(alloc, tenant, broker).transpose() {
+            lines.tell(now, text);
         }
     }
 }
 
-/// How many bytes of a tenant's replies were not read when it waited for that last: none where it did not since the last line.
-fn unread_text(
+/// The line of a tenant that waited since the last one: none where it did not. What it waited counts as told then.
+fn unread_text<B: RefusalCounts>(
     alloc: Global,
     tenant: &mut Tenant,
-    unread: Unread,
-) -> Result<Option<String>, AllocError> {
+    broker: &B,
+) -> Result<Option<String>, AllocError>
+    ensures text { IfOk result (λ text. option_map string_bytes text
+        ≡ unread_text (B.unread broker.now tenant.old.place) tenant.old) }
+    ensures told { tenant.new ≡ told_by (B.unread broker.now) tenant.old }
+{
+    let unread = broker.unread_of_tenant(tenant.place);
     if tenant.waits.grown(unread.waits) == 0 {
         return Ok(None);
     }
-    let (name, bytes) = (tenant.name.as_str(), unread.bytes);
-    let text = format!(in alloc;
-        "tenant {name} waits for its readers: {bytes} bytes of replies are not read"
-    )?;
-    Ok(Some(text))
+    let line = waits_line(alloc, &tenant.name, unread.bytes)?;
+    Ok(Some(line))
+}
+
+/// The line of the tenant of a name, of whose replies so many bytes are not read.
+fn waits_line(alloc: Global, name: &str, bytes: u64) -> Result<String, AllocError>
+    ensures { IfOk result (λ line. string_bytes line ≡ waits_line name.now bytes) }
+{
+    format!(in alloc; "tenant {name} waits for its readers: {bytes} bytes of replies are not read")
 }

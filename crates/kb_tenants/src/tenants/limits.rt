@@ -1,6 +1,6 @@
 //! How far the groups of a tenant may grow.
 ghost use Rattle.std.specs.Prelude.{◌≡◌, ◌<◌, ◌^◌};
-ghost use Rattle.kb_tenants.specs.Counts.{store_counts};
+ghost use Rattle.kb_tenants.specs.Counts.{all_counts};
 ghost use Rattle.kb_tenants.specs.Limited.{limited_at};
 ghost use Rattle.kb_tenants.specs.Members.{HaveNoGroup};
 ghost use Rattle.kb_tenants.specs.Tenants.{AreKept, all_commands, hosted};
@@ -20,7 +20,7 @@ impl<L: PartitionLog + Drop, S: Store> Tenants<L, S> {
         ensures invariant { AreKept L.log S.disk self.new }
         ensures state { hosted L.log S.disk self.new ≡ limited_at tenant limits (hosted L.log S.disk self.old) }
         ensures strays { self.new.strays ≡ self.old.strays }
-        ensures counts { store_counts self.new ≡ store_counts self.old }
+        ensures counts { all_counts self.new ≡ all_counts self.old }
         ensures commands { all_commands L.log self.new ≡ all_commands L.log self.old }
         ensures shelf { self.new.shelf ≡ self.old.shelf }
     {

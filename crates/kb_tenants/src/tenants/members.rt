@@ -1,7 +1,7 @@
 //! From which number on the members of tenants' groups are numbered.
 ghost use Rattle.std.specs.Prelude.{◌≡◌, ◌<◌, ◌≤◌, ◌^◌, map};
 ghost use Rattle.std.specs.List.{All};
-ghost use Rattle.kb_tenants.specs.Counts.{store_counts};
+ghost use Rattle.kb_tenants.specs.Counts.{all_counts};
 ghost use Rattle.kb_tenants.specs.Members.{HasNoGroup, HaveNoGroup, numbered_from, renumbered};
 ghost use Rattle.kb_tenants.specs.Tenants.{AreKept, all_commands, hosted, parts_of};
 
@@ -32,7 +32,7 @@ impl<L: PartitionLog + Drop, S: Store> Tenants<L, S> {
         ensures hosted { hosted L.log S.disk self.new ≡ numbered_from first (hosted L.log S.disk self.old) }
         ensures parts { parts_of self.new.tenants.items ≡ parts_of self.old.tenants.items }
         ensures strays { self.new.strays ≡ self.old.strays }
-        ensures counts { store_counts self.new ≡ store_counts self.old }
+        ensures counts { all_counts self.new ≡ all_counts self.old }
         ensures commands { all_commands L.log self.new ≡ all_commands L.log self.old }
         ensures shelf { self.new.shelf ≡ self.old.shelf }
     {

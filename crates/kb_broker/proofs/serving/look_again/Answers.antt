@@ -13,7 +13,7 @@ use Rattle.kb_broker.proofs.Honest.{later-by, later-counted, later-none}
 use Rattle.kb_broker.proofs.TenantTurns.{looked-ok, looked-err}
 use Rattle.kb_connection.specs.TenantAnswers.{answered_again}
 use Rattle.kb_broker.proofs.PutOut.{again-told, member-answered, put-done, put-shut}
-use Rattle.kb_tenants.specs.Counts.{store_counts}
+use Rattle.kb_tenants.specs.Counts.{all_counts}
 use Rattle.kb_tenants.proofs.Passed.{length_named}
 use Rattle.kb_tenants.proofs.Shares.{shares_kept}
 use Rattle.kb_broker.proofs.serving.look_again.Goals as goal
@@ -51,13 +51,13 @@ returns-then-is_err-clause-later g c =
     let after = c.ask_again-answer.new.tenants in
     let end = c.refuse.new.self in
     let r = c.refuse.ensures in
-    let counted = later-counted (disk after.shelf.store) (numbers_in after.strays) (tenants_in g.L.PartitionLog.log disk after) (tenants_in g.L.PartitionLog.log disk end) (store_counts after) r.turn.names r.turn.grows in
+    let counted = later-counted (disk after.shelf.store) (numbers_in after.strays) (tenants_in g.L.PartitionLog.log disk after) (tenants_in g.L.PartitionLog.log disk end) (all_counts after) r.turn.names r.turn.grows in
     let shares = shares_kept g.L.PartitionLog.log disk after end (length_named (tenants_in g.L.PartitionLog.log disk after) (tenants_in g.L.PartitionLog.log disk end) r.turn.names) r.causes in
     later-by (disk before.shelf.store) (disk after.shelf.store) (disk end.shelf.store) (numbers_in before.strays) (numbers_in after.strays) (numbers_in end.strays) (tenants_in g.L.PartitionLog.log disk before) (tenants_in g.L.PartitionLog.log disk after) (tenants_in g.L.PartitionLog.log disk end)
-    (store_counts before) (store_counts after) (store_counts end) c.ask_again-answer.ensures.later
-    (subst (λ files. IsLaterWith (disk after.shelf.store) (disk end.shelf.store) (numbers_in after.strays) (numbers_in files) (tenants_in g.L.PartitionLog.log disk after) (tenants_in g.L.PartitionLog.log disk end) (store_counts after) (store_counts end)) (sym r.strays)
-    (subst (λ shelf. IsLaterWith (disk after.shelf.store) (disk shelf.store) (numbers_in after.strays) (numbers_in after.strays) (tenants_in g.L.PartitionLog.log disk after) (tenants_in g.L.PartitionLog.log disk end) (store_counts after) (store_counts end)) (sym r.shelf)
-    (subst (IsLaterWith (disk after.shelf.store) (disk after.shelf.store) (numbers_in after.strays) (numbers_in after.strays) (tenants_in g.L.PartitionLog.log disk after) (tenants_in g.L.PartitionLog.log disk end) (store_counts after)) (sym shares) counted)))
+    (all_counts before) (all_counts after) (all_counts end) c.ask_again-answer.ensures.later
+    (subst (λ files. IsLaterWith (disk after.shelf.store) (disk end.shelf.store) (numbers_in after.strays) (numbers_in files) (tenants_in g.L.PartitionLog.log disk after) (tenants_in g.L.PartitionLog.log disk end) (all_counts after) (all_counts end)) (sym r.strays)
+    (subst (λ shelf. IsLaterWith (disk after.shelf.store) (disk shelf.store) (numbers_in after.strays) (numbers_in after.strays) (tenants_in g.L.PartitionLog.log disk after) (tenants_in g.L.PartitionLog.log disk end) (all_counts after) (all_counts end)) (sym r.shelf)
+    (subst (IsLaterWith (disk after.shelf.store) (disk after.shelf.store) (numbers_in after.strays) (numbers_in after.strays) (tenants_in g.L.PartitionLog.log disk after) (tenants_in g.L.PartitionLog.log disk end) (all_counts after)) (sym shares) counted)))
 
 pub returns-else-is_err-clause-told : goal.returns-else-is_err-clause-told
 returns-else-is_err-clause-told g c = λ honest.
@@ -105,7 +105,7 @@ returns-then-is_err-clause-told g c = λ honest.
     (member-answered a.clock n t ts us w answer answers) (put-shut (answered_again w.head answer a.connection.now.session) a.connection.now c.wake.new.self shut)
 
 pub returns-in_default-clause-later : goal.returns-in_default-clause-later
-returns-in_default-clause-later g c = later-none (g.S.Store.disk c.args.tenants.now.shelf.store) (numbers_in c.args.tenants.now.strays) (tenants_in g.L.PartitionLog.log g.S.Store.disk c.args.tenants.now) (store_counts c.args.tenants.now)
+returns-in_default-clause-later g c = later-none (g.S.Store.disk c.args.tenants.now.shelf.store) (numbers_in c.args.tenants.now.strays) (tenants_in g.L.PartitionLog.log g.S.Store.disk c.args.tenants.now) (all_counts c.args.tenants.now)
 
 pub returns-then-not-is_looked_for-clause-later : goal.returns-then-not-is_looked_for-clause-later
-returns-then-not-is_looked_for-clause-later g c = later-none (g.S.Store.disk c.args.tenants.now.shelf.store) (numbers_in c.args.tenants.now.strays) (tenants_in g.L.PartitionLog.log g.S.Store.disk c.args.tenants.now) (store_counts c.args.tenants.now)
+returns-then-not-is_looked_for-clause-later g c = later-none (g.S.Store.disk c.args.tenants.now.shelf.store) (numbers_in c.args.tenants.now.strays) (tenants_in g.L.PartitionLog.log g.S.Store.disk c.args.tenants.now) (all_counts c.args.tenants.now)

@@ -18,7 +18,7 @@ use Rattle.kb_broker.specs.Places.{IsTrueAnswer}
 use Rattle.kb_broker.proofs.TenantTurns.{member-told, spent-shut, spent-served, asked-now}
 use Rattle.kb_broker.proofs.Served.{dated-none, keyed-answered, keyed-none, owned-none, owned-shut, own-free, own-touched, turned-touched}
 use Rattle.kb_broker.proofs.PutOut.{told-asked, told-own, told-shut}
-use Rattle.kb_tenants.specs.Counts.{store_counts}
+use Rattle.kb_tenants.specs.Counts.{all_counts}
 use Rattle.kb_broker.proofs.Honest.{later-none}
 use Rattle.kb_broker.proofs.serving.serve_bound.Goals as goal
 
@@ -216,10 +216,10 @@ returns-in_err-hand_over-clause-told g c = λ honest.
     told-asked failed (IsCatalogFull log us) a.setup.now a.clock a.connection.now.number t ts (tenants_in log disk us) s c.hand_over.new.connection.session q.api_key q.api_version h q.body.now truth.0 c.ask.result.0 asked truthful (c.hand_over.ensures.output q.api_key q.api_version h q.body.now asked)
 
 pub returns-in_err-serve-in-Ok-None-clause-later : goal.returns-in_err-serve-in-Ok-None-clause-later
-returns-in_err-serve-in-Ok-None-clause-later g c = later-none (g.S.Store.disk c.args.tenants.now.shelf.store) (numbers_in c.args.tenants.now.strays) (tenants_in g.L.PartitionLog.log g.S.Store.disk c.args.tenants.now) (store_counts c.args.tenants.now)
+returns-in_err-serve-in-Ok-None-clause-later g c = later-none (g.S.Store.disk c.args.tenants.now.shelf.store) (numbers_in c.args.tenants.now.strays) (tenants_in g.L.PartitionLog.log g.S.Store.disk c.args.tenants.now) (all_counts c.args.tenants.now)
 
 pub returns-in-Ok-None-clause-later : goal.returns-in-Ok-None-clause-later
-returns-in-Ok-None-clause-later g c = later-none (g.S.Store.disk c.args.tenants.now.shelf.store) (numbers_in c.args.tenants.now.strays) (tenants_in g.L.PartitionLog.log g.S.Store.disk c.args.tenants.now) (store_counts c.args.tenants.now)
+returns-in-Ok-None-clause-later g c = later-none (g.S.Store.disk c.args.tenants.now.shelf.store) (numbers_in c.args.tenants.now.strays) (tenants_in g.L.PartitionLog.log g.S.Store.disk c.args.tenants.now) (all_counts c.args.tenants.now)
 
 pub returns-in-Err-clause-later : goal.returns-in-Err-clause-later
-returns-in-Err-clause-later g c = later-none (g.S.Store.disk c.args.tenants.now.shelf.store) (numbers_in c.args.tenants.now.strays) (tenants_in g.L.PartitionLog.log g.S.Store.disk c.args.tenants.now) (store_counts c.args.tenants.now)
+returns-in-Err-clause-later g c = later-none (g.S.Store.disk c.args.tenants.now.shelf.store) (numbers_in c.args.tenants.now.strays) (tenants_in g.L.PartitionLog.log g.S.Store.disk c.args.tenants.now) (all_counts c.args.tenants.now)

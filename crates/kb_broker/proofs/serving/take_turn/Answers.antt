@@ -14,7 +14,7 @@ use Rattle.kb_broker.proofs.Counted.{asked-counted, keyed-counted, later-loss, l
 use Rattle.kb_broker.proofs.Served.{dated-none, greeted-free, keyed-none, left-by, own-concern, owned-none, owned-shut}
 use Rattle.kb_broker.proofs.TenantTurns.{spent-greeted, spent-shut}
 use Rattle.kb_broker.proofs.PutOut.{told-counted, told-greeted}
-use Rattle.kb_tenants.specs.Counts.{store_counts}
+use Rattle.kb_tenants.specs.Counts.{all_counts}
 use Rattle.kb_tenants.proofs.Passed.{length_named}
 use Rattle.kb_tenants.proofs.Shares.{shares_kept}
 use Rattle.kb_broker.proofs.Honest.{later-none}
@@ -234,7 +234,7 @@ returns-in_ok-touched-in-Bound-clause-told g c = λ honest.
     (told-counted failed (commands_of log us) (commands_of log vs) a.setup.now a.clock n c.in-Bound.tenant ts (tenants_in log disk us) (tenants_in log disk vs) s r w.commands w.stays told)
 
 pub returns-in_err-greet-in-Greets-clause-later : goal.returns-in_err-greet-in-Greets-clause-later
-returns-in_err-greet-in-Greets-clause-later g c = later-none (g.S.Store.disk c.args.tenants.now.shelf.store) (numbers_in c.args.tenants.now.strays) (tenants_in g.L.PartitionLog.log g.S.Store.disk c.args.tenants.now) (store_counts c.args.tenants.now)
+returns-in_err-greet-in-Greets-clause-later g c = later-none (g.S.Store.disk c.args.tenants.now.shelf.store) (numbers_in c.args.tenants.now.strays) (tenants_in g.L.PartitionLog.log g.S.Store.disk c.args.tenants.now) (all_counts c.args.tenants.now)
 
 pub returns-in_ok-greet-in-Greets-clause-later : goal.returns-in_ok-greet-in-Greets-clause-later
-returns-in_ok-greet-in-Greets-clause-later g c = later-none (g.S.Store.disk c.args.tenants.now.shelf.store) (numbers_in c.args.tenants.now.strays) (tenants_in g.L.PartitionLog.log g.S.Store.disk c.args.tenants.now) (store_counts c.args.tenants.now)
+returns-in_ok-greet-in-Greets-clause-later g c = later-none (g.S.Store.disk c.args.tenants.now.shelf.store) (numbers_in c.args.tenants.now.strays) (tenants_in g.L.PartitionLog.log g.S.Store.disk c.args.tenants.now) (all_counts c.args.tenants.now)

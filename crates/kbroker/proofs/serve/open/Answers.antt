@@ -1,6 +1,7 @@
-use Rattle.std.proofs.Common.{◌≡◌, subst, sym}
+use Rattle.std.proofs.Common.{◌≡◌, ◌∙◌, ℕ, Bool, List, true, false, true≢false, ap, subst, sym}
 use Rattle.kb_broker.specs.Hosts.{OnStore}
-use Rattle.kbroker.proofs.Opened.{fresh_kept, fresh_same, GivesFreshOn}
+use Rattle.kbroker.specs.Shortened.{may_shorten}
+use Rattle.kbroker.proofs.Opened.{AreShortOn, fresh_kept, fresh_same, GivesFreshOn, short_now, short_same}
 use Rattle.kbroker.proofs.serve.open.Goals as goal
 use Rattle.kbroker.proofs.serve.open.Goals.{then-may_shorten, else-may_shorten, else-ne-via-else-ne, else-ne-via-then-ne+in-Ok-1}
 
@@ -21,3 +22,29 @@ returns-2-clause-fresh g c =
       | else-ne-via-then-ne+in-Ok-1 w ↦
           subst P (sym (λ i. (w.opened-is i).broker)) (fresh_same disk opened w.settle.new.broker w.settle.ensures.stays shortened)
     ]
+
+pub returns-2-clause-short : goal.returns-2-clause-short
+returns-2-clause-short g c = λ honest may.
+    let disk = g.S.Store.disk in
+    let P : OnStore g.row.S.Denot → Type 0 = AreShortOn disk in
+    let first = c.skip_ids.new.broker in
+    let opened = c.if-may_shorten.opened.broker in
+    let strays : c.else-ne.opened.strays.items ≡ c.if-may_shorten.opened.strays.items = elim c.else-ne.branch [
+      | else-ne-via-else-ne w ↦ λ i. (w.opened-is i).strays.items
+      | else-ne-via-then-ne+in-Ok-1 w ↦ λ i. (w.opened-is i).strays.items
+    ] in
+    let allows : List ℕ → Bool = may_shorten c.args.start.consent in
+    let allowed : allows c.if-may_shorten.opened.strays.items ≡ true = sym (ap allows strays) ∙ may in
+    let shortened : P opened = elim c.if-may_shorten.branch [
+      | then-may_shorten w ↦ subst P (sym (λ i. (w.opened-is i).broker)) (short_now disk first w.shorten_catalogs.new.broker w.shorten_catalogs.ensures.shortened)
+      | else-may_shorten w ↦
+          let refused : allows c.if-may_shorten.opened.strays.items ≡ false =
+          ap allows (λ i. (w.opened-is i).strays.items) ∙ ap allows (sym c.deref-2.ensures.value) ∙ sym c.may_shorten.ensures ∙ w.if-may_shorten.false in
+          absurd (true≢false (sym allowed ∙ refused))
+    ] in
+    let settled : P c.else-ne.opened.broker = elim c.else-ne.branch [
+      | else-ne-via-else-ne w ↦ subst P (sym (λ i. (w.opened-is i).broker)) shortened
+      | else-ne-via-then-ne+in-Ok-1 w ↦
+          subst P (sym (λ i. (w.opened-is i).broker)) (short_same disk opened w.settle.new.broker w.settle.ensures.stays w.settle.ensures.commands shortened)
+    ] in
+    settled honest

@@ -17,7 +17,7 @@ returns g c =
     let server = c.server_of-server.result in
     let process = c.process_of-process.result in
     let all : map (looked_at g.L.PartitionLog.log files) tenants
-    ≡ observed_from (values_of c.args.settings.now) edge.host.broker.state edge.host.broker.by_store edge.traffic.items =
+    ≡ observed_from (values_of c.args.settings.now) edge.host.broker.state edge.host.broker.counts edge.traffic.items =
     ap (map (looked_at g.L.PartitionLog.log files)) c.deref.ensures.value ∙ c.in_ok-tenants.ensures in
     on_ok _ _
     (λ told. (

@@ -8,4 +8,4 @@ use Rattle.kbroker.proofs.shown.tenants_of.Given as goal
 abbrev pub invariant-loop-place : goal.invariant-loop-place
 invariant-loop-place g l =
     map (looked_at g.L.PartitionLog.log (g.S.Store.disk l.edge.host.broker.store).files) l.tenants.items
-    ≡ flat_map (observed_slot (values_of l.settings) l.edge.host.broker.state l.edge.host.broker.by_store l.edge.traffic.items) (range_with_len 0 l.place)
+    ≡ flat_map (observed_slot (values_of l.settings) l.edge.host.broker.state l.edge.host.broker.counts l.edge.traffic.items) (range_with_len 0 l.place)

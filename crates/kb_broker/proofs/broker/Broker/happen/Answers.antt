@@ -42,10 +42,10 @@ pub returns-in-Close-clause-ready : goal.returns-in-Close-clause-ready
 returns-in-Close-clause-ready g c = disconnected-ready g.S.Store.disk c.args.self.now c.close.new.self c.in-Close.number c.requires.ready c.close.ensures.state
 
 pub returns-then-is_err-clause-later : goal.returns-then-is_err-clause-later
-returns-then-is_err-clause-later g c = rw c.in-Open.is (connected-later g.S.Store.disk c.connect.result c.args.self.now c.connect.new.self c.in-Open.number c.connect.ensures.store c.connect.ensures.strays c.connect.ensures.by_store c.connect.ensures.ok c.connect.ensures.err)
+returns-then-is_err-clause-later g c = rw c.in-Open.is (connected-later g.S.Store.disk c.connect.result c.args.self.now c.connect.new.self c.in-Open.number c.connect.ensures.store c.connect.ensures.strays c.connect.ensures.counts c.connect.ensures.ok c.connect.ensures.err)
 
 pub returns-else-is_err-clause-later : goal.returns-else-is_err-clause-later
-returns-else-is_err-clause-later g c = rw c.in-Open.is (connected-later g.S.Store.disk c.connect.result c.args.self.now c.connect.new.self c.in-Open.number c.connect.ensures.store c.connect.ensures.strays c.connect.ensures.by_store c.connect.ensures.ok c.connect.ensures.err)
+returns-else-is_err-clause-later g c = rw c.in-Open.is (connected-later g.S.Store.disk c.connect.result c.args.self.now c.connect.new.self c.in-Open.number c.connect.ensures.store c.connect.ensures.strays c.connect.ensures.counts c.connect.ensures.ok c.connect.ensures.err)
 
 pub returns-in-Close-clause-later : goal.returns-in-Close-clause-later
 returns-in-Close-clause-later g c = rw c.in-Close.is (disconnected-later g.S.Store.disk c.args.self.now c.close.new.self c.in-Close.number c.close.ensures.state)

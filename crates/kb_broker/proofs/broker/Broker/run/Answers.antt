@@ -17,7 +17,7 @@ use Rattle.kb_broker.specs.declared.run.Written.{Written}
 use Rattle.kb_broker.specs.Hosts.{is_honest, IsLaterBy}
 use Rattle.kb_broker.specs.Truth.{SpeaksAt, SpeaksThrough}
 use Rattle.kb_broker.specs.Runs.{happening_of, happenings, sent_of, connections_of, Passes}
-use Rattle.kb_broker.proofs.Honest.{by_store-is, later-after, later-is, ready-of, state-is, store-is, strays-is}
+use Rattle.kb_broker.proofs.Honest.{counts-is, later-after, later-is, ready-of, state-is, store-is, strays-is}
 use Rattle.kb_isolation_spec.proofs.Greetings.{unowned-greets}
 use Rattle.kb_broker.proofs.RunLast.{told-passes}
 use Rattle.kb_broker.proofs.RunHistory.{happenings-next, length-connections, connections-first, room-leads, grows-passes, run-passes, numbers-passes, rising-connections, continues-next}
@@ -96,7 +96,7 @@ loop-event-preserved g c =
 
 -- the last output is taken of the store as it is
 drained-later : (g : given.Over) (c : goal.After-sort_unstable_by_key g) → IsLaterBy g.S.Store.disk (SpeaksThrough []) c.loop-event.self c.drain.new.self
-drained-later g c = later-is g.S.Store.disk (SpeaksThrough []) c.loop-event.self c.drain.new.self (store-is _ _ c.drain.ensures.state) (strays-is _ _ c.drain.ensures.state) (by_store-is _ _ c.drain.ensures.state) (ap (λ (x : BrokerState). x.tenants) (state-is _ _ c.drain.ensures.state))
+drained-later g c = later-is g.S.Store.disk (SpeaksThrough []) c.loop-event.self c.drain.new.self (store-is _ _ c.drain.ensures.state) (strays-is _ _ c.drain.ensures.state) (counts-is _ _ c.drain.ensures.state) (ap (λ (x : BrokerState). x.tenants) (state-is _ _ c.drain.ensures.state))
     (state-is _ _ c.drain.ensures.state)
 
 -- the whole history, and the order of its list

@@ -40,7 +40,7 @@ pub returns-clause-later : goal.returns-clause-later
 returns-clause-later g c =
     let disk = g.S.Store.disk in
     let new = c.shorten_catalog.new.self in
-    subst (λ (x : OnStore g.row.S.Denot). IsLaterWith (disk x.store) (disk new.store) x.strays new.strays x.state.tenants new.state.tenants x.by_store new.by_store) c.self.view_is c.shorten_catalog.ensures.later
+    subst (λ (x : OnStore g.row.S.Denot). IsLaterWith (disk x.store) (disk new.store) x.strays new.strays x.state.tenants new.state.tenants x.counts new.counts) c.self.view_is c.shorten_catalog.ensures.later
 
 pub returns-clause-turn : goal.returns-clause-turn
 returns-clause-turn g c =

@@ -14,7 +14,7 @@ use Rattle.kb_broker.specs.Speakers.{IsHeard}
 use Rattle.kb_broker.proofs.Fields.{carried-on, queue-closed, rising-inside}
 use Rattle.kb_broker.proofs.Handled.{at-inside}
 use Rattle.kb_broker.proofs.Heard.{heard-removed, roomy-removed}
-use Rattle.kb_broker.proofs.Honest.{by_store-is, commands-are, state-is, store-is, strays-is, stands-on}
+use Rattle.kb_broker.proofs.Honest.{counts-is, commands-are, state-is, store-is, strays-is, stands-on}
 use Rattle.kb_broker.proofs.RequestLimits.{limit-removed}
 use Rattle.kb_broker.proofs.engine.Engine.disconnect.Given as given
 use Rattle.kb_broker.proofs.engine.Engine.disconnect.Goals as goal
@@ -45,7 +45,7 @@ remove-requires g c =
 pub returns-in-Some-clause-state : goal.returns-in-Some-clause-state
 returns-in-Some-clause-state g c =
     stands-on c.args.self.now _ _ _ _ _ _ (closed-found _ c.leave.new.self.state c.args.self.now.state c.in-Some.i c.args.number c.remove.result c.remove.new.self.items (state-is _ _ c.self.view_is) c.requires.rising (gone g c) c.remove.ensures.items) (store-is _ _ c.self.view_is ∙ c.leave.ensures.store) (strays-is _ _ c.self.view_is ∙ c.leave.ensures.strays)
-    (by_store-is _ _ c.self.view_is ∙ c.leave.ensures.by_store) (commands-are _ _ c.self.view_is ∙ c.leave.ensures.commands)
+    (counts-is _ _ c.self.view_is ∙ c.leave.ensures.counts) (commands-are _ _ c.self.view_is ∙ c.leave.ensures.commands)
 
 pub returns-in-Some-clause-output : goal.returns-in-Some-clause-output
 returns-in-Some-clause-output g c =

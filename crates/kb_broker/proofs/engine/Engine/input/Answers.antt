@@ -76,7 +76,7 @@ returns g c =
     let number : number_at i a ≡ n = number_at-is a i l f.at ∙ f.number in
     let e = Comes n c.args.piece.now in
     let spoken = subst (λ k. SpeaksAt (Comes k c.args.piece.now) a b) number c.take_piece.ensures.spoken in
-    let kept = later-still disk (SpeaksAt e) c.args.self.now c.take_piece.new.self c.take_piece.ensures.store c.take_piece.ensures.strays c.take_piece.ensures.by_store
+    let kept = later-still disk (SpeaksAt e) c.args.self.now c.take_piece.new.self c.take_piece.ensures.store c.take_piece.ensures.strays c.take_piece.ensures.counts
     given.going.grows.names given.going.grows.own spoken in
     let before : is_honest disk c.run_turns.new.self → is_honest disk c.args.self.now = λ honest. kept.honest (c.run_turns.ensures.later.honest honest) in
     record {

@@ -6,7 +6,7 @@ use Rattle.kb_tenants.specs.Tenants.{shelf_is_honest}
 use Rattle.kb_broker.specs.Hosts.{tenants_in}
 use Rattle.kb_broker.specs.Places.{IsCountedAt}
 use Rattle.kb_broker.proofs.Handled.{counted-inside, member_at}
-use Rattle.kb_broker.proofs.Honest.{by_store-is, state-is}
+use Rattle.kb_broker.proofs.Honest.{counts-is, state-is}
 use Rattle.kb_broker.proofs.Left.{left-length}
 use Rattle.kb_broker.proofs.Parked.{IsCarried, carried-left, carried-same, carried-then, queue-tenants}
 use Rattle.kb_tenants.proofs.Passed.{length_named}
@@ -54,11 +54,11 @@ returns-in-Bound-clause-counted g c =
     subst (λ st. IsCountedAt c.args.number st c.args.self.now.state end) (sym (ap stage_of c.in-Bound.is))
     (counted-inside _ c.args.self.now.state c.in-Bound.tenant c.args.number (tenants_in log disk c.left.new.self) vs (state-is _ _ c.self.view_is) c.left.ensures.state c.refuse.ensures.turn c.refuse.ensures.stays c.refuse.ensures.once)
 
-pub returns-in-Bound-clause-by_store : goal.returns-in-Bound-clause-by_store
-returns-in-Bound-clause-by_store g c =
+pub returns-in-Bound-clause-counts : goal.returns-in-Bound-clause-counts
+returns-in-Bound-clause-counts g c =
     let disk = g.S.Store.disk in
     let log = g.L.PartitionLog.log in
     let mid = c.left.new.self in
     let new = c.refuse.new.self in
     shares_kept log disk mid new (length_named (tenants_in log disk mid) (tenants_in log disk new) c.refuse.ensures.turn.names) c.refuse.ensures.causes
-    ∙ (c.left.ensures.counts ∙ by_store-is _ _ c.self.view_is)
+    ∙ (c.left.ensures.counts ∙ counts-is _ _ c.self.view_is)

@@ -6,7 +6,7 @@ use Rattle.kb_isolation_spec.specs.Broker.{BrokerState}
 use Rattle.kb_isolation_spec.specs.Turned.{IsGoing}
 use Rattle.kb_connection.specs.View.{stage_of}
 use Rattle.kb_tenant.specs.Told.{FailedBy}
-use Rattle.kb_tenants.specs.Counts.{store_counts}
+use Rattle.kb_tenants.specs.Counts.{all_counts}
 use Rattle.kb_tenants.specs.Tenants.{numbers_in, shelf_is_honest, commands_of, IsCatalogFull}
 use Rattle.kb_tenants.specs.declared.tenants.Tenants.{Tenants}
 use Rattle.kb_broker.specs.Hosts.{OnStore, tenants_in, IsLaterWith}
@@ -113,7 +113,7 @@ returns-in-Ok g c =
     let q = c.self.inside.parking in
     let who = c.in-Ok.concerned in
     let here = state-is _ _ c.self.view_is in
-    let earlier = subst (λ (x : OnStore g.row.S.Denot). IsLaterWith (disk x.store) (disk c.take_turn-taken.new.tenants.shelf.store) x.strays (numbers_in c.take_turn-taken.new.tenants.strays) x.state.tenants us x.by_store (store_counts c.take_turn-taken.new.tenants)) c.self.view_is t.later in
+    let earlier = subst (λ (x : OnStore g.row.S.Denot). IsLaterWith (disk x.store) (disk c.take_turn-taken.new.tenants.shelf.store) x.strays (numbers_in c.take_turn-taken.new.tenants.strays) x.state.tenants us x.counts (all_counts c.take_turn-taken.new.tenants)) c.self.view_is t.later in
     let taken = taken-ok g c in
     let is : IsTakenAt H b.setup b.clock l.number l.session.stage b.tenants us l.session m.session =
     subst (λ (x : BrokerState). IsTakenAt H x.setup x.clock l.number l.session.stage x.tenants us l.session m.session) here c.in-Ok.ensures.ok in
@@ -156,13 +156,13 @@ returns-in-Err g c =
     let shut = ap (λ (x : Line). x.session) c.in-Err.ensures.err in
     let store = c.take_turn-taken.new.tenants.shelf.store in
     let strays = numbers_in c.take_turn-taken.new.tenants.strays in
-    let shares = store_counts c.take_turn-taken.new.tenants in
-    let earlier = subst (λ (x : OnStore g.row.S.Denot). IsLaterWith (disk x.store) (disk store) x.strays strays x.state.tenants us x.by_store shares) c.self.view_is t.later in
-    let same = later-on disk store c.refuse.new.self.store strays c.refuse.new.self.strays us end.tenants shares c.refuse.new.self.by_store c.refuse.ensures.store c.refuse.ensures.strays c.refuse.ensures.by_store (names-counted l.number l.session.stage (put_with b i m us) end counted) (counts-counted l.number l.session.stage (put_with b i m us) end counted) in
+    let shares = all_counts c.take_turn-taken.new.tenants in
+    let earlier = subst (λ (x : OnStore g.row.S.Denot). IsLaterWith (disk x.store) (disk store) x.strays strays x.state.tenants us x.counts shares) c.self.view_is t.later in
+    let same = later-on disk store c.refuse.new.self.store strays c.refuse.new.self.strays us end.tenants shares c.refuse.new.self.counts c.refuse.ensures.store c.refuse.ensures.strays c.refuse.ensures.counts (names-counted l.number l.session.stage (put_with b i m us) end counted) (counts-counted l.number l.session.stage (put_with b i m us) end counted) in
     record {
       continues = refused-taken H b end i l m us l.session.stage taken refl shut taken.turn counted;
       later = later-from disk SpeaksTruth c.args.self.now c.refuse.new.self
-          (later-by (disk c.args.self.now.store) (disk store) (disk c.refuse.new.self.store) c.args.self.now.strays strays c.refuse.new.self.strays b.tenants us end.tenants c.args.self.now.by_store shares c.refuse.new.self.by_store earlier same)
+          (later-by (disk c.args.self.now.store) (disk store) (disk c.refuse.new.self.store) c.args.self.now.strays strays c.refuse.new.self.strays b.tenants us end.tenants c.args.self.now.counts shares c.refuse.new.self.counts earlier same)
           (λ honest. turn-refused g c.self.inside.tenants.shelf.store c.take_turn-taken.new.tenants _ b end i l m here (same.honest honest) taken (t.told (same.honest honest)) shut counted);
       served = λ honest scope still. refused-for who l.session.stage scope b end all (served-refused H (same.honest honest) scope b end i l m us l.session.stage still taken refl shut taken.turn counted);
       remaining = λ honest. refused-left who l.session.stage end all;

@@ -1,7 +1,7 @@
 use Rattle.std.proofs.Common.{◌≡◌, ◌≤◌, ◌<◌, ◌-◌, ◌∙◌, ap, get_or, length, refl, subst, sym}
 use Rattle.kb_tenant_api.specs.Hosted as tenants
 use Rattle.kb_tenant_api.specs.Turns.{IsTurn}
-use Rattle.kb_tenants.specs.Counts.{store_counts}
+use Rattle.kb_tenants.specs.Counts.{all_counts}
 use Rattle.kb_tenants.specs.Renewal.{IsShortened, snapshot_of}
 use Rattle.kb_tenants.specs.Tenants.{all_commands, numbers_in, shelf_is_honest}
 use Rattle.kb_tenants.specs.declared.tenants.Tenants.{Tenants}
@@ -35,7 +35,7 @@ returns-clause-later g c =
     let new = c.shorten.new.self in
     let e = c.shorten.ensures.unseen in
     let there = subst (λ (x : OnStore g.row.S.Denot). c.args.tenant < length x.state.tenants) (sym c.self.view_is) c.requires.there in
-    subst (λ (x : OnStore g.row.S.Denot). IsLaterWith (disk x.store) (disk new.shelf.store) x.strays (numbers_in new.strays) x.state.tenants (tenants_in log disk new) x.by_store (store_counts new)) c.self.view_is
+    subst (λ (x : OnStore g.row.S.Denot). IsLaterWith (disk x.store) (disk new.shelf.store) x.strays (numbers_in new.strays) x.state.tenants (tenants_in log disk new) x.counts (all_counts new)) c.self.view_is
     (later-called log disk old new c.args.tenant (shelf_is_honest disk new) there e.honest e.failures e.turn e.accounted e.strays e.left_alone)
 
 pub returns-clause-turn : goal.returns-clause-turn
@@ -73,7 +73,7 @@ returns-clause-short g c = λ short.
       };
       store = ts.shelf.store;
       strays = numbers_in ts.strays;
-      by_store = store_counts ts;
+      counts = all_counts ts;
       commands = all_commands log ts;
     } in
     ap seen (c.shorten.ensures.short (subst (λ (x : OnStore g.row.S.Denot). get_or x.commands c.args.tenant 0 ≤ snapshot_of (tenants.kept_of x.state.tenants c.args.tenant)) (sym c.self.view_is) short))

@@ -3,7 +3,7 @@ use Rattle.std.specs.Prelude.{OnErr}
 use Rattle.kb_tenant_api.specs.Hosted as tenants
 use Rattle.kb_tenant_api.specs.Turns.{IsTurn}
 use Rattle.kb_tenant_state.specs.Counts.{IsCalm}
-use Rattle.kb_tenants.specs.Counts.{store_counts}
+use Rattle.kb_tenants.specs.Counts.{all_counts}
 use Rattle.kb_tenants.specs.Tenants.{commands_of, numbers_in, shelf_is_honest}
 use Rattle.kb_broker.specs.Hosts.{IsLaterWith, OnStore, tenants_in}
 use Rattle.kb_broker.specs.Ids.{IsSkippedAt}
@@ -36,7 +36,7 @@ returns-clause-later g c =
     let new = c.skip_ids.new.self in
     let e = c.skip_ids.ensures in
     let there = subst (λ (x : OnStore g.row.S.Denot). c.args.tenant < length x.state.tenants) (sym c.self.view_is) c.requires.there in
-    subst (λ (x : OnStore g.row.S.Denot). IsLaterWith (disk x.store) (disk new.shelf.store) x.strays (numbers_in new.strays) x.state.tenants (tenants_in log disk new) x.by_store (store_counts new)) c.self.view_is
+    subst (λ (x : OnStore g.row.S.Denot). IsLaterWith (disk x.store) (disk new.shelf.store) x.strays (numbers_in new.strays) x.state.tenants (tenants_in log disk new) x.counts (all_counts new)) c.self.view_is
     (later-called log disk old new c.args.tenant (shelf_is_honest disk new) there e.honest e.failures e.turn e.accounted e.strays e.left_alone)
 
 pub returns-clause-turn : goal.returns-clause-turn

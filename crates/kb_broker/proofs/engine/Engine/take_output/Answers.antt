@@ -9,7 +9,7 @@ use Rattle.kb_broker.proofs.Fields.{carried-on, rising-inside}
 use Rattle.kb_broker.proofs.Handled.{at-inside}
 use Rattle.kb_broker.proofs.Parked.{queue-kept}
 use Rattle.kb_broker.proofs.Heard.{heard-set, roomy}
-use Rattle.kb_broker.proofs.Honest.{by_store-is, commands-are, state-is, store-is, strays-is, stands-on}
+use Rattle.kb_broker.proofs.Honest.{counts-is, commands-are, state-is, store-is, strays-is, stands-on}
 use Rattle.kb_broker.proofs.RequestLimits.{limit-put}
 use Rattle.kb_broker.proofs.engine.Engine.take_output.Goals as goal
 
@@ -29,7 +29,7 @@ returns-in-Some-clause-state g c =
     let b = c.args.self.now.state in
     let i = c.in-Some.i in
     let l = c.index_mut-connection.result.now in
-    stands-on c.args.self.now _ _ _ _ _ _ (taken-found _ b i c.args.number l c.take_output-output.new.self (state-is _ _ c.self.view_is) c.requires (found _ b i c.args.number l (state-is _ _ c.self.view_is) c.in-Some.ensures.within c.in-Some.ensures.some c.index_mut-connection.ensures.value) c.take_output-output.ensures.state) (store-is _ _ c.self.view_is) (strays-is _ _ c.self.view_is) (by_store-is _ _ c.self.view_is) (commands-are _ _ c.self.view_is)
+    stands-on c.args.self.now _ _ _ _ _ _ (taken-found _ b i c.args.number l c.take_output-output.new.self (state-is _ _ c.self.view_is) c.requires (found _ b i c.args.number l (state-is _ _ c.self.view_is) c.in-Some.ensures.within c.in-Some.ensures.some c.index_mut-connection.ensures.value) c.take_output-output.ensures.state) (store-is _ _ c.self.view_is) (strays-is _ _ c.self.view_is) (counts-is _ _ c.self.view_is) (commands-are _ _ c.self.view_is)
 
 pub returns-in-Some-clause-output : goal.returns-in-Some-clause-output
 returns-in-Some-clause-output g c =

@@ -4,15 +4,15 @@ use Rattle.kb_shares.specs.Ledger.{set_to}
 use Rattle.kb_node.specs.Replies.{place_of}
 use Rattle.kb_node.proofs.Carries.{on_ok}
 use Rattle.kb_node.proofs.Cores.{item_at, same_at}
-use Rattle.kb_node.proofs.Goes.{goes_still, goes_then}
+use Rattle.kb_node.proofs.Telling.{telling_still, telling_then}
 use Rattle.kb_node.proofs.Seats.{kept_at, mark}
 use Rattle.kb_node.proofs.edge.Edge.note_input.Goals as goal
 
-pub returns-then-is_err-clause-goes : goal.returns-then-is_err-clause-goes
-returns-then-is_err-clause-goes g c = goes_then (goes_still (same_at _ c.args.self.now.sockets c.args.place c.in-Some.socket.now c.note_times-timed.new.socket (c.in-Some.ensures.variant.0 refl) c.in-Some.ensures.value (ap core c.note_times-timed.ensures))) c.close.ensures.goes
+pub returns-then-is_err-clause-tells : goal.returns-then-is_err-clause-tells
+returns-then-is_err-clause-tells g c = telling_then (telling_still (same_at _ c.args.self.now.sockets c.args.place c.in-Some.socket.now c.note_times-timed.new.socket (c.in-Some.ensures.variant.0 refl) c.in-Some.ensures.value (ap core c.note_times-timed.ensures))) c.close.ensures.tells
 
-pub returns-clause-goes : goal.returns-clause-goes
-returns-clause-goes g c = goes_still (same_at _ c.args.self.now.sockets c.args.place c.in-Some.socket.now c.note_times-timed.new.socket (c.in-Some.ensures.variant.0 refl) c.in-Some.ensures.value (ap core c.note_times-timed.ensures))
+pub returns-clause-tells : goal.returns-clause-tells
+returns-clause-tells g c = telling_still (same_at _ c.args.self.now.sockets c.args.place c.in-Some.socket.now c.note_times-timed.new.socket (c.in-Some.ensures.variant.0 refl) c.in-Some.ensures.value (ap core c.note_times-timed.ensures))
 
 pub invariant_of-self-2-clause-seated : goal.invariant_of-self-2-clause-seated
 invariant_of-self-2-clause-seated g c = kept_at _ _ _ c.args.self.now.sockets c.args.place c.in-Some.socket.now c.note_times-timed.new.socket (c.in-Some.ensures.variant.0 refl)

@@ -1,6 +1,7 @@
 use Rattle.std.proofs.Common.{refl, ap, ◌∙◌}
 use Rattle.kb_node.proofs.Goes.{goes_committed, goes_still, goes_then}
 use Rattle.kb_node.proofs.Seats.{same_host}
+use Rattle.kb_node.proofs.Telling.{goes_telling, telling_then}
 use Rattle.kb_node.proofs.edge.Edge.serve_together.Goals as goal
 
 pub returns-in_err-commit-clause-goes : goal.returns-in_err-commit-clause-goes
@@ -9,7 +10,7 @@ returns-in_err-commit-clause-goes g c =
 
 pub returns-clause-goes : goal.returns-clause-goes
 returns-clause-goes g c = goes_then c.hand_on.ensures (goes_then (goes_still c.hear_speakers.ensures) (goes_then (goes_committed c.commit.ensures.tried c.commit.ensures.commits refl)
-    (goes_then c.tell.ensures.goes c.tell_asked.ensures.goes)))
+    (goes_telling (telling_then c.tell.ensures.tells c.tell_asked.ensures.tells))))
 
 pub returns-clause-well : goal.returns-clause-well
 returns-clause-well g c = ap (λ x. x.fault) (c.tell_asked.ensures.commits ∙ c.tell.ensures.commits) ∙ c.in_ok-commit.ensures.well.1

@@ -1,5 +1,5 @@
 use Rattle.std.proofs.Common.{refl, ◌∙◌, ap, drop}
-use Rattle.kb_node.proofs.Carries.{StaysOpen, open_then, open_open, stays, writes}
+use Rattle.kb_node.proofs.Carries.{StaysOpen, open_open, open_then, stays, writes, writes_told}
 use Rattle.kb_node.proofs.Seats.{kept_then, seated_then, stays_seated}
 use Rattle.kb_node.proofs.socket.Socket.hand_on.Goals as goal
 
@@ -33,3 +33,8 @@ returns-then-not-speaks-clause-seat g c =
 
 pub returns-else-may_ask-clause-seat : goal.returns-else-may_ask-clause-seat
 returns-else-may_ask-clause-seat g c = stays_seated c.args.shares.now c.args.self.now _ c.write_on.ensures.seat
+
+pub returns-else-may_ask-clause-unasked : goal.returns-else-may_ask-clause-unasked
+returns-else-may_ask-clause-unasked g c = λ _.
+    let put = c.write_on.ensures.written in
+    writes_told g.S.Store.disk g.T.Write.contents g.T.Read.remaining c.args.self.now _ _ put.0 put.1 put.2 c.write_on.ensures.unhanded c.write_on.ensures.over

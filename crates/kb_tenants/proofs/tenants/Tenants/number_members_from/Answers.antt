@@ -36,7 +36,7 @@ pub returns-clause-counts : goal.returns-clause-counts
 returns-clause-counts g c =
     let v = c.args.self.now.tenants in
     let is = items_numbered c.args.first v c.deref_mut.result.now c.number_each.new.tenants c.deref_mut.ensures.value c.number_each.ensures in
-    ap (map (λ (z : Tenant g.row.L.Denot). z.counts.by_store)) is ∙ stores_numbered c.args.first v.items
+    ap (map (λ (z : Tenant g.row.L.Denot). z.counts)) is ∙ stores_numbered c.args.first v.items
 
 pub returns-clause-commands : goal.returns-clause-commands
 returns-clause-commands g c =

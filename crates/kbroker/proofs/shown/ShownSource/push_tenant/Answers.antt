@@ -10,7 +10,7 @@ returns-in-Some-clause-known g c known =
     let files = (g.S.Store.disk shown.edge.now.host.broker.store).files in
     let tenants = c.deref.result.now in
     let all : map (looked_at g.L.PartitionLog.log files) tenants
-    ≡ observed_from (values_of shown.settings.now) shown.edge.now.host.broker.state shown.edge.now.host.broker.by_store shown.edge.now.traffic.items =
+    ≡ observed_from (values_of shown.settings.now) shown.edge.now.host.broker.state shown.edge.now.host.broker.counts shown.edge.now.traffic.items =
     ap (map (looked_at g.L.PartitionLog.log files)) c.deref.ensures.value ∙ c.in_ok-tenants.ensures in
     page_told g.L.PartitionLog.log files c.args.form _ tenants c.in-Some.gauges.now c.args.tenant.now _ _ all
     (c.in-Some.ensures files) c.requires (c.in_ok-push_page-in-Some.ensures files)
@@ -21,6 +21,6 @@ returns-clause-unknown g c missing =
     let files = (g.S.Store.disk shown.edge.now.host.broker.store).files in
     let tenants = c.deref.result.now in
     let all : map (looked_at g.L.PartitionLog.log files) tenants
-    ≡ observed_from (values_of shown.settings.now) shown.edge.now.host.broker.state shown.edge.now.host.broker.by_store shown.edge.now.traffic.items =
+    ≡ observed_from (values_of shown.settings.now) shown.edge.now.host.broker.state shown.edge.now.host.broker.counts shown.edge.now.traffic.items =
     ap (map (looked_at g.L.PartitionLog.log files)) c.deref.ensures.value ∙ c.in_ok-tenants.ensures in
     is_unknown g.L.PartitionLog.log files _ tenants c.args.tenant.now all (c.in-None.ensures files)

@@ -1,0 +1,50 @@
+use Rattle.std.proofs.Common.{◌≡◌, ◌+◌, ◌-◌, ◌≤◌, ◌∙◌, ℕ, length, take, drop, sym, subst, rules}
+use Rattle.std.proofs.lemmas.List.{length-take-le}
+use borrow.Rule.Slice.PartMut.{put_mid, post_of, take_put}
+use Rattle.kb_folder.specs.Folder.{Stays, bytes_in}
+use Rattle.kb_folder.specs.Told.{contents_of}
+use Rattle.kb_folder.specs.declared.history.History.{History}
+use Rattle.kb_folder.proofs.Told.{stays_read}
+use Rattle.kb_folder.proofs.Reading.{read_more, is_part, still_stays}
+use Rattle.kb_folder.proofs.host_folder.read_whole.Goals as goal
+use Rattle.kb_folder.proofs.host_folder.read_whole.Goals.{in-Ok, in-Err}
+
+pub loop-preserved : goal.loop-preserved
+loop-preserved c =
+    let i = c.loop.invariant in
+    let had = contents_of c.args.history.now in
+    let file = c.args.file.now.number in
+    let whole = bytes_in had file in
+    let k = c.loop.read in
+    let old = c.loop.buffer in
+    let sub = c.read.new.buffer in
+    let buffer = put_mid k (length old - k) old sub in
+    let room : length buffer ≡ length c.args.buffer.now = search rules in
+    elim c.match-read.branch [
+      | in-Ok w ↦
+          let n = w.in-Ok.n in
+          let from = c.in-Some.from in
+          let told = w.in-Ok.ensures.read in
+          let fits : n ≤ length sub = search rules in
+          let place : from ≡ c.args.at + k = search rules in
+          record {
+            within = search rules;
+            room = room;
+            stays = still_stays c.loop.history c.read.new.self file had from (take n sub) i.stays told;
+            bytes = λ t.
+                let before = (stays_read c.loop.history c.read.new.self file from (take n sub) told).honest t in
+                let part = is_part c.loop.history c.read.new.self file had from (take n sub) i.stays told t in
+                subst (λ (m : ℕ). take m buffer ≡ take m (drop c.args.at whole)) (sym w.read-is)
+                (read_more whole (take k old) sub (post_of k (length old - k) old) c.args.at from n k place (length-take-le k old i.within) fits (i.bytes before) part);
+          }
+      | in-Err w ↦
+          let same = w.in-Err.ensures.refused in
+          record {
+            within = search rules;
+            room = room;
+            stays = subst (λ (x : History). Stays had (contents_of x)) (sym same) i.stays;
+            bytes = λ t.
+                subst (λ (m : ℕ). take m buffer ≡ take m (drop c.args.at whole)) (sym w.read-is)
+                (take_put k (length old - k) old sub i.within ∙ i.bytes (subst (λ (x : History). (contents_of x).honest) same t));
+          }
+    ]

@@ -1,0 +1,72 @@
+-- What sockets tell, one after another.
+use Rattle.std.proofs.Common.{◌≡◌, ◌<◌, ◌∙◌, List, [], ◌∷◌, ◌++◌, ℕ, Option, slice_index_or, slice_set, vec_len, sym, refl, subst, ap}
+use Rattle.std.specs.declared.alloc.Global.{Global}
+use Rattle.std.specs.declared.vec.Vec.{Vec}
+use Rattle.kb_store.specs.Disk.{Disk}
+use Rattle.kb_node.specs.declared.socket.Socket.{Socket}
+use Rattle.kb_node.specs.Traffic.{Along}
+use Rattle.kb_node.specs.Carries.{Tells}
+use Rattle.kb_node.specs.Commits.{Host}
+use Rattle.kb_node.specs.Cores.{Seen, core, cores, seen}
+use Rattle.kb_node.specs.Moves.{Carry, Goes, GoesTelling, HasTold, IsMoved, Move}
+use Rattle.kb_node.proofs.Cores.{held_at, set_at}
+use Rattle.kb_node.proofs.Traffic.{along_then}
+
+-- what they told they carried
+abbrev moves_by : List ℕ → List Move
+moves_by [] = []
+moves_by (n ∷ ns) = Carry n ∷ moves_by ns
+
+carried_by : {S T : Type 0} (disk : S → Disk) (contents remaining : T → Option (List ℕ)) (ns : List ℕ) (from to : Seen S T)
+    → Along (HasTold disk contents remaining) ns from to → Along (IsMoved disk contents remaining) (moves_by ns) from to
+carried_by disk contents remaining [] from to h = h
+carried_by disk contents remaining (n ∷ ns) from to h = (h.0, h.1.carried, carried_by disk contents remaining ns h.0 to h.2)
+
+module _ {S T : Type 0} {disk : S → Disk} {contents remaining : T → Option (List ℕ)} where
+  pub telling_none : (x : Seen S T) → GoesTelling disk contents remaining x x
+  telling_none x = record { numbers = []; done = refl; store = refl }
+
+  pub telling_then : {from at to : Seen S T} → GoesTelling disk contents remaining from at → GoesTelling disk contents remaining at to
+      → GoesTelling disk contents remaining from to
+  telling_then {from} {at} {to} one two = record {
+    numbers = one.numbers ++ two.numbers;
+    done = along_then (HasTold disk contents remaining) one.numbers two.numbers from at to one.done two.done;
+    store = two.store ∙ one.store;
+  }
+
+  -- where the host stays, and of the sockets only what is remembered of their turns changes
+  pub telling_same : {from a b : Seen S T} → b ≡ a → GoesTelling disk contents remaining from a → GoesTelling disk contents remaining from b
+  telling_same {from} same goes = subst (λ (x : Seen S T). GoesTelling disk contents remaining from x) (sym same) goes
+
+  pub telling_still : {a b : Seen S T} → b ≡ a → GoesTelling disk contents remaining a b
+  telling_still {a} {b} same = telling_same same (telling_none a)
+
+  -- the socket at a place told, and then only what is remembered of its turns changed
+  pub telling_at_place : (h k : Host S) (v : Vec (Socket T) Global) (p : ℕ) (s t u : Socket T) → core u ≡ core t → p < vec_len v
+      → s ≡ slice_index_or v.items p s → t.connection ≡ s.connection → k.tried ≡ h.tried → Tells disk contents remaining s t h.broker k.broker
+      → GoesTelling disk contents remaining (seen h v.items) (seen k (slice_set v.items p u))
+  telling_at_place h k v p s t u same_core lt is same tried told = record {
+    numbers = s.connection ∷ [];
+    done = (
+      seen k (slice_set v.items p u),
+      record {
+        carried = record {
+          place = p;
+          old = s;
+          new = t;
+          before = held_at v p s lt is;
+          after = set_at v.items p u ∙ ap (λ x. slice_set (cores v.items) p x) same_core;
+          number = refl;
+          same = same;
+          tried = tried;
+          carries = told.carries;
+        };
+        told = told.told;
+      },
+      refl,
+    );
+    store = told.told.store;
+  }
+
+  pub goes_telling : {from to : Seen S T} → GoesTelling disk contents remaining from to → Goes disk contents remaining from to
+  goes_telling {from} {to} h = record { moves = moves_by h.numbers; done = carried_by disk contents remaining h.numbers from to h.done }

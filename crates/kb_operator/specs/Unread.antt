@@ -1,0 +1,22 @@
+-- What is told of tenants that wait for those that read their replies.
+use Rattle.std.specs.Prelude.{◌++◌, ℕ, List, codes, decimal, nat_lt, if◌then◌else◌, Option, None, Some, string_bytes}
+use Rattle.kb_operator.specs.declared.counts.Unread.{Unread}
+use Rattle.kb_operator.specs.declared.journal.Tenant.{Tenant}
+
+-- the line of the tenant of a name, of whose replies so many bytes are not read
+abbrev pub waits_line : List ℕ → ℕ → List ℕ
+waits_line name bytes =
+    codes "tenant " ++ name ++ codes " waits for its readers: " ++ decimal bytes ++ codes " bytes of replies are not read"
+
+-- the line of a tenant that waits so: none where it did not wait since the last one
+abbrev pub unread_text : Unread → Tenant → Option (List ℕ)
+unread_text unread t =
+    if nat_lt t.waits.told unread.waits then Some (waits_line (string_bytes t.name) unread.bytes) else None
+
+-- a tenant is told of, which has waited so often
+abbrev pub with_waits : ℕ → Tenant → Tenant
+with_waits waits t = record t { waits = record { told = waits } }
+
+-- each tenant is told of as it waits itself
+abbrev pub told_by : (ℕ → Unread) → Tenant → Tenant
+told_by unread t = with_waits (unread t.place).waits t

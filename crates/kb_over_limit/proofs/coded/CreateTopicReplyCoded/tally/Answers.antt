@@ -1,0 +1,4 @@
+use Rattle.kb_over_limit.proofs.coded.CreateTopicReplyCoded.tally.Goals as goal
+
+pub returns : goal.returns
+returns c = (c.in_ok-entry.entry, c.in_ok-entry.ensures, c.note.ensures)

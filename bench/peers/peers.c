@@ -3,10 +3,12 @@
 
        redis PORT
        nats PORT
+       redis PORT PRODUCERS     prints what one of so many producers waits for an acknowledgement, and how many come in a second
 
    Which peer it is says the file that is linked with this one. */
 #include <arpa/inet.h>
 #include <netinet/tcp.h>
+#include <poll.h>
 #include <stdio.h>
 #include <stdlib.h>
 #include <string.h>
@@ -150,11 +152,53 @@ static void told(const char *what, int consumers) {
     fflush(stdout);
 }
 
+/* What sync/sync.c prints of the broker: the median and the 99th percentile of an acknowledgement, in microseconds, and how many come in
+   a second, where each of some producers has one message in flight. */
+static void at_once(int count) {
+    static float took[SAMPLES];
+    static double sent[MOST];
+    static struct pollfd polled[MOST];
+    char message[ROOM];
+    int n = 0;
+    put_message(message);
+    renew(&connections[0]);
+    double start = now(), end = start + SECONDS;
+    for (int k = 0; k < count; k++) {
+        polled[k] = (struct pollfd){.fd = connections[k].fd, .events = POLLIN};
+        sent[k] = now();
+        tell(&connections[k], message);
+    }
+    for (int open = count; open;) {
+        poll(polled, count, -1);
+        for (int k = 0; k < count; k++)
+            if (polled[k].revents) {
+                hear_ack(&connections[k]);
+                if (n < SAMPLES)
+                    took[n++] = (now() - sent[k]) * 1e6;
+                if ((sent[k] = now()) < end) {
+                    tell(&connections[k], message);
+                } else {
+                    polled[k].fd = -1;
+                    open--;
+                }
+            }
+    }
+    double seconds = now() - start;
+    qsort(took, n, sizeof *took, by_size);
+    printf("%.1f %.1f %.0f\n", took[n / 2], took[n - 1 - n / 100], n / seconds);
+}
+
 int main(int count, char **words) {
-    if (count != 2)
-        fail("the port is the one argument");
+    if (count != 2 && count != 3)
+        fail("the arguments are the port, and how many producers where they alone are measured");
     port = atoi(words[1]);
     prctl(PR_SET_TIMERSLACK, 1);
+    if (count == 3) {
+        int producers = atoi(words[2]);
+        open_to(producers);
+        at_once(producers);
+        return 0;
+    }
     open_to(1);
     produce("Produce, 100 messages of 100 bytes");
     told("1 connection", 0);

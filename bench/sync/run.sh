@@ -1,6 +1,7 @@
 #!/bin/sh
 # What `sync` costs: a producer's answer under "always" against one fdatasync of the same bytes in C on the same disk, 64 producers against
-# one, and "interval" against "never". Where strace is there, 64 producers against one too on a disk that takes 5 ms for a sync more.
+# one, and "interval" against "never". Where redis-server is there, the same of Redis Streams that sync each write (`appendfsync always`).
+# Where strace is there, 64 producers against one too on a disk that takes 5 ms for a sync more.
 # The broker's executable is the first argument, or crates/kbroker/out/kbroker, and how often all of it is done the second. Everything
 # else goes into a new folder, which has to be on a disk.
 set -eu
@@ -11,7 +12,9 @@ cd "$(mktemp -d)"
 python3 "$here/../crc/tables.py" --c > tables.h
 gcc -O2 -I. -I"$here/.." -o disk "$here/disk.c"
 gcc -O2 -I. -I"$here/.." -o sync "$here/sync.c"
-port=$(python3 -c 'import socket; s = socket.socket(); s.bind(("127.0.0.1", 0)); print(s.getsockname()[1])')
+gcc -O2 -o redis "$here/../peers/peers.c" "$here/../peers/redis.c"
+free_port() { python3 -c 'import socket; s = socket.socket(); s.bind(("127.0.0.1", 0)); print(s.getsockname()[1])'; }
+port=$(free_port)
 slow="strace -D -f --seccomp-bpf -o slow.calls -e trace=fsync,fdatasync -e inject=fsync,fdatasync:delay_exit=5000"
 
 pid=
@@ -45,6 +48,18 @@ start() {
     pid=$!
     until [ -s listening ]; do kill -0 $pid 2> stopped || { cat told >&2; exit 1; }; sleep 0.05; done
 }
+# start_redis: starts a Redis on a new folder that answers a write once it is synced.
+start_redis() {
+    stop
+    rm -rf redis-data
+    mkdir redis-data
+    peer=$(free_port)
+    : > told
+    redis-server --bind 127.0.0.1 --port "$peer" --dir "$PWD/redis-data" --save "" --appendonly yes --appendfsync always \
+        --auto-aof-rewrite-percentage 0 > told 2>&1 &
+    pid=$!
+    until grep -q 'Ready to accept' told; do kill -0 $pid 2> stopped || { cat told >&2; exit 1; }; sleep 0.05; done
+}
 # note WHAT COMMAND..: adds a line of figures.
 note() {
     what=$1
@@ -66,6 +81,11 @@ for _ in $(seq "$rounds"); do
     note disk ./disk disk.file 1
     note many ./sync "$port" 64 1 1 1 1
     note spread ./sync "$port" 64 64 1 1 1
+    if command -v redis-server > found; then
+        start_redis
+        note redis-one ./redis "$peer" 1
+        note redis-many ./redis "$peer" 64
+    fi
     if command -v strace > found; then
         start "$always" $slow
         note slow-one ./sync "$port" 1 1 1 1 1
@@ -79,5 +99,5 @@ for _ in $(seq "$rounds"); do
     done
 done
 stop
-rm -rf kbroker-data
+rm -rf kbroker-data redis-data
 python3 "$here/table.py" figures

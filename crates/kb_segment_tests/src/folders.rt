@@ -2,12 +2,12 @@
 ghost use Rattle.std.specs.Prelude.{◌≡◌, true, IfOk};
 ghost use Rattle.kb_store.specs.Disk.{IsThere};
 
-use crate::alone::is_alone;
-use kb_folder::{Folder, FolderCall, FolderFault, FolderStore, HostFolder, Refusals};
+use crate::alone::{is_alone, is_empty};
+use kb_folder::{FolderCall, FolderFault, FolderStore, HostFolder, Refusals};
 use kb_log::{LogFault, Shelf};
 use kb_process::soft_limit;
 use kb_store::{Store, StoreFault, read_file};
-use std::alloc::{AllocError, Global};
+use std::alloc::Global;
 use std::fs;
 use std::process::Abort;
 use std::test::Fail;
@@ -167,102 +167,126 @@ fn a_reserve_is_no_file_of_the_store(rt: HostRuntime) -> Result<(), Fail> {
     Ok(())
 }
 
-/// A folder of the system's, and what it notes of refusals.
+/// Makes, writes, syncs and removes a file, in a store without files.
+#[tactic(auto, using(kb_store::proofs::Disks::is_there_put, kb_store::proofs::Disks::is_there_grown))]
+fn use_once<S: Store>(alloc: Global, store: &mut S) -> Result<(), Fail> {
+    if !is_empty(alloc, store)? {
+        return Err("a file".into());
+    }
+    store.create(0)?;
+    store.append(0, b"some")?;
+    store.sync()?;
+    Ok(store.remove(0)?)
+}
+
+/// Whether a store without files refuses to make one.
+fn makes_none<S: Store>(alloc: Global, store: &mut S) -> Result<bool, Fail> {
+    if !is_empty(alloc, store)? {
+        return Err("a file".into());
+    }
+    Ok(store.create(0) == Err(StoreFault::Device))
+}
+
+/// Whether the file 0, which is the only one, has no bytes, and none of them are read.
+fn has_no_bytes<S: Store>(alloc: Global, store: &mut S) -> Result<bool, Fail> {
+    if !is_alone(alloc, store)? {
+        return Err("another file".into());
+    }
+    store.read_at(0, 0, &mut [])?;
+    Ok(store.len(0)? == 0)
+}
+
+/// One refusal is noted, of that call and that file.
+fn has_noted(
+    rt: &impl Abort,
+    refusals: &Refusals,
+    call: FolderCall,
+    file: Option<u64>,
+) -> Result<(), Fail> {
+    let refusal = refusals.take().ok_or("nothing noted")?;
+    assert!(rt; refusal.call == call && refusal.file == file);
+    assert!(rt; refusals.take().is_none());
+    Ok(())
+}
+
+/// A store over a folder of the system's, and what the folder notes of refusals.
 #[derive(Drop)]
 struct Watched {
-    folder: HostFolder<HostRuntime>,
+    store: FolderStore<HostFolder<HostRuntime>>,
     refusals: Refusals,
 }
 
 impl Watched {
-    /// A folder, of which nothing is noted yet.
-    fn new(alloc: Global, folder: HostFolder<HostRuntime>) -> Result<Watched, AllocError> {
+    /// A store over a folder, of which nothing was noted before.
+    fn over(alloc: Global, folder: HostFolder<HostRuntime>) -> Result<Watched, Fail> {
         let refusals = Refusals::new(alloc)?;
-        let folder = folder.noting(refusals.share()?);
-        Ok(Watched { folder, refusals })
+        let store = FolderStore::new(alloc, folder.noting(refusals.share()?))?;
+        Ok(Watched { store, refusals })
     }
 
     /// One to write in.
     fn to_write(files: &HostRuntime, path: &str) -> Result<Watched, Fail> {
-        let folder = HostFolder::new(*files, path)?;
-        Ok(Watched::new(files.alloc(), folder)?)
+        Watched::over(files.alloc(), HostFolder::new(*files, path)?)
     }
 
     /// One to read in.
     fn to_read(files: &HostRuntime, path: &str) -> Result<Watched, Fail> {
-        let folder = HostFolder::to_read(*files, path)?;
-        Ok(Watched::new(files.alloc(), folder)?)
+        Watched::over(files.alloc(), HostFolder::to_read(*files, path)?)
     }
 
-    /// One to write in that keeps in mind what it changes.
+    /// One to write in that keeps in mind what it changes, and has synced what it found.
     fn to_sync(files: &HostRuntime, path: &str) -> Result<Watched, Fail> {
-        let folder = HostFolder::new(*files, path)?.syncing();
-        Ok(Watched::new(files.alloc(), folder)?)
+        let mut folder = HostFolder::new(*files, path)?.syncing();
+        folder.sync_found()?;
+        Watched::over(files.alloc(), folder)
     }
 
-    /// The length of a file.
-    fn len(&mut self, file: u64) -> Result<u64, FolderFault> {
-        self.folder.len(file)
+    /// A file is made, written, synced and removed again.
+    fn use_once(&mut self, alloc: Global) -> Result<(), Fail> {
+        use_once(alloc, &mut self.store)
     }
 
-    /// How many bytes of a file are read, where none are asked for.
-    fn read(&mut self, file: u64) -> Result<usize, FolderFault> {
-        self.folder.read_at(file, 0, &mut [])
+    /// No file can be made.
+    fn makes_none(&mut self, alloc: Global) -> Result<bool, Fail> {
+        makes_none(alloc, &mut self.store)
     }
 
-    /// Makes a file.
-    fn create(&mut self, file: u64) -> Result<(), FolderFault> {
-        self.folder.create(file)
+    /// The only file has no bytes.
+    fn has_no_bytes(&mut self, alloc: Global) -> Result<bool, Fail> {
+        has_no_bytes(alloc, &mut self.store)
     }
 
-    /// Syncs what was changed.
-    fn sync(&mut self) -> Result<(), FolderFault> {
-        self.folder.sync()
+    /// A sync is refused, and noted.
+    fn is_not_synced(&mut self, rt: &impl Abort) -> Result<(), Fail> {
+        assert!(rt; self.store.sync() == Err(StoreFault::Device));
+        has_noted(rt, &self.refusals, FolderCall::Sync, None)
     }
+}
 
-    /// The file 3 is made, written, synced and removed again: how many bytes were written.
-    fn use_once(&mut self) -> Result<usize, FolderFault> {
-        self.folder.sync_found()?;
-        self.folder.create(3)?;
-        let written = self.folder.write_end(3, 0, b"some")?;
-        self.folder.sync()?;
-        self.folder.remove(3)?;
-        Ok(written)
-    }
-
-    /// One refusal is noted, of that call and that file.
-    fn has_noted(&self, rt: &impl Abort, call: FolderCall, file: Option<u64>) -> Result<(), Fail> {
-        let refusal = self.refusals.take().ok_or("nothing noted")?;
-        assert!(rt; refusal.call == call && refusal.file == file);
-        assert!(rt; self.refusals.take().is_none());
-        Ok(())
-    }
+/// Whether no store can be over a folder, which notes its refusals there.
+fn is_refused(files: &HostRuntime, path: &str, refusals: Refusals) -> Result<bool, Fail> {
+    let folder = HostFolder::to_read(*files, path)?.noting(refusals);
+    Ok(FolderStore::new(files.alloc(), folder).is_err())
 }
 
 #[test]
 fn a_refusal_is_noted(rt: HostRuntime) -> Result<(), Fail> {
-    let mut folder = Watched::to_read(&rt, "/nowhere")?;
-    assert!(rt; folder.len(5) == Err(FolderFault::Refused));
-    folder.has_noted(&rt, FolderCall::Length, Some(5))
-}
-
-/// A sync is refused, and noted.
-fn is_not_synced(rt: &impl Abort, folder: &mut Watched) -> Result<(), Fail> {
-    assert!(rt; folder.sync() == Err(FolderFault::Refused));
-    folder.has_noted(rt, FolderCall::Sync, None)
+    let refusals = Refusals::new(rt.alloc())?;
+    assert!(rt; is_refused(&rt, "/nowhere", refusals.share()?)?);
+    has_noted(&rt, &refusals, FolderCall::List, None)
 }
 
 /// A folder that keeps in mind what it changes is synced. Where that is refused, so is each later sync, also after the cause is gone.
 #[test]
 fn a_refused_sync_is_the_last(rt: HostRuntime) -> Result<(), Fail> {
     let path = folder_of_its_own(&rt)?;
-    let mut folder = Watched::to_sync(&rt, path.as_str())?;
-    assert!(rt; folder.use_once()? == 4);
+    let mut watched = Watched::to_sync(&rt, path.as_str())?;
+    watched.use_once(rt.alloc())?;
     fs::remove_dir(&rt, path.as_str())?;
-    assert!(rt; folder.create(4) == Err(FolderFault::Refused));
-    is_not_synced(&rt, &mut folder)?;
+    assert!(rt; watched.makes_none(rt.alloc())?);
+    watched.is_not_synced(&rt)?;
     fs::create_dir(&rt, path.as_str())?;
-    is_not_synced(&rt, &mut folder)?;
+    watched.is_not_synced(&rt)?;
     fs::remove_dir(&rt, path.as_str())?;
     Ok(())
 }
@@ -271,21 +295,20 @@ fn a_refused_sync_is_the_last(rt: HostRuntime) -> Result<(), Fail> {
 #[test]
 fn a_folder_in_it_has_no_bytes(rt: HostRuntime) -> Result<(), Fail> {
     let path = folder_of_its_own(&rt)?;
-    let inner = format!(in rt.alloc(); "{path}/00000000000000000007.seg")?;
+    let inner = format!(in rt.alloc(); "{path}/00000000000000000000.seg")?;
     fs::create_dir(&rt, inner.as_str())?;
-    has_a_folder(&rt, &mut Watched::to_write(&rt, path.as_str())?)?;
-    has_a_folder(&rt, &mut Watched::to_read(&rt, path.as_str())?)?;
+    has_a_folder(&rt, rt.alloc(), Watched::to_write(&rt, path.as_str())?)?;
+    has_a_folder(&rt, rt.alloc(), Watched::to_read(&rt, path.as_str())?)?;
     fs::remove_dir(&rt, inner.as_str())?;
     fs::remove_dir(&rt, path.as_str())?;
     Ok(())
 }
 
-/// The file 7 of a folder is a folder.
-fn has_a_folder(rt: &impl Abort, folder: &mut Watched) -> Result<(), Fail> {
-    assert!(rt; folder.len(7) == Ok(0));
-    folder.has_noted(rt, FolderCall::Length, Some(7))?;
-    assert!(rt; folder.read(7) == Ok(0));
-    assert!(rt; folder.refusals.take().is_none());
+/// The file 0 of a folder is a folder.
+fn has_a_folder(rt: &impl Abort, alloc: Global, mut watched: Watched) -> Result<(), Fail> {
+    has_noted(rt, &watched.refusals, FolderCall::Length, Some(0))?;
+    assert!(rt; watched.has_no_bytes(alloc)?);
+    assert!(rt; watched.refusals.take().is_none());
     Ok(())
 }
 

@@ -2,7 +2,8 @@
 
 ghost use Rattle.std.specs.Prelude.{◌≡◌, ◌≤◌, ◌<◌, ◌+◌, ◌-◌, ◌/◌, ◌^◌, option_map};
 ghost use Rattle.std.specs.Duration.{as_nanos};
-ghost use Rattle.kb_server_log.specs.Guard.{reading_of, micros_of, started, clock_after, told, notice, at_half_pace, expected, since, steady_after};
+ghost use Rattle.kb_server_log.specs.Guard.{reading_of, micros_of};
+ghost use Rattle.kb_server_log.specs.Guard.{started, clock_after, told, notice, at_half_pace, expected, since, steady_after};
 ghost use Rattle.kb_server_log.specs.Guard.{a_minute, ten_minutes};
 
 use std::time::{Clock, Duration};

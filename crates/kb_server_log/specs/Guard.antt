@@ -1,10 +1,19 @@
 -- How a guarded clock goes on from one reading to the next. Its times are in halves of a microsecond since the beginning of 1970, so
 -- that half of its pace is reckoned without a remainder.
-use Rattle.std.specs.Prelude.{ℕ, ◌+◌, ◌-◌, ◌*◌, ◌^◌, min, max, Bool, ◌&&◌, nat_lt, if◌then◌else◌, Option, Some, None, unwrap_or}
+use Rattle.std.specs.Prelude.{ℕ, ◌+◌, ◌-◌, ◌*◌, ◌/◌, ◌^◌, min, max, Bool, ◌&&◌, nat_lt, if◌then◌else◌, Option, Some, None, unwrap_or}
 use Rattle.kb_server_log.specs.declared.guard.GuardedClock.{GuardedClock}
 use Rattle.kb_server_log.specs.declared.guard.Notice.{Notice}
 use Rattle.kb_server_log.specs.declared.guard.Notice.TheVariants.{Ahead, Taken, Back}
 use Rattle.kb_server_log.specs.declared.guard.Reading.{Reading}
+
+-- nanoseconds in whole microseconds, at most as many as 64 bits hold
+abbrev pub micros_of : ℕ → ℕ
+micros_of nanos = min (nanos / 1000) (2 ^ 64 - 1)
+
+-- The reading where the wall clock and the steady one show so many nanoseconds. One that cannot be read counts as 0.
+abbrev pub reading_of : Option ℕ → Option ℕ → Reading
+reading_of wall steady =
+    record { wall = micros_of (unwrap_or wall 0); steady = micros_of (unwrap_or steady 0) }
 
 -- a minute, in halves of a microsecond
 abbrev pub a_minute : ℕ

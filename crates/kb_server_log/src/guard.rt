@@ -1,7 +1,8 @@
 //! A clock that follows the wall clock, but not each of its jumps.
 
-ghost use Rattle.std.specs.Prelude.{◌≡◌, ◌≤◌, ◌<◌, ◌+◌, ◌-◌, ◌/◌, ◌^◌, min, max};
+ghost use Rattle.std.specs.Prelude.{◌≡◌, ◌≤◌, ◌<◌, ◌+◌, ◌-◌, ◌/◌, ◌^◌, option_map};
 ghost use Rattle.std.specs.Duration.{as_nanos};
+ghost use Rattle.kb_server_log.specs.Guard.{reading_of, micros_of};
 ghost use Rattle.kb_server_log.specs.Guard.{started, clock_after, told, notice, at_half_pace, expected, since, steady_after};
 ghost use Rattle.kb_server_log.specs.Guard.{a_minute, ten_minutes};
 
@@ -59,9 +60,16 @@ pub struct GuardedClock {
 impl Reading {
     /// What the clocks show now. A clock that cannot be read shows 0, and so does a wall clock that is set to a time before 1970.
     pub fn of(clock: &impl Clock) -> Reading {
+        Reading::shown(clock.since_1970().ok(), clock.monotonic().ok())
+    }
+
+    /// The reading of a wall clock and of a steady clock that show so much, where they can be read.
+    fn shown(wall: Option<Duration>, steady: Option<Duration>) -> Reading
+        ensures { result ≡ reading_of (option_map as_nanos wall) (option_map as_nanos steady) }
+    {
         Reading {
-            wall: clock.since_1970().map_or(0, micros_of),
-            steady: clock.monotonic().map_or(0, micros_of),
+            wall: wall.map_or(0, micros_of),
+            steady: steady.map_or(0, micros_of),
         }
     }
 }
@@ -124,7 +132,7 @@ fn notice_of(since: Option<u64>, is_ahead: bool, is_held: bool) -> Option<Notice
 
 /// Whole microseconds, and at most as many as a number of 64 bits holds.
 fn micros_of(since: Duration) -> u64
-    ensures { result ≡ min (as_nanos since / 1000) (2 ^ 64 - 1) }
+    ensures { result ≡ micros_of (as_nanos since) }
 {
     u64::try_from(since.as_micros()).unwrap_or(u64::MAX)
 }

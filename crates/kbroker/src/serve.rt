@@ -131,7 +131,8 @@ fn serve_on<S: PutsOff + Drop>(
     let alloc = rt.alloc();
     let (opened, held) = open(rt, start, store, folder, journal)?;
     let found = Found { held, changed };
-    let (_edge, served) = serve_broker(rt, opened.broker, start.settings, found, folder, journal)?;
+    let (_edge, served) =
+        serve_broker(rt, rt, opened.broker, start.settings, found, folder, journal)?;
     match served {
         Ok(()) => Ok(()),
         Err(fault) => Err(Fault::Operator(folder.of_store(alloc, fault))),
@@ -145,23 +146,25 @@ struct Found {
     changed: Option<u64>,
 }
 
-/// Serves sockets on a broker until the turns are used up, or a commit is refused: its edge as it then is, and how that ended.
+/// Serves a network's sockets on a broker until the turns are used up, or a commit is refused: its edge as it then is, and how that
+/// ended. The network is any one whose sockets the system can wait for.
 ///
 /// What is done to the broker is one run of it, in which tenants are kept apart.
-fn serve_broker<S: Store + Drop, L: PartitionLog + Drop>(
+fn serve_broker<R: Net, S: Store + Drop, L: PartitionLog + Drop>(
     rt: &HostRuntime,
+    net: &R,
     broker: Broker<S, L>,
     settings: &Settings,
     found: Found,
     folder: &mut FolderJournal,
     journal: &mut Journal,
-) -> Result<(Edge<HostRuntime, S, L>, Result<(), StoreFault>), Fault>
+) -> Result<(Edge<R, S, L>, Result<(), StoreFault>), Fault>
     requires { broker.state.lines ≡ [] }
     ensures served { IfOk result (λ ended. IsServed S.disk broker ended.0.host) }
     ensures refused { IfOk result (λ ended. IfErr ended.1 (λ fault. ended.0.host.commits.fault ≡ Some fault)) }
 {
     let alloc = rt.alloc();
-    let mut edge = listen(rt, broker, settings)?;
+    let mut edge = listen(rt, net, broker, settings)?;
     let mut monitoring = Monitoring::open(rt, settings, &mut edge, now(rt))?;
     tell_listening(rt, &edge, folder.folder())?;
     journal.tell_found(alloc, now(rt), Word::Start, found.held);

@@ -1,0 +1,238 @@
+//! Clients that say all that they have to say, over a network in memory that carries any number of bytes at a time. What they are told is
+//! what a broker says that is given the same bytes, each client's at once.
+
+use crate::edge::{Client, Node, Server};
+use crate::hall::{Hall, Pieces};
+use crate::host::Host;
+use crate::words::bytes_of;
+use kb_node::{Limits, Sync};
+use std::alloc::{AllocError, Global};
+use std::io;
+use std::net::Net;
+use std::ops::Range;
+use std::test::Fail;
+
+/// What is said on each connection: by a client of each tenant, by one that does not log in, and by one whose login fails.
+const TALKS: [&str; 4] = [
+    "handshake ann create append hi append hi metadata fetch",
+    "handshake bob create metadata append yo fetch",
+    "versions gssapi versions",
+    "handshake ann-wrong versions",
+];
+
+/// How many turns a talk has at most, and how many more follow in which nothing is to come.
+const TURNS: u32 = 10_000;
+
+const MORE: u32 = 50;
+
+/// For how many turns a client reads nothing.
+const DEAF: u32 = 2_000;
+
+/// How the bytes go: how many at a time at most, how many a way holds, and when a reply waits for a commit.
+const WAYS: [(u32, usize, Sync); 6] = [
+    (2, 4096, Sync::Interval),
+    (7, 16, Sync::Always),
+    (7, 4096, Sync::Never),
+    (60, 64, Sync::Interval),
+    (300, 4096, Sync::Always),
+    (4096, 5, Sync::Never),
+];
+
+/// A client that says something.
+#[derive(Drop)]
+struct Talker<R: Net> {
+    client: Client<R>,
+    words: Vec<u8>,
+    said: usize,
+    is_deaf: bool,
+}
+
+impl<R: Net> Talker<R> {
+    fn join(net: &R, alloc: Global, port: u16, words: &str) -> io::Result<Talker<R>> {
+        let words = bytes_of(alloc, words)?;
+        Ok(Talker {
+            client: Client::connect(net, alloc, port)?,
+            words,
+            said: 0,
+            is_deaf: false,
+        })
+    }
+
+    /// Says what is taken now, and hears what there is.
+    fn go_on(&mut self) -> io::Result<()> {
+        let rest = self.words.get(self.said..).unwrap_or(&[]);
+        self.said = self.said.saturating_add(self.client.send_some(rest));
+        if self.is_deaf {
+            return Ok(());
+        }
+        self.client.look()
+    }
+
+    /// Whether it was told just this.
+    fn was_told(&self, bytes: &[u8]) -> bool {
+        self.client.got.as_slice() == bytes
+    }
+}
+
+/// A client for each talk.
+fn join_all<R: Net>(net: &R, alloc: Global, port: u16) -> io::Result<Vec<Talker<R>>> {
+    let mut talkers = Vec::new(alloc);
+    for words in &TALKS {
+        talkers.push(Talker::join(net, alloc, port, words)?)?;
+    }
+    Ok(talkers)
+}
+
+/// All go on.
+fn go_on_all<R: Net>(talkers: &mut [Talker<R>]) -> io::Result<()> {
+    for talker in talkers {
+        talker.go_on()?;
+    }
+    Ok(())
+}
+
+/// What a broker says to each of them, to one talk after another.
+fn told(alloc: Global) -> Result<Vec<Vec<u8>>, AllocError> {
+    let mut host = Host::new(alloc)?;
+    let mut all = Vec::new(alloc);
+    for (place, words) in TALKS.iter().enumerate() {
+        let number = (place as u64).saturating_add(1);
+        host.open(number)?;
+        all.push(host.ask(number, &bytes_of(alloc, words)?))?;
+    }
+    Ok(all)
+}
+
+/// How many of the first clients were told what a broker says.
+fn count_told<R: Net>(talkers: &[Talker<R>], told: &[Vec<u8>]) -> usize {
+    let mut count = 0usize;
+    for (talker, bytes) in talkers.iter().zip(told) {
+        if !talker.was_told(bytes) {
+            break;
+        }
+        count = count.saturating_add(1);
+    }
+    count
+}
+
+/// Turns an edge at each of some moments, and lets its clients go on, until they were told all, and some turns longer. It answers how many
+/// sockets were closed.
+fn talk<R: Net, E: Server>(
+    alloc: Global,
+    edge: &mut E,
+    talkers: &mut [Talker<R>],
+    told: &[Vec<u8>],
+    moments: Range<u32>,
+) -> io::Result<u64> {
+    let (mut left, mut closed) = (MORE, 0u64);
+    for now in moments {
+        if left == 0 {
+            break;
+        }
+        closed = closed.saturating_add(edge.turn(alloc, now)[3]);
+        go_on_all(talkers)?;
+        if count_told(talkers, told) == talkers.len() {
+            left -= 1;
+        }
+    }
+    Ok(closed)
+}
+
+/// An edge on a network, for a broker that opens on no file.
+fn serve<R: Net>(net: &R, alloc: Global, sync: Sync) -> Result<Node<R>, Fail> {
+    let limits = Limits {
+        sync,
+        ..Limits::default()
+    };
+    Ok(Node::bind(net, alloc, Host::new(alloc)?, limits)?)
+}
+
+/// How many clients are told what a broker says, and how many sockets are closed.
+fn talk_over<R: Net>(
+    net: &R,
+    alloc: Global,
+    sync: Sync,
+    told: &[Vec<u8>],
+) -> Result<(usize, u64), Fail> {
+    let mut edge = serve(net, alloc, sync)?;
+    let mut talkers = join_all(net, alloc, edge.port())?;
+    let closed = talk(alloc, &mut edge, &mut talkers, told, 0..TURNS)?;
+    Ok((count_told(&talkers, told), closed))
+}
+
+#[test]
+fn bytes_may_go_in_any_pieces(rt: HostRuntime) -> Result<(), Fail> {
+    let told = told(rt.alloc())?;
+    for (most, room, sync) in &WAYS {
+        let pieces = Pieces::UpTo(*most, *room as u64);
+        let hall = Hall::new(rt.alloc(), TALKS.len(), pieces, *room)?;
+        let done = talk_over(&hall.room(), rt.alloc(), *sync, &told)?;
+        assert!(rt; done == (TALKS.len(), 1), "up to {most} bytes");
+    }
+    Ok(())
+}
+
+/// How many clients were told all while the first one reads nothing, what that had got by then, and how many when it reads.
+fn talk_to_a_deaf_one<R: Net>(
+    net: &R,
+    alloc: Global,
+    told: &[Vec<u8>],
+) -> Result<(usize, usize, usize), Fail> {
+    let mut edge = serve(net, alloc, Sync::Interval)?;
+    let mut talkers = join_all(net, alloc, edge.port())?;
+    set_deaf(&mut talkers, true);
+    talk(alloc, &mut edge, &mut talkers, told, 0..DEAF)?;
+    let (others, got) = (
+        count_told(&talkers[1..], &told[1..]),
+        talkers[0].client.got.len(),
+    );
+    set_deaf(&mut talkers, false);
+    talk(alloc, &mut edge, &mut talkers, told, DEAF..TURNS)?;
+    Ok((others, got, count_told(&talkers, told)))
+}
+
+/// Whether the first client reads.
+fn set_deaf<R: Net>(talkers: &mut [Talker<R>], is_deaf: bool) {
+    if let Some(talker) = talkers.first_mut() {
+        talker.is_deaf = is_deaf;
+    }
+}
+
+#[test]
+fn a_client_that_reads_later_loses_nothing(rt: HostRuntime) -> Result<(), Fail> {
+    let told = told(rt.alloc())?;
+    let hall = Hall::new(rt.alloc(), TALKS.len(), Pieces::UpTo(40, 1), 24)?;
+    let done = talk_to_a_deaf_one(&hall.room(), rt.alloc(), &told)?;
+    assert!(rt; done == (TALKS.len() - 1, 0, TALKS.len()));
+    Ok(())
+}
+
+/// How many of the first clients are told what a broker says where the others go in the middle, after so many turns of talk, and how many
+/// sockets are closed.
+fn talk_while_some_go<R: Net>(
+    net: &R,
+    alloc: Global,
+    told: &[Vec<u8>],
+    turns: u32,
+) -> Result<(usize, u64), Fail> {
+    let mut edge = serve(net, alloc, Sync::Interval)?;
+    let mut talkers = join_all(net, alloc, edge.port())?;
+    for now in 0..turns {
+        edge.turn(alloc, now);
+        go_on_all(&mut talkers)?;
+    }
+    talkers.truncate(1);
+    let closed = talk(alloc, &mut edge, &mut talkers, told, turns..TURNS)?;
+    Ok((count_told(&talkers, told), closed))
+}
+
+#[test]
+fn clients_that_go_change_nothing(rt: HostRuntime) -> Result<(), Fail> {
+    let told = told(rt.alloc())?;
+    for turns in [1, 5, 9, 20] {
+        let hall = Hall::new(rt.alloc(), TALKS.len(), Pieces::UpTo(20, 3), 64)?;
+        let done = talk_while_some_go(&hall.room(), rt.alloc(), &told, turns)?;
+        assert!(rt; done == (1, 3), "after {turns} turns");
+    }
+    Ok(())
+}

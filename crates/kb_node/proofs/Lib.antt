@@ -9,6 +9,7 @@ pub mod Goes
 pub mod Telling
 pub mod ToldAll
 pub mod Numbers
+pub mod Streams
 pub mod Waiting
 pub mod Told
 pub mod PutBack

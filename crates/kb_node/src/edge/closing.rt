@@ -296,6 +296,9 @@ impl<R: Net, S: Store, L: PartitionLog + Drop> Edge<R, S, L> {
         let Some(socket) = self.sockets.get_mut(place) else {
             return false;
         };
+        if socket.is_ended() {
+            return false;
+        }
         let before = socket.unwritten();
         socket.write_on(turn);
         let after = socket.unwritten();

@@ -14,5 +14,6 @@ pub mod Waiting
 pub mod Told
 pub mod PutBack
 pub mod Isolated
+pub mod Sent
 pub mod Seats
 pub mod Many

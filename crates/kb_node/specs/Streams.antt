@@ -2,13 +2,15 @@
 use Rattle.std.specs.Prelude.{◌≡◌, ◌⊎◌, ◌≤◌, ◌<◌, ◌==◌, ◌||◌, ◌++◌, ℕ, List, [], ◌∷◌, nat_eq, if◌then◌else◌, Bool, true, false, Option, Some, None, IfSome}
 use Rattle.std.specs.List.{find, flat_map}
 use Rattle.kb_store.specs.Disk.{Disk}
-use Rattle.kb_isolation_spec.specs.Machine.{Closes, Comes, Happening, Moment, Opens}
+use Rattle.kb_tenant_state.specs.Counts.{IsCalm}
+use Rattle.kb_isolation_spec.specs.Machine.{Closes, Comes, Happening, Moment, Opens, Sent, those_sent}
+use Rattle.kb_isolation_spec.specs.Broker.{IsCalmFor, IsSound, IsUnowned, alone, alone_unowned, only, owned_by}
 use Rattle.kb_node.specs.Carries.{GoesOn}
 use Rattle.kb_node.specs.Cores.{Core, Seen}
 use Rattle.kb_node.specs.Got.{taken_of}
 use Rattle.kb_node.specs.Moves.{IsRunThrough}
 use Rattle.kb_node.specs.Numbers.{IsInOrder}
-use Rattle.kb_node.specs.Traffic.{Along, Commit, Deed, Event, IsUsed, Take, Use, read_by, written_by}
+use Rattle.kb_node.specs.Traffic.{Along, Commit, Deed, Event, IsUsed, Take, Use, events_of, read_by, written_by}
 
 -- 1. The socket of a connection
 
@@ -103,3 +105,32 @@ pub record AreCarried {S T : Type 0} (disk : S → Disk) (contents remaining : T
   pub run : IsRunThrough disk nows from.host to.host
   pub in_order : IsInOrder to
   pub each : (n : ℕ) → IsCarriedIn contents remaining n run.deeds from to
+
+-- 4. What is sent
+
+-- the first bytes are in front of all
+abbrev pub IsFront : List ℕ → List ℕ → Type 0
+IsFront first all = (rest : List ℕ) × (all ≡ first ++ rest)
+
+-- the bytes that connections got
+abbrev pub bytes_of : List Sent → List ℕ
+bytes_of got = flat_map (λ s. s.bytes) got
+
+-- What was written to the stream of a connection, if a socket carried it, is in front of those bytes.
+abbrev pub IsSent : {S T : Type 0} → (T → Option (List ℕ)) → (T → Option (List ℕ)) → ℕ → List Deed → Seen S T → Seen S T → List ℕ → Type 0
+IsSent contents remaining n deeds from to all =
+    (c : IsCarried contents remaining n deeds from.host.tried to.host.tried (core_of n from.sockets) (core_of n to.sockets))
+    → IsFront (flat_map written_by c.uses) all
+
+-- What clients are sent, where tenants are kept apart.
+pub record AreSent {S T : Type 0} (contents remaining : T → Option (List ℕ)) (deeds : List Deed) (from to : Seen S T) : Type 0 where
+  -- Each connection of a tenant is sent what the machine of that tenant alone writes to it, in order and up to some byte, unless something was
+  -- refused to the tenant or to a connection that was not bound.
+  pub owned : (t : ℕ) → IsCalmFor t from.host.broker.state to.host.broker.state → (n : ℕ)
+      → owned_by t (events_of deeds) from.host.broker.state n ≡ true
+      → IsSent contents remaining n deeds from to (bytes_of (those_sent (only n) (alone t (events_of deeds) from.host.broker.state)))
+  -- One without owner is sent what a machine with nothing in it but that connection writes, unless something was refused to one that was not
+  -- bound.
+  pub unowned : IsSound from.host.broker.state → (n : ℕ) → IsUnowned n (events_of deeds) from.host.broker.state
+      → IsCalm from.host.broker.state.unbound_refusals to.host.broker.state.unbound_refusals
+      → IsSent contents remaining n deeds from to (bytes_of (those_sent (only n) (alone_unowned n (events_of deeds) from.host.broker.state)))

@@ -1,12 +1,18 @@
 -- What is written to a stream is in front of what its connection got.
-use Rattle.std.proofs.Common.{◌≡◌, ◌++◌, ◌∙◌, ℕ, List, [], Option, Some, None, ⊎_elim, ap, refl, sym, subst, append_assoc, append-nil}
+use Rattle.std.proofs.Common.{◌≡◌, ◌≤◌, ◌++◌, ◌∙◌, ℕ, List, [], Option, Some, None, ⊎_elim, ap, refl, sym, subst, append_assoc, append-nil, arith}
 use Rattle.std.specs.List.{flat_map}
+use Rattle.kb_store.specs.Disk.{Disk}
 use Rattle.kb_isolation_spec.specs.Session.{Session}
 use Rattle.kb_isolation_spec.specs.Machine.{Sent, find_line}
+use Rattle.kb_isolation_spec.specs.Broker.{Rising}
 use Rattle.kb_node.specs.Cores.{Core, Seen}
 use Rattle.kb_node.specs.Got.{AreIsolated, HasGot, taken_of}
-use Rattle.kb_node.specs.Streams.{AreSent, IsCarried, IsFront, IsSent, bytes_of, core_of, unwritten_in}
-use Rattle.kb_node.specs.Traffic.{Deed, written_by}
+use Rattle.kb_node.specs.Moves.{IsTurn}
+use Rattle.kb_node.specs.Streams.{AreCarried, AreSent, AreServed, IsAlone, IsFront, IsSent, bytes_of, core_of, unwritten_in}
+use Rattle.kb_node.specs.Traffic.{Along, Deed, written_by}
+use Rattle.kb_node.proofs.Isolated.{isolated}
+use Rattle.kb_node.proofs.Numbers.{nobody_in_order}
+use Rattle.kb_node.proofs.Streams.{carried}
 
 -- what was taken is in front of what the connection got
 got_front : (n : ℕ) (bytes : List ℕ) (o : Option Session) (got : List Sent) → HasGot n bytes o got → IsFront bytes (bytes_of got)
@@ -32,3 +38,16 @@ module _ {S T : Type 0} (contents remaining : T → Option (List ℕ)) (deeds : 
     unowned = λ sound n owner calm.
         in_front n _ none (got_front n (taken_of n deeds) (find_line n to.host.broker.state.lines) _ (apart.unowned sound n owner calm));
   }
+
+-- turns from where nobody is connected
+pub served : {S T : Type 0} {disk : S → Disk} {contents remaining : T → Option (List ℕ)} (nows : List ℕ) (from to : Seen S T)
+    → Along (IsTurn disk contents remaining) nows from to → IsAlone from → AreServed disk contents remaining nows from to
+served {S} {T} {disk} {contents} {remaining} nows from to turns alone =
+    let all : AreCarried disk contents remaining nows from to = carried nows from to turns (nobody_in_order from alone.sockets) in
+    let low : 0 ≤ from.host.broker.state.last = omega arith in
+    let rises : Rising 0 from.host.broker.state.last from.host.broker.state.lines = subst (Rising 0 from.host.broker.state.last) (sym alone.lines) low in
+    record {
+      carried = all;
+      sent = λ honest. sent contents remaining all.run.deeds from to alone.sockets
+          (isolated disk from.host.tried all.run.deeds from.host.broker to.host.broker all.run.done all.run.is_run rises alone.tried honest);
+    }

@@ -5,6 +5,7 @@ use Rattle.kb_store.specs.Disk.{Disk}
 use Rattle.kb_tenant_state.specs.Counts.{IsCalm}
 use Rattle.kb_isolation_spec.specs.Machine.{Closes, Comes, Happening, Moment, Opens, Sent, those_sent}
 use Rattle.kb_isolation_spec.specs.Broker.{IsCalmFor, IsSound, IsUnowned, alone, alone_unowned, only, owned_by}
+use Rattle.kb_broker.specs.Hosts.{is_honest}
 use Rattle.kb_node.specs.Carries.{GoesOn}
 use Rattle.kb_node.specs.Cores.{Core, Seen}
 use Rattle.kb_node.specs.Got.{taken_of}
@@ -134,3 +135,15 @@ pub record AreSent {S T : Type 0} (contents remaining : T → Option (List ℕ))
   pub unowned : IsSound from.host.broker.state → (n : ℕ) → IsUnowned n (events_of deeds) from.host.broker.state
       → IsCalm from.host.broker.state.unbound_refusals to.host.broker.state.unbound_refusals
       → IsSent contents remaining n deeds from to (bytes_of (those_sent (only n) (alone_unowned n (events_of deeds) from.host.broker.state)))
+
+-- Nobody is connected, with a socket or without.
+pub record IsAlone {S T : Type 0} (x : Seen S T) : Type 0 where
+  pub sockets : x.sockets ≡ []
+  pub lines : x.host.broker.state.lines ≡ []
+  pub tried : x.host.broker.state.last ≤ x.host.tried
+
+-- Clients were served in turns at those moments: each connection was carried by one socket, or by none. Where the store is honest to the end,
+-- they were sent what the machines write.
+pub record AreServed {S T : Type 0} (disk : S → Disk) (contents remaining : T → Option (List ℕ)) (nows : List ℕ) (from to : Seen S T) : Type 0 where
+  pub carried : AreCarried disk contents remaining nows from to
+  pub sent : is_honest disk to.host.broker → AreSent contents remaining carried.run.deeds from to

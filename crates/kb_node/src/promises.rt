@@ -8,7 +8,7 @@ ghost use Rattle.kb_node.specs.Cores.{Seen};
 ghost use Rattle.kb_node.specs.Got.{AreIsolated};
 ghost use Rattle.kb_node.specs.Moves.{Goes, IsRunOf, IsRunThrough, IsTurn};
 ghost use Rattle.kb_node.specs.Numbers.{IsInOrder};
-ghost use Rattle.kb_node.specs.Streams.{AreCarried, AreSent};
+ghost use Rattle.kb_node.specs.Streams.{AreCarried, AreServed, IsAlone};
 ghost use Rattle.kb_node.specs.Traffic.{Along};
 
 use kb_store::Store;
@@ -55,10 +55,9 @@ pub fn each_connection_has_one_socket<S: Store, T: Read + Write>()
         → AreCarried S.disk T.contents T.remaining nows from to }
 {}
 
-/// What is written to the stream of a connection is what the machine of its tenant alone writes, in order and up to some byte, where turns
-/// begin with no socket. The premises are those of [`turns_keep_tenants_apart`].
+/// Where nobody is connected before, clients are served in turns, however many: what is written to the stream of a connection is what the
+/// machine of its tenant alone writes, in order and up to some byte. The premises are those of [`turns_keep_tenants_apart`].
 pub fn clients_are_sent_what_machines_write<S: Store, T: Read + Write>()
-    ensures { (nows : List ℕ) → (from to : Seen S T) → (turned : AreCarried S.disk T.contents T.remaining nows from to) → from.sockets ≡ []
-        → Rising 0 from.host.broker.state.last from.host.broker.state.lines → from.host.broker.state.last ≤ from.host.tried
-        → is_honest S.disk to.host.broker → AreSent T.contents T.remaining turned.run.deeds from to }
+    ensures { (nows : List ℕ) → (from to : Seen S T) → Along (IsTurn S.disk T.contents T.remaining) nows from to → IsAlone from
+        → AreServed S.disk T.contents T.remaining nows from to }
 {}

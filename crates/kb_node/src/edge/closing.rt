@@ -296,10 +296,10 @@ impl<R: Net, S: Store, L: PartitionLog + Drop> Edge<R, S, L> {
         let Some(socket) = self.sockets.get_mut(place) else {
             return false;
         };
-        if socket.is_ended() {
+        let before = socket.unwritten();
+        if before == 0 || socket.is_ended() {
             return false;
         }
-        let before = socket.unwritten();
         socket.write_on(turn);
         let after = socket.unwritten();
         if after == before {

@@ -44,8 +44,8 @@ pub fn turns_keep_tenants_apart<S: Store>()
         → AreIsolated run.deeds from.broker.state to.broker.state }
 {}
 
-/// However often an edge is turned, each connection is carried by one socket, or by none. What is written to its stream is what was taken of
-/// that connection, in order, and what is handed on as that connection's bytes is what was read of the stream, in order. Behind its end
+/// However often an edge is turned, each connection is carried by one socket, or by none. What is written to its stream is what was taken
+/// of that connection, in order, and what is handed on as that connection's bytes is what was read of the stream, in order. Behind its end
 /// nothing is read or written. It is so turn by turn, as for a loop.
 pub fn each_connection_has_one_socket<S: Store, T: Read + Write>()
     ensures begun { (x : Seen S T) → IsInOrder x → AreCarried S.disk T.contents T.remaining [] x x }

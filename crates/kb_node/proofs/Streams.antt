@@ -15,7 +15,7 @@ use Rattle.kb_node.specs.Cores.{Core, Seen, core, open_ones}
 use Rattle.kb_node.specs.Got.{taken_of}
 use Rattle.kb_node.specs.Moves.{Carry, IsMoved, IsTurn, Leave, LeaveAt, Move, Open, Settle}
 use Rattle.kb_node.specs.Numbers.{IsInOrder, Rise}
-use Rattle.kb_node.specs.Streams.{AreCarried, BeginsWith, EndsWith, IsCarried, IsCarriedIn, IsNobodys, came_in, core_of, handed_of, is_broken_in, is_closed_in, unhanded_in, unwritten_in}
+use Rattle.kb_node.specs.Streams.{AreCarried, BeginsWith, EndsWith, IsCarried, IsCarriedIn, IsUncarried, came_in, core_of, handed_of, is_broken_in, is_closed_in, unhanded_in, unwritten_in}
 use Rattle.kb_node.proofs.Carries.{either, goes_on, or_right}
 use Rattle.kb_node.proofs.Goes.{of_move, of_moves, run_begins, run_of, run_on, run_through}
 use Rattle.kb_node.proofs.Numbers.{behind_here, behind_other, find_here, is_it, is_not, move_keeps, moved, none_above, none_below, remove_here, remove_other, rise_filter, rises_by, set_here, set_other, turn_keeps}
@@ -220,7 +220,7 @@ module _ {T : Type 0} (contents remaining : T → Option (List ℕ)) (n : ℕ) w
 
   -- carried by one socket, or by none
   abbrev Either : List Deed → ℕ → ℕ → Option (Core T) → Option (Core T) → Type 0
-  Either ds a b o p = IsCarried contents remaining n ds a b o p ⊎ IsNobodys n ds o p
+  Either ds a b o p = IsCarried contents remaining n ds a b o p ⊎ IsUncarried n ds o p
 
   either_then : (ds es : List Deed) (a b k : ℕ) (o m p : Option (Core T)) → a ≤ b → b ≤ k → Either ds a b o m → Either es b k m p
       → Either (ds ++ es) a k o p

@@ -69,7 +69,7 @@ EndsWith stream n tried (Some c) = c.stream ≡ stream
 
 -- A socket carried a connection, by one stream. What was written to that is what was unwritten, and then what was taken of the connection, in
 -- order. What was handed on as the connection's bytes is what was kept, and then what was read of the stream, in order. Nothing is lost but at
--- the end, and what was read but for want of memory. It was so before with the first of both numbers tried, and is so with the other.
+-- the end, and what was read but for want of memory. The greatest numbers that were tried before and after are given.
 pub record IsCarried {T : Type 0} (contents remaining : T → Option (List ℕ)) (n : ℕ) (deeds : List Deed) (before after : ℕ)
     (old new : Option (Core T)) : Type 0 where
   pub first : T
@@ -87,7 +87,7 @@ pub record IsCarried {T : Type 0} (contents remaining : T → Option (List ℕ))
   pub lost : IfSome old (λ c. c.is_lost ≡ true → (is_broken_in new ≡ true) × (flat_map read_by uses ≡ []) × (handed_of n deeds ≡ []))
 
 -- No socket carries a connection, before or after: nothing was taken of it, and nothing was handed on as its bytes.
-pub record IsNobodys {T : Type 0} (n : ℕ) (deeds : List Deed) (old new : Option (Core T)) : Type 0 where
+pub record IsUncarried {T : Type 0} (n : ℕ) (deeds : List Deed) (old new : Option (Core T)) : Type 0 where
   pub before : old ≡ None
   pub after : new ≡ None
   pub taken : taken_of n deeds ≡ []
@@ -97,7 +97,7 @@ pub record IsNobodys {T : Type 0} (n : ℕ) (deeds : List Deed) (old new : Optio
 abbrev pub IsCarriedIn : {S T : Type 0} → (T → Option (List ℕ)) → (T → Option (List ℕ)) → ℕ → List Deed → Seen S T → Seen S T → Type 0
 IsCarriedIn contents remaining n deeds from to =
     IsCarried contents remaining n deeds from.host.tried to.host.tried (core_of n from.sockets) (core_of n to.sockets)
-    ⊎ IsNobodys n deeds (core_of n from.sockets) (core_of n to.sockets)
+    ⊎ IsUncarried n deeds (core_of n from.sockets) (core_of n to.sockets)
 
 -- Turns at those moments were one run of the broker, and each connection was carried by one socket in it, or by none. The sockets stand by
 -- rising number, so no two carry one connection.

@@ -40,9 +40,9 @@ module _ {S T : Type 0} {disk : S → Disk} {contents remaining : T → Option (
 
   -- the socket at a place carried
   pub goes_carried : (h k : Host S) (v : Vec (Socket T) Global) (p : ℕ) (s t : Socket T) → p < vec_len v → s ≡ slice_index_or v.items p s
-      → t.connection ≡ s.connection → k.tried ≡ h.tried → Carries disk contents remaining s t h.broker k.broker
+      → t.connection ≡ s.connection → s.is_ended ≡ false → k.tried ≡ h.tried → Carries disk contents remaining s t h.broker k.broker
       → Goes disk contents remaining (seen h v.items) (seen k (slice_set v.items p t))
-  goes_carried h k v p s t lt is same tried c = record {
+  goes_carried h k v p s t lt is same unended tried c = record {
     moves = Carry s.connection ∷ [];
     done = (
       seen k (slice_set v.items p t),
@@ -54,6 +54,7 @@ module _ {S T : Type 0} {disk : S → Disk} {contents remaining : T → Option (
         after = set_at v.items p t;
         number = refl;
         same = same;
+        not_ended = unended;
         tried = tried;
         carries = c;
       },
@@ -63,11 +64,11 @@ module _ {S T : Type 0} {disk : S → Disk} {contents remaining : T → Option (
 
   -- and then only what is remembered of its turns changed
   pub goes_carried_as : (h k : Host S) (v : Vec (Socket T) Global) (p : ℕ) (s t u : Socket T) → core u ≡ core t → p < vec_len v
-      → s ≡ slice_index_or v.items p s → t.connection ≡ s.connection → k.tried ≡ h.tried → Carries disk contents remaining s t h.broker k.broker
-      → Goes disk contents remaining (seen h v.items) (seen k (slice_set v.items p u))
-  goes_carried_as h k v p s t u same_core lt is same tried c = goes_same
+      → s ≡ slice_index_or v.items p s → t.connection ≡ s.connection → s.is_ended ≡ false → k.tried ≡ h.tried
+      → Carries disk contents remaining s t h.broker k.broker → Goes disk contents remaining (seen h v.items) (seen k (slice_set v.items p u))
+  goes_carried_as h k v p s t u same_core lt is same unended tried c = goes_same
       (ap (λ cs. record { host = k; sockets = cs }) (set_at v.items p u ∙ ap (λ x. slice_set (cores v.items) p x) same_core ∙ sym (set_at v.items p t)))
-      (goes_carried h k v p s t lt is same tried c)
+      (goes_carried h k v p s t lt is same unended tried c)
 
   pub goes_left : (h : Host S) (xs ys : List (Socket T)) → cores ys ≡ open_ones (cores xs) → Goes disk contents remaining (seen h xs) (seen h ys)
   goes_left h xs ys left = record { moves = Leave ∷ []; done = (seen h ys, (refl, left), refl) }
@@ -99,22 +100,22 @@ module _ {S T : Type 0} {disk : S → Disk} {contents remaining : T → Option (
 
   -- the socket at a place wrote some of its output
   pub goes_written : (h : Host S) (v : Vec (Socket T) Global) (p : ℕ) (s t : Socket T) → p < vec_len v → s ≡ slice_index_or v.items p s
-      → t.connection ≡ s.connection → (put : List ℕ) → Appends (contents s.stream) (contents t.stream) put
-      → unwritten_of s ≡ put ++ unwritten_of t → unhanded_of t ≡ unhanded_of s → (s.is_over ≡ true → t.is_over ≡ true)
+      → t.connection ≡ s.connection → s.is_ended ≡ false → (put : List ℕ) → Appends (contents s.stream) (contents t.stream) put
+      → unwritten_of s ≡ put ++ unwritten_of t → unhanded_of t ≡ unhanded_of s → (s.is_over ≡ true → t.is_over ≡ true) → t.is_lost ≡ s.is_lost
       → Goes disk contents remaining (seen h v.items) (seen h (slice_set v.items p t))
-  goes_written h v p s t lt is same put stream out in_ over = goes_carried h h v p s t lt is same refl
-      (writes disk contents remaining s t h.broker h.broker put refl stream out in_ over)
+  goes_written h v p s t lt is same unended put stream out in_ over lost = goes_carried h h v p s t lt is same unended refl
+      (writes disk contents remaining s t h.broker h.broker put refl stream out in_ over lost)
 
   -- and then only what is remembered of its turns changed
   pub goes_noted : (h : Host S) (v : Vec (Socket T) Global) (p : ℕ) (s t u : Socket T) (a m k : ℕ) (w : t.written ≤ vec_len t.output)
       → u ≡ record t { active = a; moved = m; holder = k; within = w }
       → p < vec_len v → s ≡ slice_index_or v.items p s
-      → t.connection ≡ s.connection → (put : List ℕ) → Appends (contents s.stream) (contents t.stream) put
-      → unwritten_of s ≡ put ++ unwritten_of t → unhanded_of t ≡ unhanded_of s → (s.is_over ≡ true → t.is_over ≡ true)
+      → t.connection ≡ s.connection → s.is_ended ≡ false → (put : List ℕ) → Appends (contents s.stream) (contents t.stream) put
+      → unwritten_of s ≡ put ++ unwritten_of t → unhanded_of t ≡ unhanded_of s → (s.is_over ≡ true → t.is_over ≡ true) → t.is_lost ≡ s.is_lost
       → Goes disk contents remaining (seen h v.items) (seen h (slice_set v.items p u))
-  goes_noted h v p s t u a m k w noted lt is same put stream out in_ over =
+  goes_noted h v p s t u a m k w noted lt is same unended put stream out in_ over lost =
       subst (λ (x : Socket T). Goes disk contents remaining (seen h v.items) (seen h (slice_set v.items p x))) (sym noted)
-      (goes_written h v p s (record t { active = a; moved = m; holder = k; within = w }) lt is same put stream out in_ over)
+      (goes_written h v p s (record t { active = a; moved = m; holder = k; within = w }) lt is same unended put stream out in_ over lost)
 
   pub turned : {now : ℕ} {from at to : Seen S T} → Happens disk (Moment now) from.host.broker at.host.broker → at.host.tried ≡ from.host.tried
       → at.sockets ≡ from.sockets → Goes disk contents remaining at to → IsTurn disk contents remaining now from to
@@ -127,11 +128,11 @@ happens_same {S} {T} {disk} {e} {from} same happens = subst (λ (x : Seen S T). 
 
 -- a socket that comes behind the others, as they were
 pub joined : {T : Type 0} {stream : T} {n : ℕ} (old mid new : List (Socket T)) (s : Socket T) → new ≡ mid ++ s ∷ [] → mid ≡ old
-    → s.connection ≡ n → s.stream ≡ stream → unwritten_of s ≡ [] → unhanded_of s ≡ [] → s.is_ended ≡ false
-    → IsJoined stream n (cores old) (cores new)
-joined {T} {stream} {n} old mid new s is same number carries unwritten unhanded is_open = record {
+    → s.connection ≡ n → s.stream ≡ stream → unwritten_of s ≡ [] → unhanded_of s ≡ [] → s.is_lost ≡ false
+    → s.is_ended ≡ false → IsJoined stream n (cores old) (cores new)
+joined {T} {stream} {n} old mid new s is same number carries unwritten unhanded whole is_open = record {
   behind = ap cores is ∙ map-append core mid (s ∷ []) ∙ ap (λ xs. cores xs ++ core s ∷ []) same ∙ λ i. cores old
-      ++ record { connection = number i; stream = carries i; unwritten = unwritten i; unhanded = unhanded i; is_ended = is_open i } ∷ [];
+      ++ record { connection = number i; stream = carries i; unwritten = unwritten i; unhanded = unhanded i; is_lost = whole i; is_ended = is_open i } ∷ [];
 }
 
 pub seen_same : {S T : Type 0} {h k : Host S} {v w : Vec (Socket T) Global} → k ≡ h → w ≡ v → seen k w.items ≡ seen h v.items
@@ -147,12 +148,12 @@ no_moment n (Event (Moment now)) is = absurd (let no : None ≡ Some n = is in c
 no_moment n (Take k bytes) is = refl
 no_moment n Commit is = absurd (let no : None ≡ Some n = is in cc)
 
-timeless : (n : ℕ) (deeds : List Deed) → AreAbout n deeds → AllByRecursion (λ d. is_moment d ≡ false) deeds
+pub timeless : (n : ℕ) (deeds : List Deed) → AreAbout n deeds → AllByRecursion (λ d. is_moment d ≡ false) deeds
 timeless n [] all = tt
 timeless n (d ∷ ds) all = (no_moment n d all.0, timeless n ds all.1)
 
 -- what a socket does opens nothing, so no number is tried in it
-run_about : (n t : ℕ) (deeds : List Deed) → AreAbout n deeds → IsRun t (events_of deeds)
+pub run_about : (n t : ℕ) (deeds : List Deed) → AreAbout n deeds → IsRun t (events_of deeds)
 run_about n t [] all = tt
 run_about n t (Event (Opens k) ∷ ds) all = absurd (let no : None ≡ Some n = all.0 in cc)
 run_about n t (Event (Comes k piece) ∷ ds) all = run_about n t ds all.1
@@ -161,7 +162,7 @@ run_about n t (Event (Moment now) ∷ ds) all = absurd (let no : None ≡ Some n
 run_about n t (Take k bytes ∷ ds) all = run_about n t ds all.1
 run_about n t (Commit ∷ ds) all = absurd (let no : None ≡ Some n = all.0 in cc)
 
-tried_about : (n t : ℕ) (deeds : List Deed) → AreAbout n deeds → tried_after t (events_of deeds) ≡ t
+pub tried_about : (n t : ℕ) (deeds : List Deed) → AreAbout n deeds → tried_after t (events_of deeds) ≡ t
 tried_about n t [] all = refl
 tried_about n t (Event (Opens k) ∷ ds) all = absurd (let no : None ≡ Some n = all.0 in cc)
 tried_about n t (Event (Comes k piece) ∷ ds) all = tried_about n t ds all.1
@@ -189,7 +190,7 @@ events_then (Event e ∷ ds) es = ap (λ x. e ∷ x) (events_then ds es)
 events_then (Take n bytes ∷ ds) es = events_then ds es
 events_then (Commit ∷ ds) es = events_then ds es
 
-moments_then : (ds es : List Deed) → moments_of (ds ++ es) ≡ moments_of ds ++ moments_of es
+pub moments_then : (ds es : List Deed) → moments_of (ds ++ es) ≡ moments_of ds ++ moments_of es
 moments_then [] es = refl
 moments_then (Event (Opens n) ∷ ds) es = moments_then ds es
 moments_then (Event (Comes n piece) ∷ ds) es = moments_then ds es
@@ -198,7 +199,7 @@ moments_then (Event (Moment now) ∷ ds) es = ap (λ x. now ∷ x) (moments_then
 moments_then (Take n bytes ∷ ds) es = moments_then ds es
 moments_then (Commit ∷ ds) es = moments_then ds es
 
-no_moments : (ds : List Deed) → AllByRecursion (λ d. is_moment d ≡ false) ds → moments_of ds ≡ []
+pub no_moments : (ds : List Deed) → AllByRecursion (λ d. is_moment d ≡ false) ds → moments_of ds ≡ []
 no_moments [] all = refl
 no_moments (Event (Opens n) ∷ ds) all = no_moments ds all.1
 no_moments (Event (Comes n piece) ∷ ds) all = no_moments ds all.1
@@ -208,12 +209,12 @@ no_moments (Take n bytes ∷ ds) all = no_moments ds all.1
 no_moments (Commit ∷ ds) all = no_moments ds all.1
 
 -- a run goes on by another where that has its numbers above those of the first
-runs_then : (a b : ℕ) (ds es : List Deed) → IsRun a (events_of ds) → b ≡ tried_after a (events_of ds) → IsRun b (events_of es)
+pub runs_then : (a b : ℕ) (ds es : List Deed) → IsRun a (events_of ds) → b ≡ tried_after a (events_of ds) → IsRun b (events_of es)
     → IsRun a (events_of (ds ++ es))
 runs_then a b ds es one is two = subst (λ x. IsRun a x) (sym (events_then ds es))
     (run_then a (events_of ds) (events_of es) one (subst (λ t. IsRun t (events_of es)) is two))
 
-tries_then : (a b c : ℕ) (ds es : List Deed) → b ≡ tried_after a (events_of ds) → c ≡ tried_after b (events_of es)
+pub tries_then : (a b c : ℕ) (ds es : List Deed) → b ≡ tried_after a (events_of ds) → c ≡ tried_after b (events_of es)
     → c ≡ tried_after a (events_of (ds ++ es))
 tries_then a b c ds es one two = two ∙ ap (λ t. tried_after t (events_of es)) one ∙ sym (after_then a (events_of ds) (events_of es))
     ∙ ap (λ x. tried_after a x) (sym (events_then ds es))
@@ -221,7 +222,7 @@ tries_then a b c ds es one two = two ∙ ap (λ t. tried_after t (events_of es))
 -- 4. Turns
 
 -- deeds without a moment lead from one to the other, and their events are a run
-record AreTimeless {S : Type 0} (disk : S → Disk) (from to : Host S) : Type 0 where
+pub record AreTimeless {S : Type 0} (disk : S → Disk) (from to : Host S) : Type 0 where
   pub deeds : List Deed
   pub timeless : AllByRecursion (λ d. is_moment d ≡ false) deeds
   pub done : AreDone disk deeds from.broker to.broker
@@ -229,7 +230,7 @@ record AreTimeless {S : Type 0} (disk : S → Disk) (from to : Host S) : Type 0 
   pub tried : to.tried ≡ tried_after from.tried (events_of deeds)
 
 module _ {S T : Type 0} (disk : S → Disk) (contents remaining : T → Option (List ℕ)) where
-  of_move : (m : Move) (from to : Seen S T) → IsMoved disk contents remaining m from to → AreTimeless disk from.host to.host
+  unfoldable pub of_move : (m : Move) (from to : Seen S T) → IsMoved disk contents remaining m from to → AreTimeless disk from.host to.host
   of_move (Open n) from to h =
       record { deeds = Event (Opens n) ∷ []; timeless = (refl, tt); done = (to.host.broker, h.opens, refl); is_run = (h.rises, tt); tried = h.tried }
   of_move (Carry n) from to h = let c = h.carries in let m = h.old.connection in record {
@@ -246,7 +247,7 @@ module _ {S T : Type 0} (disk : S → Disk) (contents remaining : T → Option (
   of_move Settle from to h =
       record { deeds = Commit ∷ []; timeless = (refl, tt); done = (to.host.broker, h.commits, refl); is_run = tt; tried = h.tried }
 
-  of_moves : (ms : List Move) (from to : Seen S T) → Along (IsMoved disk contents remaining) ms from to → AreTimeless disk from.host to.host
+  unfoldable pub of_moves : (ms : List Move) (from to : Seen S T) → Along (IsMoved disk contents remaining) ms from to → AreTimeless disk from.host to.host
   of_moves [] from to h =
       record { deeds = []; timeless = tt; done = ap (λ x. x.host.broker) h; is_run = tt; tried = ap (λ x. x.host.tried) h }
   of_moves (m ∷ ms) from to h =
@@ -261,7 +262,7 @@ module _ {S T : Type 0} (disk : S → Disk) (contents remaining : T → Option (
       }
 
 -- a turn, as what it does one after another
-pub run_of : {S T : Type 0} {disk : S → Disk} {contents remaining : T → Option (List ℕ)} {now : ℕ} {from to : Seen S T}
+unfoldable pub run_of : {S T : Type 0} {disk : S → Disk} {contents remaining : T → Option (List ℕ)} {now : ℕ} {from to : Seen S T}
     → IsTurn disk contents remaining now from to → IsRunOf disk now from.host to.host
 run_of {S} {T} {disk} {contents} {remaining} {now} {from} {to} turn =
     let all = of_moves disk contents remaining turn.goes.moves turn.begun to turn.goes.done in
@@ -276,7 +277,7 @@ run_of {S} {T} {disk} {contents} {remaining} {now} {from} {to} turn =
     }
 
 -- turns one after another are one run
-pub run_through : {S : Type 0} (disk : S → Disk) (nows : List ℕ) (from to : Host S) → Along (IsRunOf disk) nows from to
+unfoldable pub run_through : {S : Type 0} (disk : S → Disk) (nows : List ℕ) (from to : Host S) → Along (IsRunOf disk) nows from to
     → IsRunThrough disk nows from to
 run_through disk [] from to h =
     record { deeds = []; done = ap (λ x. x.broker) h; moments = refl; is_run = tt; tried = ap (λ x. x.tried) h }
@@ -294,7 +295,7 @@ run_through disk (now ∷ nows) from to h =
     }
 
 -- and one turn more goes on with it
-pub run_on : {S : Type 0} (disk : S → Disk) (nows : List ℕ) (now : ℕ) (from at to : Host S) → IsRunThrough disk nows from at
+unfoldable pub run_on : {S : Type 0} (disk : S → Disk) (nows : List ℕ) (now : ℕ) (from at to : Host S) → IsRunThrough disk nows from at
     → IsRunOf disk now at to → IsRunThrough disk (nows ++ now ∷ []) from to
 run_on disk nows now from at to before turn =
     let last : List Deed = Event (Moment now) ∷ turn.deeds in
@@ -307,5 +308,5 @@ run_on disk nows now from at to before turn =
       tried = tries_then from.tried at.tried to.tried before.deeds last before.tried turn.tried;
     }
 
-pub run_begins : {S : Type 0} (disk : S → Disk) (x : Host S) → IsRunThrough disk [] x x
+unfoldable pub run_begins : {S : Type 0} (disk : S → Disk) (x : Host S) → IsRunThrough disk [] x x
 run_begins disk x = run_through disk [] x x refl

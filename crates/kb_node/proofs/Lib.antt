@@ -9,9 +9,11 @@ pub mod Goes
 pub mod Telling
 pub mod ToldAll
 pub mod Numbers
+pub mod Streams
 pub mod Waiting
 pub mod Told
 pub mod PutBack
 pub mod Isolated
+pub mod Sent
 pub mod Seats
 pub mod Many

@@ -17,7 +17,7 @@ use Rattle.kb_node.specs.Waiting.{socket_at}
 
 -- 1. In order
 
-rises_by : (low last : ℕ) (ns : List ℕ) → Rise low last ns → low ≤ last
+pub rises_by : (low last : ℕ) (ns : List ℕ) → Rise low last ns → low ≤ last
 rises_by low last [] r = r
 rises_by low last (n ∷ ns) r = omega (arith, r.0, rises_by n last ns r.1)
 
@@ -249,13 +249,13 @@ searched_place {S} {T} h xs ls n r o same is rises within found =
 
 -- 6. Turns
 
-moved : {S T : Type 0} (x : Seen S T) (tried : ℕ) (cs : List (Core T)) → x.host.tried ≡ tried → x.sockets ≡ cs
+pub moved : {S T : Type 0} (x : Seen S T) (tried : ℕ) (cs : List (Core T)) → x.host.tried ≡ tried → x.sockets ≡ cs
     → Rise 0 tried (map (λ c. c.connection) cs) → IsInOrder x
 moved {S} {T} x tried cs is same r = subst (λ k. Rise 0 k (map (λ c. c.connection) x.sockets)) (sym is)
     (subst (λ (ds : List (Core T)). Rise 0 tried (map (λ c. c.connection) ds)) (sym same) r)
 
 module _ {S T : Type 0} (disk : S → Disk) (contents remaining : T → Option (List ℕ)) where
-  move_keeps : (m : Move) (from to : Seen S T) → IsMoved disk contents remaining m from to → IsInOrder from → IsInOrder to
+  pub move_keeps : (m : Move) (from to : Seen S T) → IsMoved disk contents remaining m from to → IsInOrder from → IsInOrder to
   move_keeps (Open n) from to h r = ⊎_elim
       (λ same. moved to n from.sockets h.tried same (rise_up 0 from.host.tried n (map (λ c. c.connection) from.sockets) (omega (arith, h.rises)) r))
       (λ joined. moved to n _ h.tried joined.1.behind (rise_append (λ c. c.connection) 0 from.host.tried from.sockets _ r h.rises))

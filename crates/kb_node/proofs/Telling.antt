@@ -1,5 +1,5 @@
 -- What sockets tell, one after another.
-use Rattle.std.proofs.Common.{◌≡◌, ◌<◌, ◌∙◌, List, [], ◌∷◌, ◌++◌, ℕ, Option, slice_index_or, slice_set, vec_len, sym, refl, subst, ap}
+use Rattle.std.proofs.Common.{◌≡◌, ◌<◌, ◌∙◌, List, [], ◌∷◌, ◌++◌, ℕ, Option, false, slice_index_or, slice_set, vec_len, sym, refl, subst, ap}
 use Rattle.std.specs.declared.alloc.Global.{Global}
 use Rattle.std.specs.declared.vec.Vec.{Vec}
 use Rattle.kb_store.specs.Disk.{Disk}
@@ -43,9 +43,9 @@ module _ {S T : Type 0} {disk : S → Disk} {contents remaining : T → Option (
 
   -- the socket at a place told, and then only what is remembered of its turns changed
   pub telling_at_place : (h k : Host S) (v : Vec (Socket T) Global) (p : ℕ) (s t u : Socket T) → core u ≡ core t → p < vec_len v
-      → s ≡ slice_index_or v.items p s → t.connection ≡ s.connection → k.tried ≡ h.tried → Tells disk contents remaining s t h.broker k.broker
+      → s ≡ slice_index_or v.items p s → t.connection ≡ s.connection → s.is_ended ≡ false → k.tried ≡ h.tried → Tells disk contents remaining s t h.broker k.broker
       → GoesTelling disk contents remaining (seen h v.items) (seen k (slice_set v.items p u))
-  telling_at_place h k v p s t u same_core lt is same tried told = record {
+  telling_at_place h k v p s t u same_core lt is same unended tried told = record {
     numbers = s.connection ∷ [];
     done = (
       seen k (slice_set v.items p u),
@@ -58,6 +58,7 @@ module _ {S T : Type 0} {disk : S → Disk} {contents remaining : T → Option (
           after = set_at v.items p u ∙ ap (λ x. slice_set (cores v.items) p x) same_core;
           number = refl;
           same = same;
+          not_ended = unended;
           tried = tried;
           carries = told.carries;
         };

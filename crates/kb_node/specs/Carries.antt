@@ -32,10 +32,14 @@ pub record Carries {S T : Type 0} (disk : S → Disk) (contents remaining : T �
   pub done : AreDone disk deeds from to
   pub used : Along (IsUsed contents remaining) uses old.stream new.stream
   pub writes : GoesOn (unwritten_of old ++ flat_map taken_by deeds) (flat_map written_by uses) (new.is_ended ≡ false) (unwritten_of new)
-  pub hands_on : GoesOn (unhanded_of old ++ flat_map read_by uses) (flat_map handed_by deeds) ((new.is_over || new.is_ended) ≡ false)
+  pub hands_on : GoesOn (unhanded_of old ++ flat_map read_by uses) (flat_map handed_by deeds) ((new.is_lost || new.is_ended) ≡ false)
       (unhanded_of new)
   -- where the peer is gone it stays so, and nothing is read or handed on
   pub over : old.is_over ≡ true → (new.is_over ≡ true) × (flat_map read_by uses ≡ []) × (flat_map handed_by deeds ≡ [])
+  -- where some of what was read is lost it stays so, and nothing more is read or handed on
+  pub lost : old.is_lost ≡ true → (new.is_lost ≡ true) × (flat_map read_by uses ≡ []) × (flat_map handed_by deeds ≡ [])
+  -- where it is lost now, the peer is taken to be gone
+  pub gone : old.is_lost ≡ false → new.is_lost ≡ true → new.is_over ≡ true
 
 -- What was carried was told alone: output was taken and written, or the connection was closed. Nothing was read, no piece came, and the
 -- store stays.
@@ -57,7 +61,8 @@ pub record HandsOn {S T : Type 0} (disk : S → Disk) (old new : Socket T) (piec
   pub about : AreAbout old.connection deeds
   pub done : AreDone disk deeds from to
   pub none_taken : flat_map taken_by deeds ≡ []
-  pub hands_on : GoesOn (unhanded_of old ++ piece) (flat_map handed_by deeds) ((new.is_over || new.is_ended) ≡ false) (unhanded_of new)
+  pub hands_on : GoesOn (unhanded_of old ++ piece) (flat_map handed_by deeds) ((new.is_lost || new.is_ended) ≡ false) (unhanded_of new)
+  pub gone : old.is_lost ≡ false → new.is_lost ≡ true → new.is_over ≡ true
 
 -- Either all that was said to a socket's connection is written, or the broker has nothing more to say to it.
 abbrev pub TellsInTurn : {T : Type 0} → Socket T → BrokerState → Type 0

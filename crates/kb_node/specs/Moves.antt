@@ -22,7 +22,7 @@ pub data Move : Type 0 where
 
 -- one more socket is there, behind the others: it carries that stream for the connection of that number
 pub record IsJoined {T : Type 0} (stream : T) (n : ℕ) (old new : List (Core T)) : Type 0 where
-  pub behind : new ≡ old ++ record { connection = n; stream = stream; unwritten = []; unhanded = []; is_ended = false } ∷ []
+  pub behind : new ≡ old ++ record { connection = n; stream = stream; unwritten = []; unhanded = []; is_lost = false; is_ended = false } ∷ []
 
 -- A connection opens, of a number above all that were tried before. Its socket joins the others, or it could not be kept.
 pub record HasOpened {S T : Type 0} (disk : S → Disk) (n : ℕ) (from to : Seen S T) : Type 0 where
@@ -31,8 +31,8 @@ pub record HasOpened {S T : Type 0} (disk : S → Disk) (n : ℕ) (from to : See
   pub opens : Happens disk (Opens n) from.host.broker to.host.broker
   pub sockets : (to.sockets ≡ from.sockets) ⊎ ((stream : T) × IsJoined stream n from.sockets to.sockets)
 
--- The socket at a place, of the connection of that number, carried between its stream and that connection. It did nothing else to the broker,
--- and the other sockets stay.
+-- The socket at a place, of the connection of that number, which was not closed, carried between its stream and that connection. It did
+-- nothing else to the broker, and the other sockets stay.
 pub record HasCarried {S T : Type 0} (disk : S → Disk) (contents remaining : T → Option (List ℕ)) (n : ℕ) (from to : Seen S T) : Type 0 where
   pub place : ℕ
   pub old : Socket T
@@ -41,6 +41,7 @@ pub record HasCarried {S T : Type 0} (disk : S → Disk) (contents remaining : T
   pub after : to.sockets ≡ slice_set from.sockets place (core new)
   pub number : old.connection ≡ n
   pub same : new.connection ≡ n
+  pub not_ended : old.is_ended ≡ false
   pub tried : to.host.tried ≡ from.host.tried
   pub carries : Carries disk contents remaining old new from.host.broker to.host.broker
 

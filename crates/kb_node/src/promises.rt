@@ -8,6 +8,7 @@ ghost use Rattle.kb_node.specs.Cores.{Seen};
 ghost use Rattle.kb_node.specs.Got.{AreIsolated};
 ghost use Rattle.kb_node.specs.Moves.{Goes, IsRunOf, IsRunThrough, IsTurn};
 ghost use Rattle.kb_node.specs.Numbers.{IsInOrder};
+ghost use Rattle.kb_node.specs.Streams.{AreCarried, AreServed, IsAlone};
 ghost use Rattle.kb_node.specs.Traffic.{Along};
 
 use kb_store::Store;
@@ -41,4 +42,22 @@ pub fn turns_keep_tenants_apart<S: Store>()
     ensures { (nows : List ℕ) → (from to : Host S) → (run : IsRunThrough S.disk nows from to)
         → Rising 0 from.broker.state.last from.broker.state.lines → from.broker.state.last ≤ from.tried → is_honest S.disk to.broker
         → AreIsolated run.deeds from.broker.state to.broker.state }
+{}
+
+/// However often an edge is turned, each connection is carried by one socket, or by none. What is written to its stream is what was taken
+/// of that connection, in order, and what is handed on as that connection's bytes is what was read of the stream, in order. Behind its end
+/// nothing is read or written. It is so turn by turn, as for a loop.
+pub fn each_connection_has_one_socket<S: Store, T: Read + Write>()
+    ensures begun { (x : Seen S T) → IsInOrder x → AreCarried S.disk T.contents T.remaining [] x x }
+    ensures turned { (nows : List ℕ) → (now : ℕ) → (from at to : Seen S T) → AreCarried S.disk T.contents T.remaining nows from at
+        → IsTurn S.disk T.contents T.remaining now at to → AreCarried S.disk T.contents T.remaining (nows ++ now ∷ []) from to }
+    ensures all { (nows : List ℕ) → (from to : Seen S T) → Along (IsTurn S.disk T.contents T.remaining) nows from to → IsInOrder from
+        → AreCarried S.disk T.contents T.remaining nows from to }
+{}
+
+/// Where nobody is connected before, clients are served in turns, however many: what is written to the stream of a connection is what the
+/// machine of its tenant alone writes, in order and up to some byte. The premises are those of [`turns_keep_tenants_apart`].
+pub fn clients_are_sent_what_machines_write<S: Store, T: Read + Write>()
+    ensures { (nows : List ℕ) → (from to : Seen S T) → Along (IsTurn S.disk T.contents T.remaining) nows from to → IsAlone from
+        → AreServed S.disk T.contents T.remaining nows from to }
 {}

@@ -13,6 +13,7 @@ use Rattle.kb_node.specs.Moves.{IsRunThrough, IsTurn}
 use Rattle.kb_node.specs.Traffic.{Along, AreDone, events_of}
 use Rattle.kb_node.proofs.Goes.{run_begins, run_of, run_on}
 use Rattle.kb_node.proofs.Isolated.{isolated}
+use Rattle.kb_node.proofs.Sent.{served}
 use Rattle.kb_node.proofs.Traffic.{along_then}
 use Rattle.kbroker.specs.Turned.{AreTurned, IsServed, clock_behind, ticks}
 
@@ -34,7 +35,7 @@ module _ {S T : Type 0} {disk : S → Disk} {contents remaining : T → Option (
       (subst (λ z. IsTurn disk contents remaining at z y) before (subst (λ n. IsTurn disk contents remaining n x' y) same turn))
 
   pub turned_none : (c : GuardedClock) (x : Seen S T) → AreTurned disk contents remaining [] c c x x
-  turned_none c x = record { clock = refl; turns = refl; run = run_begins disk x.host }
+  turned_none c x = record { clock = refl; turns = refl; run = run_begins disk x.host; clients = served [] x x refl }
 
   -- what leaves the host and the sockets leaves the turns
   pub turned_same : {rs : List Reading} {c d : GuardedClock} {x y z : Seen S T} → z ≡ y → AreTurned disk contents remaining rs c d x y → AreTurned disk contents remaining rs c d x z
@@ -46,12 +47,15 @@ module _ {S T : Type 0} {disk : S → Disk} {contents remaining : T → Option (
       let at : e ≡ clock_after (clock_behind c rs) r = after ∙ ap (λ k. clock_after k r) before.clock in
       let moments : ticks c (rs ++ r ∷ []) ≡ ticks c rs ++ now ∷ [] =
       ticks_more c rs r ∙ ap (λ n. ticks c rs ++ n ∷ []) (ap (λ k. k.time / 2000) (sym at) ∙ sym is) in
+      let turns : Along (IsTurn disk contents remaining) (ticks c (rs ++ r ∷ [])) x z =
+      subst (λ ms. Along (IsTurn disk contents remaining) ms x z) (sym moments)
+      (along_then (IsTurn disk contents remaining) (ticks c rs) (now ∷ []) x y z before.turns (z, turn, refl)) in
       record {
         clock = at ∙ sym (clock_more c rs r);
-        turns = subst (λ ms. Along (IsTurn disk contents remaining) ms x z) (sym moments)
-            (along_then (IsTurn disk contents remaining) (ticks c rs) (now ∷ []) x y z before.turns (z, turn, refl));
+        turns = turns;
         run = subst (λ ms. IsRunThrough disk ms x.host z.host) (sym moments)
             (run_on disk (ticks c rs) now x.host y.host z.host before.run (run_of turn));
+        clients = served (ticks c (rs ++ r ∷ [])) x z turns;
       }
 
   -- turns from a broker on that nobody was connected to by a socket

@@ -10,6 +10,7 @@ use Rattle.kb_node.specs.Commits.{Host}
 use Rattle.kb_node.specs.Cores.{Seen}
 use Rattle.kb_node.specs.Got.{AreIsolated}
 use Rattle.kb_node.specs.Moves.{IsRunThrough, IsTurn}
+use Rattle.kb_node.specs.Streams.{AreServed, IsAlone}
 use Rattle.kb_node.specs.Traffic.{Along, AreDone, Deed, events_of, moments_of}
 
 -- the clock after readings
@@ -23,12 +24,13 @@ ticks clock [] = []
 ticks clock (r ∷ rs) = (clock_after clock r).time / 2000 ∷ ticks (clock_after clock r) rs
 
 -- The clock was read, and at each reading there was one turn, of the moment that the clock then gave. All of them together are one run of
--- the broker, with those moments.
+-- the broker, with those moments. Where nobody was connected before, its clients were served in it.
 pub record AreTurned {S T : Type 0} (disk : S → Disk) (contents remaining : T → Option (List ℕ)) (readings : List Reading)
     (start end : GuardedClock) (from to : Seen S T) : Type 0 where
   pub clock : end ≡ clock_behind start readings
   pub turns : Along (IsTurn disk contents remaining) (ticks start readings) from to
   pub run : IsRunThrough disk (ticks start readings) from.host to.host
+  pub clients : IsAlone from → AreServed disk contents remaining (ticks start readings) from to
 
 -- A broker was served from then on: what was done to it is a run, event by event, with takes of output and commits between. Its moments are
 -- those of a clock. It kept the tenants apart where the store is honest to the end.

@@ -33,7 +33,7 @@ const SIZE: usize = 4;
 
 impl<T: Read + Write + Drop> Socket<T> {
     /// Hands on what is there of the request in front, and reads before that where nothing is: no more than there is room for. It answers
-    /// how much is to be kept free for what is said to that.
+    /// how much is to be kept free for what is said to that. Where some of what was read is lost nothing more is read or handed on.
     ///
     /// No request begins of more than `most` bytes.
     pub(super) fn ask<S: Store, L: PartitionLog + Drop>(
@@ -60,6 +60,9 @@ impl<T: Read + Write + Drop> Socket<T> {
         // It is noted that a request became whole only where none is begun.
         ensures anew { self.old.is_anew ≡ false → self.new.is_anew ≡ true → self.new.input.progress.left ≡ 0 }
     {
+        if self.is_lost {
+            return 0;
+        }
         let room = host.broker().room(self.connection);
         let is_bare = host.broker().takes_login(self.connection);
         let is_begun = self.input.is_begun();
@@ -139,7 +142,9 @@ impl<T: Read + Write + Drop> Socket<T> {
         let is_begun = self.input.is_begun();
         let count = self.pass(piece, room, most, turn);
         let (handed, rest) = piece.split_at(count);
-        self.is_over |= self.input.push(rest).is_err();
+        let is_lost = self.input.push(rest).is_err();
+        self.is_over |= is_lost;
+        self.is_lost |= is_lost;
         if handed.is_empty() {
             return 0;
         }

@@ -356,6 +356,7 @@ impl<T: Read + Write + Drop> Socket<T> {
             × (unwritten_of self.old ≡ put ++ unwritten_of self.new) }
         ensures unhanded { unhanded_of self.new ≡ unhanded_of self.old }
         ensures over { self.old.is_over ≡ true → self.new.is_over ≡ true }
+        ensures lost { self.new.is_lost ≡ self.old.is_lost }
         ensures connection { self.new.connection ≡ self.old.connection }
         ensures seat { KeepsSeat self.old self.new }
         ensures ended { self.new.is_ended ≡ self.old.is_ended }

@@ -18,7 +18,7 @@ returns-clause-tells g c =
       | else-unwritten-eq0 w ↦ telling_at disk out in_ c.args.self.now _ _ _ _ _ w.self-is (ap (λ h. h.broker) w.host-is) (stays_telling disk out in_ c.args.self.now c.args.host.now.broker c.requires.not_ended)
     ] in
     telling_on disk out in_ c.args.self.now c.if-unwritten-eq0.self _ c.args.host.now.broker c.if-unwritten-eq0.host.broker _ first
-    (writes_told disk out in_ c.if-unwritten-eq0.self _ _ put.0 put.1 put.2 c.write_on.ensures.unhanded c.write_on.ensures.over)
+    (writes_told disk out in_ c.if-unwritten-eq0.self _ _ put.0 put.1 put.2 c.write_on.ensures.unhanded c.write_on.ensures.over c.write_on.ensures.lost)
 
 pub returns-clause-told : goal.returns-clause-told
 returns-clause-told g c = λ turn.

@@ -102,6 +102,20 @@ module _ {S T : Type 0} (disk : S → Disk) (contents remaining : T → Option (
     hands_on = (rest, ap (λ x. x ++ piece) none ∙ is ∙ ap (λ x. x ++ rest) (sym (append-nil handed)), λ there. sym (kept there ∙ ap (λ x. x ++ rest) none));
   }
 
+-- a socket whose connection stays open
+pub record StaysOpen {S T : Type 0} (disk : S → Disk) (known : Deed → S → Type 0) (contents remaining : T → Option (List ℕ))
+    (old new : Socket T) (from to : OnStore S) : Type 0 where
+  pub carries : CarriesWith disk known contents remaining old new from to
+  pub connection : new.connection ≡ old.connection
+  pub ended : new.is_ended ≡ false
+
+-- a socket that told, and whose connection stays open
+pub record StaysTelling {S T : Type 0} (disk : S → Disk) (known : Deed → S → Type 0) (contents remaining : T → Option (List ℕ))
+    (old new : Socket T) (from to : OnStore S) : Type 0 where
+  pub tells : TellsWith disk known contents remaining old new from to
+  pub connection : new.connection ≡ old.connection
+  pub ended : new.is_ended ≡ false
+
 module _ {S T : Type 0} {known : Deed → S → Type 0} (disk : S → Disk) (contents remaining : T → Option (List ℕ)) where
   -- nothing of it is done
   pub stays : (old new : Socket T) (from to : OnStore S) → to ≡ from → new.stream ≡ old.stream → unwritten_of new ≡ unwritten_of old → unhanded_of new ≡ unhanded_of old
@@ -222,32 +236,26 @@ module _ {S T : Type 0} {known : Deed → S → Type 0} (disk : S → Disk) (con
     over = λ is. absurd (let no : true ≡ false = sym is ∙ there in cc);
   }
 
-  -- a socket whose connection stays open
-  pub record StaysOpen (old new : Socket T) (from to : OnStore S) : Type 0 where
-    pub carries : CarriesWith disk known contents remaining old new from to
-    pub connection : new.connection ≡ old.connection
-    pub ended : new.is_ended ≡ false
-
-  pub open_then : (old mid new : Socket T) (from at to : OnStore S) → StaysOpen old mid from at → CarriesWith disk known contents remaining mid new at to
+  pub open_then : (old mid new : Socket T) (from at to : OnStore S) → StaysOpen disk known contents remaining old mid from at → CarriesWith disk known contents remaining mid new at to
       → CarriesWith disk known contents remaining old new from to
   open_then old mid new from at to one two = carries_then old mid new from at to one.carries two one.connection one.ended
 
-  pub open_open : (old mid new : Socket T) (from at to : OnStore S) → StaysOpen old mid from at → StaysOpen mid new at to → StaysOpen old new from to
+  pub open_open : (old mid new : Socket T) (from at to : OnStore S) → StaysOpen disk known contents remaining old mid from at → StaysOpen disk known contents remaining mid new at to → StaysOpen disk known contents remaining old new from to
   open_open old mid new from at to one two = record {
     carries = open_then old mid new from at to one two.carries;
     connection = two.connection ∙ one.connection;
     ended = two.ended;
   }
 
-  pub open_at : (old new new' : Socket T) (from to to' : OnStore S) → new' ≡ new → to' ≡ to → StaysOpen old new from to → StaysOpen old new' from to'
-  open_at old new new' from to to' s h is = subst (λ x. StaysOpen old x from to') (sym s) (subst (λ x. StaysOpen old new from x) (sym h) is)
+  pub open_at : (old new new' : Socket T) (from to to' : OnStore S) → new' ≡ new → to' ≡ to → StaysOpen disk known contents remaining old new from to → StaysOpen disk known contents remaining old new' from to'
+  open_at old new new' from to to' s h is = subst (λ x. StaysOpen disk known contents remaining old x from to') (sym s) (subst (λ x. StaysOpen disk known contents remaining old new from x) (sym h) is)
 
-  pub stays_open : (old : Socket T) (from : OnStore S) → old.is_ended ≡ false → StaysOpen old old from from
+  pub stays_open : (old : Socket T) (from : OnStore S) → old.is_ended ≡ false → StaysOpen disk known contents remaining old old from from
   stays_open old from ended = record { carries = stays old old from from refl refl refl refl (λ is. is); connection = refl; ended = ended }
 
   -- a socket that was asked, and then looked at for its tenant
   pub seated : (old mid new : Socket T) (from to : OnStore S) → CarriesWith disk known contents remaining old mid from to → mid.connection ≡ old.connection → mid.is_ended ≡ false
-      → new ≡ record mid { is_bound = new.is_bound; tenant = new.tenant; is_over = new.is_over } → (mid.is_over ≡ true → new.is_over ≡ true) → StaysOpen old new from to
+      → new ≡ record mid { is_bound = new.is_bound; tenant = new.tenant; is_over = new.is_over } → (mid.is_over ≡ true → new.is_over ≡ true) → StaysOpen disk known contents remaining old new from to
   seated old mid new from to one same unended is over = record {
     carries = carries_then old mid new from to to one (stays mid new to to refl (ap (λ s. s.stream) is) (ap (λ s. drop s.written s.output.items) is)
         (ap (λ s. drop s.input.handed s.input.bytes.items) is) over) same unended;
@@ -257,7 +265,7 @@ module _ {S T : Type 0} {known : Deed → S → Type 0} (disk : S → Disk) (con
 
   -- it was noted on a socket that it has logged in, and that a login failed
   pub noted : (old mid new : Socket T) (from : OnStore S) → old.is_ended ≡ false → mid ≡ record old { is_known = mid.is_known }
-      → new ≡ record mid { is_denied = new.is_denied } → StaysOpen old new from from
+      → new ≡ record mid { is_denied = new.is_denied } → StaysOpen disk known contents remaining old new from from
   noted old mid new from unended one two = record {
     carries = stays old new from from refl (ap (λ s. s.stream) two ∙ ap (λ s. s.stream) one)
         (ap (λ s. drop s.written s.output.items) two ∙ ap (λ s. drop s.written s.output.items) one)
@@ -340,26 +348,20 @@ module _ {S T : Type 0} {known : Deed → S → Type 0} (disk : S → Disk) (con
     told = record { deeds = h.told.deeds; uses = h.told.uses; store = h.told.store };
   }
 
-  -- a socket that told, and whose connection stays open
-  pub record StaysTelling (old new : Socket T) (from to : OnStore S) : Type 0 where
-    pub tells : TellsWith disk known contents remaining old new from to
-    pub connection : new.connection ≡ old.connection
-    pub ended : new.is_ended ≡ false
-
-  pub telling_on : (old mid new : Socket T) (from at to : OnStore S) → StaysTelling old mid from at → TellsWith disk known contents remaining mid new at to
+  pub telling_on : (old mid new : Socket T) (from at to : OnStore S) → StaysTelling disk known contents remaining old mid from at → TellsWith disk known contents remaining mid new at to
       → TellsWith disk known contents remaining old new from to
   telling_on old mid new from at to one two = tells_then old mid new from at to one.tells two one.connection one.ended
 
-  pub telling_at : (old new new' : Socket T) (from to to' : OnStore S) → new' ≡ new → to' ≡ to → StaysTelling old new from to
-      → StaysTelling old new' from to'
-  telling_at old new new' from to to' s h is = subst (λ x. StaysTelling old x from to') (sym s) (subst (λ x. StaysTelling old new from x) (sym h) is)
+  pub telling_at : (old new new' : Socket T) (from to to' : OnStore S) → new' ≡ new → to' ≡ to → StaysTelling disk known contents remaining old new from to
+      → StaysTelling disk known contents remaining old new' from to'
+  telling_at old new new' from to to' s h is = subst (λ x. StaysTelling disk known contents remaining old x from to') (sym s) (subst (λ x. StaysTelling disk known contents remaining old new from x) (sym h) is)
 
-  pub stays_telling : (old : Socket T) (from : OnStore S) → old.is_ended ≡ false → StaysTelling old old from from
+  pub stays_telling : (old : Socket T) (from : OnStore S) → old.is_ended ≡ false → StaysTelling disk known contents remaining old old from from
   stays_telling old from ended = record { tells = still_told old old from refl refl refl (λ is. is); connection = refl; ended = ended }
 
   -- it was noted on it that it has logged in, and that a login failed
   pub noted_telling : (old mid new : Socket T) (from : OnStore S) → old.is_ended ≡ false → mid ≡ record old { is_known = mid.is_known }
-      → new ≡ record mid { is_denied = new.is_denied } → StaysTelling old new from from
+      → new ≡ record mid { is_denied = new.is_denied } → StaysTelling disk known contents remaining old new from from
   unfolding noted stays
   noted_telling old mid new from unended one two = let h = noted old mid new from unended one two in record {
     tells = record { carries = h.carries; told = record { deeds = tt; uses = tt; store = refl } };

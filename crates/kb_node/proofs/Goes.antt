@@ -141,7 +141,8 @@ module _ {S T : Type 0} {disk : S → Disk} {known : Deed → S → Type 0} {con
   turned {now} {from} {at} {to} moment tried sync sockets goes =
       record { begun = at; moment = moment; tried = tried; sync = sync; sockets = sockets; goes = goes }
 
-  -- how commits are made stays
+-- how commits are made stays
+module _ {S T : Type 0} (disk : S → Disk) (known : Deed → S → Type 0) (contents remaining : T → Option (List ℕ)) where
   sync_on : (m : Move) (from to : Seen S T) → IsMoved disk known contents remaining m from to → to.host.commits.sync ≡ from.host.commits.sync
   sync_on (Open n) from to h = h.sync
   sync_on (Carry n) from to h = h.sync
@@ -154,12 +155,13 @@ module _ {S T : Type 0} {disk : S → Disk} {known : Deed → S → Type 0} {con
   sync_along [] from to h = ap (λ x. x.host.commits.sync) h
   sync_along (m ∷ ms) from to h = sync_along ms h.0 to h.2 ∙ sync_on m from h.0 h.1
 
-  pub turn_sync : {now : ℕ} {from to : Seen S T} → IsTurn disk known contents remaining now from to
-      → to.host.commits.sync ≡ from.host.commits.sync
-  turn_sync {now} {from} {to} turn = sync_along turn.goes.moves turn.begun to turn.goes.done ∙ turn.sync
+pub turn_sync : {S T : Type 0} {disk : S → Disk} {known : Deed → S → Type 0} {contents remaining : T → Option (List ℕ)} {now : ℕ} {from to : Seen S T}
+    → IsTurn disk known contents remaining now from to → to.host.commits.sync ≡ from.host.commits.sync
+turn_sync {S} {T} {disk} {known} {contents} {remaining} {now} {from} {to} turn =
+    sync_along disk known contents remaining turn.goes.moves turn.begun to turn.goes.done ∙ turn.sync
 
 -- What is known of the store may be less.
-module _ {S T : Type 0} {disk : S → Disk} {known less : Deed → S → Type 0} {contents remaining : T → Option (List ℕ)}
+module _ {S T : Type 0} (disk : S → Disk) (known less : Deed → S → Type 0) (contents remaining : T → Option (List ℕ))
     (weaker : (d : Deed) (s : S) → known d s → less d s) where
   moved_knowing : (m : Move) (from to : Seen S T) → IsMoved disk known contents remaining m from to → IsMoved disk less contents remaining m from to
   moved_knowing (Open n) from to h = h
@@ -190,8 +192,10 @@ module _ {S T : Type 0} {disk : S → Disk} {known less : Deed → S → Type 0}
   along_knowing [] from to h = h
   along_knowing (m ∷ ms) from to h = (h.0, moved_knowing m from h.0 h.1, along_knowing ms h.0 to h.2)
 
-  pub goes_knowing : {from to : Seen S T} → GoesWith disk known contents remaining from to → GoesWith disk less contents remaining from to
-  goes_knowing {from} {to} goes = record { moves = goes.moves; done = along_knowing goes.moves from to goes.done }
+pub goes_knowing : {S T : Type 0} {disk : S → Disk} {known less : Deed → S → Type 0} {contents remaining : T → Option (List ℕ)} {from to : Seen S T}
+    → ((d : Deed) (s : S) → known d s → less d s) → GoesWith disk known contents remaining from to → GoesWith disk less contents remaining from to
+goes_knowing {S} {T} {disk} {known} {less} {contents} {remaining} {from} {to} weaker goes =
+    record { moves = goes.moves; done = along_knowing disk known less contents remaining weaker goes.moves from to goes.done }
 
 -- where nothing was taken or committed, anything is known of that
 pub goes_silent : {S T : Type 0} {disk : S → Disk} {known : Deed → S → Type 0} {contents remaining : T → Option (List ℕ)} {from to : Seen S T}

@@ -15,7 +15,7 @@ pub some_is_there : {X : Type 0} {o : Option X} {x : X} → o ≡ Some x → IsS
 some_is_there {X} {o} {x} is = subst (λ (p : Option X). IsSome p) (sym is) refl
 
 both : (b : Bool) → b ≡ true → b ≡ false → ⊥
-both b yes no = let same : true ≡ false = sym yes ∙ no in cc
+both b is_on is_off = let same : true ≡ false = sym is_on ∙ is_off in cc
 
 module _ {S : Type 0} (settled : S → Type 0) (disk : S → Disk) (loss : S → Loss) where
   pub telling_hasty : (c : Commits) (d : Deed) (s : S) → telling settled disk loss c d s → hasty d s

@@ -76,7 +76,7 @@ module _ {S T : Type 0} {disk : S → Disk} {known : Deed → S → Type 0} {con
   goes_telling {from} {to} h = record { moves = moves_by h.numbers; done = carried_by disk known contents remaining h.numbers from to h.done }
 
 -- What is known of the store may be less.
-module _ {S T : Type 0} {disk : S → Disk} {known less : Deed → S → Type 0} {contents remaining : T → Option (List ℕ)}
+module _ {S T : Type 0} (disk : S → Disk) (known less : Deed → S → Type 0) (contents remaining : T → Option (List ℕ))
     (weaker : (d : Deed) (s : S) → known d s → less d s) where
   told_knowing : (n : ℕ) (from to : Seen S T) → HasTold disk known contents remaining n from to → HasTold disk less contents remaining n from to
   told_knowing n from to h =
@@ -104,9 +104,11 @@ module _ {S T : Type 0} {disk : S → Disk} {known less : Deed → S → Type 0}
   along_knowing [] from to h = h
   along_knowing (n ∷ ns) from to h = (h.0, told_knowing n from h.0 h.1, along_knowing ns h.0 to h.2)
 
-  pub telling_knowing : {from to : Seen S T} → GoesTellingWith disk known contents remaining from to
-      → GoesTellingWith disk less contents remaining from to
-  telling_knowing {from} {to} h = record { numbers = h.numbers; done = along_knowing h.numbers from to h.done; store = h.store }
+pub telling_knowing : {S T : Type 0} {disk : S → Disk} {known less : Deed → S → Type 0} {contents remaining : T → Option (List ℕ)} {from to : Seen S T}
+    → ((d : Deed) (s : S) → known d s → less d s) → GoesTellingWith disk known contents remaining from to
+    → GoesTellingWith disk less contents remaining from to
+telling_knowing {S} {T} {disk} {known} {less} {contents} {remaining} {from} {to} weaker h =
+    record { numbers = h.numbers; done = along_knowing disk known less contents remaining weaker h.numbers from to h.done; store = h.store }
 
 -- where no output was taken, anything is known of that
 pub telling_silent : {S T : Type 0} {disk : S → Disk} {known : Deed → S → Type 0} {contents remaining : T → Option (List ℕ)} {from to : Seen S T}

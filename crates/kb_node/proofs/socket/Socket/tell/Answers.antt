@@ -11,7 +11,7 @@ pub returns-clause-tells : goal.returns-clause-tells
 returns-clause-tells g c =
     let disk = g.S.Store.disk in let out = g.T.Write.contents in let in_ = g.T.Read.remaining in
     let known = telling g.S.Store.settled disk g.S.Store.loss c.args.host.now.commits in
-    let first : StaysTelling {known = known} disk out in_ c.args.self.now c.if-unwritten-eq0.self c.args.host.now.broker c.if-unwritten-eq0.host.broker =
+    let first : StaysTelling disk known out in_ c.args.self.now c.if-unwritten-eq0.self c.args.host.now.broker c.if-unwritten-eq0.host.broker =
     elim c.if-unwritten-eq0.branch [
       | then-unwritten-eq0+then-not-self w ↦ telling_at disk out in_ c.args.self.now _ _ _ _ _ w.self-is (ap (λ h. h.broker) w.host-is)
           (record { tells = w.write_output.ensures.tells; connection = w.write_output.ensures.connection; ended = w.write_output.ensures.ended ∙ c.requires.not_ended })

@@ -197,6 +197,18 @@ pub goes_knowing : {S T : Type 0} {disk : S → Disk} {known less : Deed → S �
 goes_knowing {S} {T} {disk} {known} {less} {contents} {remaining} {from} {to} weaker goes =
     record { moves = goes.moves; done = along_knowing disk known less contents remaining weaker goes.moves from to goes.done }
 
+pub turn_knowing : {S T : Type 0} (disk : S → Disk) (known less : Deed → S → Type 0) (contents remaining : T → Option (List ℕ))
+    → ((d : Deed) (s : S) → known d s → less d s) → (now : ℕ) (from to : Seen S T) → IsTurn disk known contents remaining now from to
+    → IsTurn disk less contents remaining now from to
+turn_knowing disk known less contents remaining weaker now from to turn = record {
+  begun = turn.begun;
+  moment = turn.moment;
+  tried = turn.tried;
+  sync = turn.sync;
+  sockets = turn.sockets;
+  goes = goes_knowing weaker turn.goes;
+}
+
 -- where nothing was taken or committed, anything is known of that
 pub goes_silent : {S T : Type 0} {disk : S → Disk} {known : Deed → S → Type 0} {contents remaining : T → Option (List ℕ)} {from to : Seen S T}
     → Goes disk contents remaining from to → GoesWith disk known contents remaining from to

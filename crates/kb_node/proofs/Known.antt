@@ -14,6 +14,9 @@ from_silent known d s none = absurd none
 pub some_is_there : {X : Type 0} {o : Option X} {x : X} → o ≡ Some x → IsSome o
 some_is_there {X} {o} {x} is = subst (λ (p : Option X). IsSome p) (sym is) refl
 
+pub none_there : {X : Type 0} (o : Option X) → o ≡ None → IsSome o → ⊥
+none_there {X} o is some = let none : IsSome {T = X} None = subst (λ p. IsSome p) is some in absurd cc
+
 both : (b : Bool) → b ≡ true → b ≡ false → ⊥
 both b is_on is_off = let same : true ≡ false = sym is_on ∙ is_off in cc
 

@@ -161,6 +161,7 @@ impl<R: Net, S: Store, L: PartitionLog + Drop> Edge<R, S, L> {
         ensures empty { IfOk result (λ edge. vec_len edge.sockets ≡ 0) }
         ensures host { IfOk result (λ edge. (edge.host.broker ≡ broker) × (edge.host.tried ≡ broker.state.last)) }
         ensures fault { IfOk result (λ edge. edge.host.commits.fault ≡ None) }
+        ensures sync { IfOk result (λ edge. edge.host.commits.sync ≡ limits.sync) }
     {
         Edge::open(net, alloc, broker, address, limits, None)
     }
@@ -177,6 +178,7 @@ impl<R: Net, S: Store, L: PartitionLog + Drop> Edge<R, S, L> {
         ensures empty { IfOk result (λ edge. vec_len edge.sockets ≡ 0) }
         ensures host { IfOk result (λ edge. (edge.host.broker ≡ broker) × (edge.host.tried ≡ broker.state.last)) }
         ensures fault { IfOk result (λ edge. edge.host.commits.fault ≡ None) }
+        ensures sync { IfOk result (λ edge. edge.host.commits.sync ≡ limits.sync) }
     {
         match Watch::new(net, alloc) {
             Ok(watch) => Edge::open(net, alloc, broker, address, limits, Some(watch)),
@@ -205,6 +207,7 @@ impl<R: Net, S: Store, L: PartitionLog + Drop> Edge<R, S, L> {
         ensures empty { IfOk result (λ edge. vec_len edge.sockets ≡ 0) }
         ensures host { IfOk result (λ edge. (edge.host.broker ≡ broker) × (edge.host.tried ≡ broker.state.last)) }
         ensures fault { IfOk result (λ edge. edge.host.commits.fault ≡ None) }
+        ensures sync { IfOk result (λ edge. edge.host.commits.sync ≡ limits.sync) }
         ensures login { IfOk result (λ edge. edge.strangers.millis ≡ limits.login_seconds * 1000) }
         ensures reply { IfOk result (λ edge. edge.reply_millis ≡ limits.reply_seconds * 1000) }
         ensures strangers { IfOk result (λ edge. edge.stranger_limit ≡ limits.strangers) }

@@ -4,6 +4,7 @@ ghost use Rattle.std.specs.Prelude.{◌≡◌, ◌≤◌, ◌<◌, ◌*◌, ◌-
 ghost use Rattle.kb_server_log.specs.Guard.{clock_after};
 ghost use Rattle.kb_server_log.specs.declared.guard.Reading.{Reading};
 ghost use Rattle.kb_node.specs.Cores.{seen};
+ghost use Rattle.kb_node.specs.Known.{lasting};
 ghost use Rattle.kb_node.specs.Moves.{IsTurn};
 ghost use Rattle.kb_broker.specs.Hosts.{is_honest};
 ghost use Rattle.kbroker.specs.Ids.{AllGiveFresh};
@@ -147,7 +148,8 @@ struct Found {
 
 /// Serves sockets on a broker until the turns are used up, or a commit is refused: its edge as it then is, and how that ended.
 ///
-/// What is done to the broker is one run of it, in which tenants are kept apart.
+/// What is done to the broker is one run of it, in which tenants are kept apart. With [`Sync::Always`] output is taken only while all that
+/// was done before it lasts.
 fn serve_broker<S: Store + Drop, L: PartitionLog + Drop>(
     rt: &HostRuntime,
     broker: Broker<S, L>,
@@ -157,7 +159,8 @@ fn serve_broker<S: Store + Drop, L: PartitionLog + Drop>(
     journal: &mut Journal,
 ) -> Result<(Edge<HostRuntime, S, L>, Result<(), StoreFault>), Fault>
     requires { broker.state.lines ≡ [] }
-    ensures served { IfOk result (λ ended. IsServed S.disk broker ended.0.host) }
+    ensures served { IfOk result (λ ended. IsServed S.settled S.disk S.loss broker ended.0.host) }
+    ensures sync { IfOk result (λ ended. ended.0.host.commits.sync ≡ settings.now.sync) }
     ensures refused { IfOk result (λ ended. IfErr ended.1 (λ fault. ended.0.host.commits.fault ≡ Some fault)) }
 {
     let alloc = rt.alloc();
@@ -237,7 +240,8 @@ fn turn_on<R: Net, S: Store, L: PartitionLog + Drop>(
     folder: &mut FolderJournal,
 ) -> Result<(), StoreFault>
     requires { edge.old.host.commits.fault ≡ None }
-    ensures turned { (readings : List Reading) × AreTurned S.disk R.Stream.contents R.Stream.remaining readings clock.old clock.new
+    ensures turned { (readings : List Reading) × AreTurned S.disk (lasting S.settled S.disk S.loss edge.new.host.commits)
+        R.Stream.contents R.Stream.remaining readings clock.old clock.new
         (seen edge.old.host edge.old.sockets.items) (seen edge.new.host edge.new.sockets.items)
         × OnOk result (length readings ≡ 2 ^ 63 - 1) }
     ensures refused { IfErr result (λ fault. edge.new.host.commits.fault ≡ Some fault) }
@@ -260,8 +264,8 @@ fn turn_once<R: Net, S: Store, L: PartitionLog + Drop>(
 ) -> Result<(), StoreFault>
     requires { edge.old.host.commits.fault ≡ None }
     ensures clock { (reading : Reading) × (clock.new ≡ clock_after clock.old reading) }
-    ensures turn { IsTurn S.disk R.Stream.contents R.Stream.remaining (clock.new.time / 2000)
-        (seen edge.old.host edge.old.sockets.items) (seen edge.new.host edge.new.sockets.items) }
+    ensures turn { IsTurn S.disk (lasting S.settled S.disk S.loss edge.new.host.commits) R.Stream.contents R.Stream.remaining
+        (clock.new.time / 2000) (seen edge.old.host edge.old.sockets.items) (seen edge.new.host edge.new.sockets.items) }
     ensures refused { IfErr result (λ fault. edge.new.host.commits.fault ≡ Some fault) }
     ensures well { OnOk result (edge.new.host.commits.fault ≡ None) }
 {

@@ -1,11 +1,13 @@
 //! `kbroker serve`: serves sockets, and tells of it.
 
-ghost use Rattle.std.specs.Prelude.{◌≡◌, ◌≤◌, ◌<◌, ◌*◌, ◌-◌, ◌/◌, ◌^◌, max, min, true, length, List, [], IfErr, IfOk, OnOk, None, Some};
+ghost use Rattle.std.specs.Prelude.{◌≡◌, ◌≢◌, ◌≤◌, ◌<◌, ◌*◌, ◌-◌, ◌/◌, ◌^◌, max, min, true, length, List, [], IfErr, IfOk, OnOk, None, Some};
 ghost use Rattle.kb_server_log.specs.Guard.{clock_after};
 ghost use Rattle.kb_server_log.specs.declared.guard.Reading.{Reading};
 ghost use Rattle.kb_node.specs.Cores.{seen};
+ghost use Rattle.kb_node.specs.Commits.{Lasts};
 ghost use Rattle.kb_node.specs.Known.{lasting};
 ghost use Rattle.kb_node.specs.Moves.{IsTurn};
+ghost use Rattle.kb_settings.specs.declared.sync.Sync.TheVariants.{Never};
 ghost use Rattle.kb_broker.specs.Hosts.{is_honest};
 ghost use Rattle.kbroker.specs.Ids.{AllGiveFresh};
 ghost use Rattle.kbroker.specs.Shortened.{may_shorten, AreShort};
@@ -16,7 +18,7 @@ use crate::ids::skip_ids;
 use crate::listening::{listen, tell_listening};
 use crate::monitoring::Monitoring;
 use crate::open::{Start, consent_of, held_now, open_on, with_consent};
-use crate::telling::tell_turn;
+use crate::telling::{tell_commit, tell_turn};
 use crate::{Fault, config};
 use clap::{Arg, ArgAction, ArgMatches, Command};
 use kb_broker::{Broker, group_limits};
@@ -180,6 +182,8 @@ fn serve_broker<S: Store + Drop, L: PartitionLog + Drop>(
 ///
 /// Each catalog to whose tenant nothing was refused is short then, whatever files are of no log: but with `--drop-damaged` no catalog is
 /// written anew beside such a file.
+///
+/// Unless [`Sync::Never`] is set, all that it left lasts then.
 fn open<S: PutsOff + Drop>(
     rt: &HostRuntime,
     start: Start<'_>,
@@ -191,6 +195,10 @@ fn open<S: PutsOff + Drop>(
     ensures fresh { IfOk result (λ both. is_honest S.disk both.0.broker → AllGiveFresh both.0.broker.state) }
     ensures short { IfOk result (λ both. is_honest S.disk both.0.broker
         → may_shorten start.entry.consent both.0.strays.items ≡ true → AreShort both.0.broker) }
+    // Where anything is synced, nothing is put off then, and a loss of power leaves the files as they are.
+    ensures settled { IfOk result (λ both. start.entry.settings.now.sync ≢ Never → S.settled both.0.broker.store) }
+    ensures lasts { IfOk result (λ both. start.entry.settings.now.sync ≢ Never
+        → Lasts S.settled S.disk S.loss both.0.broker.store) }
 {
     let (mut opened, _) = open_on(rt, start, store, folder, journal)?;
     let limits = group_limits(rt.alloc(), start.settings)?;
@@ -217,6 +225,7 @@ fn settle<S: Store, L: PartitionLog + Drop>(broker: &mut Broker<S, L>) -> Result
     ensures stays { is_honest S.disk broker.new → is_honest S.disk broker.old × (broker.new.state ≡ broker.old.state) }
     ensures commands { broker.new.commands ≡ broker.old.commands }
     ensures settled { OnOk result (S.settled broker.new.store) }
+    ensures lasts { OnOk result (Lasts S.settled S.disk S.loss broker.new.store) }
 {
     for _ in 0..TURNS {
         if broker.is_synced() {
@@ -271,8 +280,10 @@ fn turn_once<R: Net, S: Store, L: PartitionLog + Drop>(
 {
     edge.wait();
     begin_turn(rt, monitoring);
-    let tick = clock.next(Reading::of(rt));
+    let reading = Reading::of(rt);
+    let tick = clock.next(reading);
     let turned = edge.turn(rt.alloc(), tick.moment);
+    tell_commit(rt, journal, edge, reading, tick.moment);
     folder.tell(rt, journal.lines(), tick.moment);
     match turned {
         Ok(turn) => {

@@ -1,4 +1,4 @@
-//! What an edge waits for beside its sockets, and how many of these there are.
+//! What an edge waits for beside its sockets, how many of these there are, and when it last made what was done last.
 
 ghost use Rattle.std.specs.Prelude.{◌≡◌, ◌<◌, false, vec_len};
 ghost use Rattle.kb_node.specs.Seats.{open_strangers, open_with};
@@ -52,6 +52,13 @@ impl<R: Net, S: Store, L: PartitionLog + Drop> Edge<R, S, L> {
         ensures { result ≡ open_strangers self.now.sockets.items }
     {
         self.shares.strangers()
+    }
+
+    /// The moment of the last commit, in milliseconds: 0 before the first.
+    pub fn last_commit(&self) -> u64
+        ensures { result ≡ self.now.host.commits.last }
+    {
+        self.host.commits().last()
     }
 
     /// How many sockets there are at most at a time.

@@ -329,16 +329,6 @@ impl<R: Net, S: Store, L: PartitionLog + Drop> Edge<R, S, L> {
         &self.reader_waits
     }
 
-    /// The port that is listened on.
-    pub fn port(&self) -> u16 {
-        self.doors.port()
-    }
-
-    /// The addresses that are listened on.
-    pub fn addresses(&self) -> &[SocketAddr] {
-        self.doors.addresses()
-    }
-
     /// The broker.
     pub fn broker(&self) -> &Broker<S, L>
         ensures { result.now ≡ self.now.host.broker }

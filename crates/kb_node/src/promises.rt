@@ -23,8 +23,8 @@ pub fn turns_are_a_run<S: Store>()
 /// The same, turn by turn, as for a loop: nothing was done yet, and one turn more goes on with the run.
 pub fn a_turn_goes_on_with_the_run<S: Store>()
     ensures begun { (known : Deed → S → Type 0) (x : Host S) → IsRunThrough S.disk known [] x x }
-    ensures turned { (known : Deed → S → Type 0) (nows : List ℕ) → (now : ℕ) → (from at to : Host S) → IsRunThrough S.disk known nows from at
-        → IsRunOf S.disk known now at to → IsRunThrough S.disk known (nows ++ now ∷ []) from to }
+    ensures turned { (known : Deed → S → Type 0) (nows : List ℕ) → (now : ℕ) → (from at to : Host S)
+        → IsRunThrough S.disk known nows from at → IsRunOf S.disk known now at to → IsRunThrough S.disk known (nows ++ now ∷ []) from to }
     // What is known of the store at each deed may be less.
     ensures less { (known less : Deed → S → Type 0) (nows : List ℕ) → (from to : Host S)
         → ((d : Deed) (s : S) → known d s → less d s) → IsRunThrough S.disk known nows from to → IsRunThrough S.disk less nows from to }

@@ -1,6 +1,7 @@
 //! `kbroker serve`: serves sockets, and tells of it.
 
-ghost use Rattle.std.specs.Prelude.{◌≡◌, ◌≢◌, ◌≤◌, ◌<◌, ◌*◌, ◌-◌, ◌/◌, ◌^◌, max, min, true, length, List, [], IfErr, IfOk, OnOk, None, Some};
+ghost use Rattle.std.specs.Prelude.{◌≡◌, ◌≢◌, ◌≤◌, ◌<◌, ◌*◌, ◌-◌, ◌/◌, ◌^◌};
+ghost use Rattle.std.specs.Prelude.{max, min, true, length, List, [], IfErr, IfOk, OnOk, None, Some};
 ghost use Rattle.kb_server_log.specs.Guard.{clock_after};
 ghost use Rattle.kb_server_log.specs.declared.guard.Reading.{Reading};
 ghost use Rattle.kb_node.specs.Cores.{seen};

@@ -1,4 +1,4 @@
-//! What an edge waits for beside its sockets, how many of these there are, and when it last made what was done last.
+//! What an edge waits for beside its sockets, where it listens, how many of them there are, and when its last commit was.
 
 ghost use Rattle.std.specs.Prelude.{◌≡◌, ◌<◌, false, vec_len};
 ghost use Rattle.kb_node.specs.Seats.{open_strangers, open_with};
@@ -6,7 +6,7 @@ ghost use Rattle.kb_node.specs.Seats.{open_strangers, open_with};
 use crate::edge::Edge;
 use kb_log::PartitionLog;
 use kb_store::Store;
-use std::net::Net;
+use std::net::{Net, SocketAddr};
 use std::os::fd::RawFd;
 use std::{io, mem};
 
@@ -31,6 +31,16 @@ impl<R: Net, S: Store, L: PartitionLog + Drop> Edge<R, S, L> {
         ensures sockets { self.new.sockets ≡ self.old.sockets }
     {
         mem::replace(&mut self.is_beside_ready, false)
+    }
+
+    /// The port that is listened on.
+    pub fn port(&self) -> u16 {
+        self.doors.port()
+    }
+
+    /// The addresses that are listened on.
+    pub fn addresses(&self) -> &[SocketAddr] {
+        self.doors.addresses()
     }
 
     /// How many sockets there are, those that have not logged in among them.

@@ -51,11 +51,10 @@ impl<T: Read + Write + Drop> Socket<T> {
         ensures connection { self.new.connection ≡ self.old.connection }
         ensures seat { IsReseated self.old self.new shares.old shares.new }
         ensures tried { host.new.tried ≡ host.old.tried }
-        ensures sync { host.new.commits.sync ≡ host.old.commits.sync }
         // Where it may not be asked nothing is read or handed on.
         ensures unasked { may_ask ≡ false
             → TellsWith S.disk hasty T.contents T.remaining self.old self.new host.old.broker host.new.broker }
-        ensures at_once { tells_at_once host.new.commits ≡ true }
+        ensures sync { (host.new.commits.sync ≡ host.old.commits.sync) × (tells_at_once host.new.commits ≡ true) }
         // Where it has ended the broker was told, and its connection is not open.
         ensures ended { self.new.is_ended ≡ true → is_open self.old.connection host.new.broker.state ≡ false }
         ensures over { result ≡ End → self.new.is_ended ≡ true }

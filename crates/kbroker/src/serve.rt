@@ -1,7 +1,7 @@
 //! `kbroker serve`: serves sockets, and tells of it.
 
 ghost use Rattle.std.specs.Prelude.{◌≡◌, ◌≢◌, ◌≤◌, ◌<◌, ◌*◌, ◌-◌, ◌/◌, ◌^◌};
-ghost use Rattle.std.specs.Prelude.{max, min, true, length, List, [], IfErr, IfOk, OnOk, None, Some};
+ghost use Rattle.std.specs.Prelude.{max, min, true, false, length, List, [], IfErr, IfOk, OnOk, None, Some};
 ghost use Rattle.kb_server_log.specs.Guard.{clock_after};
 ghost use Rattle.kb_server_log.specs.declared.guard.Reading.{Reading};
 ghost use Rattle.kb_node.specs.Cores.{seen};
@@ -209,13 +209,24 @@ fn open<S: PutsOff + Drop>(
     if may_shorten(start.consent, &opened.strays) {
         shorten_catalogs(rt.alloc(), &mut opened.broker);
     }
-    if start.settings.sync != Sync::Never
+    if syncs(start.settings.sync)
         && let Err(fault) = settle(&mut opened.broker)
     {
         return Err(Fault::Operator(folder.of_store(rt.alloc(), fault)));
     }
     let held = held_now(rt, &opened, folder)?;
     Ok((opened, held))
+}
+
+/// Whether anything is made to last through a loss of power.
+fn syncs(sync: Sync) -> bool
+    ensures some { result ≡ true → sync ≢ Never }
+    ensures none { result ≡ false → sync ≡ Never }
+{
+    match sync {
+        Sync::Always | Sync::Interval => true,
+        Sync::Never => false,
+    }
 }
 
 /// Makes what a start left last before anybody is served: else what is acknowledged next would stand behind what was dropped. It ends

@@ -3,6 +3,7 @@ pub mod Handed
 pub mod Closing
 pub mod Counts
 pub mod Traffic
+pub mod Known
 pub mod Carries
 pub mod Cores
 pub mod Goes

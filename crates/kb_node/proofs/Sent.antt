@@ -40,14 +40,14 @@ module _ {S T : Type 0} (contents remaining : T → Option (List ℕ)) (deeds : 
   }
 
 -- turns from where nobody is connected
-pub served : {S T : Type 0} {disk : S → Disk} {contents remaining : T → Option (List ℕ)} (nows : List ℕ) (from to : Seen S T)
-    → Along (IsTurn disk contents remaining) nows from to → IsAlone from → AreServed disk contents remaining nows from to
-served {S} {T} {disk} {contents} {remaining} nows from to turns alone =
-    let all : AreCarried disk contents remaining nows from to = carried nows from to turns (nobody_in_order from alone.sockets) in
+pub served : {S T : Type 0} {disk : S → Disk} {known : Deed → S → Type 0} {contents remaining : T → Option (List ℕ)} (nows : List ℕ) (from to : Seen S T)
+    → Along (IsTurn disk known contents remaining) nows from to → IsAlone from → AreServed disk known contents remaining nows from to
+served {S} {T} {disk} {known} {contents} {remaining} nows from to turns alone =
+    let all : AreCarried disk known contents remaining nows from to = carried nows from to turns (nobody_in_order from alone.sockets) in
     let low : 0 ≤ from.host.broker.state.last = omega arith in
     let rises : Rising 0 from.host.broker.state.last from.host.broker.state.lines = subst (Rising 0 from.host.broker.state.last) (sym alone.lines) low in
     record {
       carried = all;
       sent = λ honest. sent contents remaining all.run.deeds from to alone.sockets
-          (isolated disk from.host.tried all.run.deeds from.host.broker to.host.broker all.run.done all.run.is_run rises alone.tried honest);
+          (isolated disk known from.host.tried all.run.deeds from.host.broker to.host.broker all.run.done all.run.is_run rises alone.tried honest);
     }

@@ -8,8 +8,8 @@ use Rattle.kb_isolation_spec.specs.Machine.{Closes, Comes, Happening, Moment, Op
 use Rattle.kb_isolation_spec.specs.Broker.{IsRun}
 use Rattle.kb_broker.specs.Hosts.{OnStore}
 use Rattle.kb_node.specs.declared.socket.Socket.{Socket}
-use Rattle.kb_node.specs.Traffic.{Along, AreAbout, Commit, Deed, Event, IsUsed, Take, connection_in, connection_of, events_of, handed_by, piece_in, read_by, taken_by, tried_after, written_by}
-use Rattle.kb_node.specs.Carries.{Carries, GoesOn, unhanded_of, unwritten_of}
+use Rattle.kb_node.specs.Traffic.{Along, AreAbout, Commit, Deed, Event, Fail, IsUsed, Take, connection_in, connection_of, events_of, handed_by, piece_in, read_by, taken_by, tried_after, written_by}
+use Rattle.kb_node.specs.Carries.{CarriesWith, GoesOn, unhanded_of, unwritten_of}
 use Rattle.kb_node.specs.Commits.{Host}
 use Rattle.kb_node.specs.Cores.{Core, Seen, core, open_ones}
 use Rattle.kb_node.specs.Got.{taken_of}
@@ -17,7 +17,7 @@ use Rattle.kb_node.specs.Moves.{Carry, IsMoved, IsTurn, Leave, LeaveAt, Move, Op
 use Rattle.kb_node.specs.Numbers.{IsInOrder, Rise}
 use Rattle.kb_node.specs.Streams.{AreCarried, BeginsWith, EndsWith, IsCarried, IsCarriedIn, IsUncarried, came_in, core_of, handed_of, is_broken_in, is_closed_in, unhanded_in, unwritten_in}
 use Rattle.kb_node.proofs.Carries.{either, goes_on, or_right}
-use Rattle.kb_node.proofs.Goes.{of_move, of_moves, run_begins, run_of, run_on, run_through}
+use Rattle.kb_node.proofs.Goes.{SettledAs, of_move, of_moves, of_settled, run_begins, run_of, run_on, run_through}
 use Rattle.kb_node.proofs.Numbers.{behind_here, behind_other, find_here, is_it, is_not, move_keeps, moved, none_above, none_below, remove_here, remove_other, rise_filter, rises_by, set_here, set_other, turn_keeps}
 use Rattle.kb_node.proofs.Traffic.{along_then}
 
@@ -42,12 +42,14 @@ taken_then n (Take k bytes ∷ ds) es = by (n == k) (taken_then n ds es)
     by true h = ap (λ x. bytes ++ x) h ∙ sym (append_assoc bytes (taken_of n ds) (taken_of n es))
     by false h = h
 taken_then n (Commit ∷ ds) es = taken_then n ds es
+taken_then n (Fail ∷ ds) es = taken_then n ds es
 
 handed_then : (n : ℕ) (ds es : List Deed) → handed_of n (ds ++ es) ≡ handed_of n ds ++ handed_of n es
 handed_then n [] es = refl
 handed_then n (Event e ∷ ds) es = ap (λ x. came_in n e ++ x) (handed_then n ds es) ∙ sym (append_assoc (came_in n e) (handed_of n ds) (handed_of n es))
 handed_then n (Take k bytes ∷ ds) es = handed_then n ds es
 handed_then n (Commit ∷ ds) es = handed_then n ds es
+handed_then n (Fail ∷ ds) es = handed_then n ds es
 
 -- of deeds about a connection that is all that was, and of those about another it is nothing
 
@@ -56,6 +58,7 @@ taken_about n [] all = refl
 taken_about n (Event e ∷ ds) all = taken_about n ds all.1
 taken_about n (Take k bytes ∷ ds) all = picked n k (bytes ++ taken_of n ds) (taken_of n ds) (sym (some_is k n all.0)) ∙ ap (λ x. bytes ++ x) (taken_about n ds all.1)
 taken_about n (Commit ∷ ds) all = absurd (let no : None ≡ Some n = all.0 in cc)
+taken_about n (Fail ∷ ds) all = absurd (let no : None ≡ Some n = all.0 in cc)
 
 came_about : (n : ℕ) (e : Happening) → connection_in e ≡ Some n → came_in n e ≡ piece_in e
 came_about n (Opens k) is = refl
@@ -68,6 +71,7 @@ handed_about n [] all = refl
 handed_about n (Event e ∷ ds) all = ap (λ x. x ++ handed_of n ds) (came_about n e all.0) ∙ ap (λ x. piece_in e ++ x) (handed_about n ds all.1)
 handed_about n (Take k bytes ∷ ds) all = handed_about n ds all.1
 handed_about n (Commit ∷ ds) all = absurd (let no : None ≡ Some n = all.0 in cc)
+handed_about n (Fail ∷ ds) all = absurd (let no : None ≡ Some n = all.0 in cc)
 
 taken_other : (n k : ℕ) (ds : List Deed) → n ≢ k → AreAbout k ds → taken_of n ds ≡ []
 taken_other n k [] ne all = refl
@@ -75,6 +79,7 @@ taken_other n k (Event e ∷ ds) ne all = taken_other n k ds ne all.1
 taken_other n k (Take j bytes ∷ ds) ne all =
     skipped n j (bytes ++ taken_of n ds) (taken_of n ds) (λ e. ne (e ∙ some_is j k all.0)) ∙ taken_other n k ds ne all.1
 taken_other n k (Commit ∷ ds) ne all = absurd (let no : None ≡ Some k = all.0 in cc)
+taken_other n k (Fail ∷ ds) ne all = absurd (let no : None ≡ Some k = all.0 in cc)
 
 came_other : (n k : ℕ) (e : Happening) → n ≢ k → connection_in e ≡ Some k → came_in n e ≡ []
 came_other n k (Opens j) ne is = refl
@@ -87,6 +92,7 @@ handed_other n k [] ne all = refl
 handed_other n k (Event e ∷ ds) ne all = ap (λ x. x ++ handed_of n ds) (came_other n k e ne all.0) ∙ handed_other n k ds ne all.1
 handed_other n k (Take j bytes ∷ ds) ne all = handed_other n k ds ne all.1
 handed_other n k (Commit ∷ ds) ne all = absurd (let no : None ≡ Some k = all.0 in cc)
+handed_other n k (Fail ∷ ds) ne all = absurd (let no : None ≡ Some k = all.0 in cc)
 
 -- 2. One after another
 
@@ -296,8 +302,8 @@ module _ {T : Type 0} (contents remaining : T → Option (List ℕ)) (n : ℕ) w
   }
 
 -- it carries
-carries_on : {S T : Type 0} {disk : S → Disk} {contents remaining : T → Option (List ℕ)} {from to : OnStore S} (s t : Socket T) (a : ℕ) → s.is_ended ≡ false
-    → (c : Carries disk contents remaining s t from to) → IsCarried contents remaining s.connection c.deeds a a (Some (core s)) (Some (core t))
+carries_on : {S T : Type 0} {disk : S → Disk} {known : Deed → S → Type 0} {contents remaining : T → Option (List ℕ)} {from to : OnStore S} (s t : Socket T) (a : ℕ) → s.is_ended ≡ false
+    → (c : CarriesWith disk known contents remaining s t from to) → IsCarried contents remaining s.connection c.deeds a a (Some (core s)) (Some (core t))
 carries_on s t a unended c =
     let handed = handed_about s.connection c.deeds c.about in
     record {
@@ -362,7 +368,7 @@ module _ {T : Type 0} where
 
 -- 5. Moves, one after another
 
-module _ {S T : Type 0} (disk : S → Disk) (contents remaining : T → Option (List ℕ)) where
+module _ {S T : Type 0} (disk : S → Disk) (known : Deed → S → Type 0) (contents remaining : T → Option (List ℕ)) where
   -- where it was found and where it is found
   at_both : (n : ℕ) (ds : List Deed) (a b : ℕ) (o o' p p' : Option (Core T)) → o' ≡ o → p' ≡ p → IsCarried contents remaining n ds a b o p
       → IsCarried contents remaining n ds a b o' p'
@@ -411,8 +417,16 @@ module _ {S T : Type 0} (disk : S → Disk) (contents remaining : T → Option (
       (λ other. inl (ap (λ zs. core_of n zs) is ∙ remove_other (λ (c : Core T). c.connection) n xs p c at other.1))
       (eqb_tells n c.connection)
 
-  one_move : (m : Move) (from to : Seen S T) (h : IsMoved disk contents remaining m from to) → IsInOrder from → (n : ℕ)
-      → IsCarriedIn contents remaining n (of_move disk contents remaining m from to h).deeds from to
+  -- a commit, or one that was refused, is about no connection
+  settled_in : (n : ℕ) (from to : Seen S T) (tried : to.host.tried ≡ from.host.tried) (answer : SettledAs disk known from.host to.host)
+      → core_of n to.sockets ≡ core_of n from.sockets
+      → IsCarriedIn contents remaining n (of_settled disk known contents remaining from to tried answer).deeds from to
+  unfolding of_settled
+  settled_in n from to tried (inl done) same = stays_in n (Commit ∷ []) from to same refl refl
+  settled_in n from to tried (inr done) same = stays_in n (Fail ∷ []) from to same refl refl
+
+  one_move : (m : Move) (from to : Seen S T) (h : IsMoved disk known contents remaining m from to) → IsInOrder from → (n : ℕ)
+      → IsCarriedIn contents remaining n (of_move disk known contents remaining m from to h).deeds from to
   unfolding of_move
   one_move (Open k) from to h r n = ⊎_elim
       (λ same. stays_in n (Event (Opens k) ∷ []) from to (ap (λ xs. core_of n xs) same) refl refl)
@@ -435,28 +449,28 @@ module _ {S T : Type 0} (disk : S → Disk) (contents remaining : T → Option (
   one_move Leave from to h r n = left_in n from to h.0 r (subst (λ ys. StaysOrLeft n from.sockets ys) (sym h.1) (left_open 0 from.host.tried n from.sockets r))
   one_move (LeaveAt p) from to h r n =
       left_in n from to h.0 r (removed_at n p from.sockets to.sockets from.host.tried (slice_get from.sockets p) refl h.1 h.2 r)
-  one_move Settle from to h r n = stays_in n (Commit ∷ []) from to (ap (λ xs. core_of n xs) h.sockets) refl refl
+  one_move Settle from to h r n = settled_in n from to h.tried h.answer (ap (λ xs. core_of n xs) h.sockets)
 
-  tries_rise : (m : Move) (from to : Seen S T) → IsMoved disk contents remaining m from to → from.host.tried ≤ to.host.tried
+  tries_rise : (m : Move) (from to : Seen S T) → IsMoved disk known contents remaining m from to → from.host.tried ≤ to.host.tried
   tries_rise (Open n) from to h = omega (arith, h.rises, h.tried)
   tries_rise (Carry n) from to h = omega (arith, h.tried)
   tries_rise Leave from to h = let is = ap (λ (x : Host S). x.tried) h.0 in omega (arith, is)
   tries_rise (LeaveAt p) from to h = let is = ap (λ (x : Host S). x.tried) h.0 in omega (arith, is)
   tries_rise Settle from to h = omega (arith, h.tried)
 
-  all_rise : (ms : List Move) (from to : Seen S T) → Along (IsMoved disk contents remaining) ms from to → from.host.tried ≤ to.host.tried
+  all_rise : (ms : List Move) (from to : Seen S T) → Along (IsMoved disk known contents remaining) ms from to → from.host.tried ≤ to.host.tried
   all_rise [] from to h = let is = ap (λ (x : Seen S T). x.host.tried) h in omega (arith, is)
   all_rise (m ∷ ms) from to h = let one = tries_rise m from h.0 h.1 in let rest = all_rise ms h.0 to h.2 in omega (arith, one, rest)
 
-  all_moves : (ms : List Move) (from to : Seen S T) (h : Along (IsMoved disk contents remaining) ms from to) → IsInOrder from → (n : ℕ)
-      → IsCarriedIn contents remaining n (of_moves disk contents remaining ms from to h).deeds from to
+  all_moves : (ms : List Move) (from to : Seen S T) (h : Along (IsMoved disk known contents remaining) ms from to) → IsInOrder from → (n : ℕ)
+      → IsCarriedIn contents remaining n (of_moves disk known contents remaining ms from to h).deeds from to
   unfolding of_moves
   all_moves [] from to h r n = stays_in n [] from to (ap (λ (x : Seen S T). core_of n x.sockets) h) refl refl
   all_moves (m ∷ ms) from to h r n =
-      either_then contents remaining n (of_move disk contents remaining m from h.0 h.1).deeds (of_moves disk contents remaining ms h.0 to h.2).deeds
+      either_then contents remaining n (of_move disk known contents remaining m from h.0 h.1).deeds (of_moves disk known contents remaining ms h.0 to h.2).deeds
       from.host.tried h.0.host.tried to.host.tried (core_of n from.sockets) (core_of n h.0.sockets) (core_of n to.sockets)
       (tries_rise m from h.0 h.1) (all_rise ms h.0 to h.2) (one_move m from h.0 h.1 r n)
-      (all_moves ms h.0 to h.2 (move_keeps disk contents remaining m from h.0 h.1 r) n)
+      (all_moves ms h.0 to h.2 (move_keeps disk known contents remaining m from h.0 h.1 r) n)
 
 -- 6. Turns
 
@@ -467,35 +481,35 @@ rises_after t (Comes n piece ∷ es) h = rises_after t es h
 rises_after t (Closes n ∷ es) h = rises_after t es h
 rises_after t (Moment now ∷ es) h = rises_after t es h.1
 
-module _ {S T : Type 0} {disk : S → Disk} {contents remaining : T → Option (List ℕ)} where
-  turn_rises : (now : ℕ) (from to : Seen S T) → IsTurn disk contents remaining now from to → from.host.tried ≤ to.host.tried
+module _ {S T : Type 0} {disk : S → Disk} {known : Deed → S → Type 0} {contents remaining : T → Option (List ℕ)} where
+  turn_rises : (now : ℕ) (from to : Seen S T) → IsTurn disk known contents remaining now from to → from.host.tried ≤ to.host.tried
   turn_rises now from to turn =
-      let rest = all_rise disk contents remaining turn.goes.moves turn.begun to turn.goes.done in omega (arith, rest, turn.tried)
+      let rest = all_rise disk known contents remaining turn.goes.moves turn.begun to turn.goes.done in omega (arith, rest, turn.tried)
 
-  in_turn : (now : ℕ) (from to : Seen S T) (turn : IsTurn disk contents remaining now from to) → IsInOrder from → (n : ℕ)
+  in_turn : (now : ℕ) (from to : Seen S T) (turn : IsTurn disk known contents remaining now from to) → IsInOrder from → (n : ℕ)
       → IsCarriedIn contents remaining n (Event (Moment now) ∷ (run_of turn).deeds) from to
   unfolding run_of
   in_turn now from to turn r n =
-      either_then contents remaining n (Event (Moment now) ∷ []) (of_moves disk contents remaining turn.goes.moves turn.begun to turn.goes.done).deeds
+      either_then contents remaining n (Event (Moment now) ∷ []) (of_moves disk known contents remaining turn.goes.moves turn.begun to turn.goes.done).deeds
       from.host.tried turn.begun.host.tried to.host.tried (core_of n from.sockets) (core_of n turn.begun.sockets) (core_of n to.sockets)
-      (omega (arith, turn.tried)) (all_rise disk contents remaining turn.goes.moves turn.begun to turn.goes.done)
-      (stays_in disk contents remaining n (Event (Moment now) ∷ []) from turn.begun (ap (λ xs. core_of n xs) turn.sockets) refl refl)
-      (all_moves disk contents remaining turn.goes.moves turn.begun to turn.goes.done
+      (omega (arith, turn.tried)) (all_rise disk known contents remaining turn.goes.moves turn.begun to turn.goes.done)
+      (stays_in disk known contents remaining n (Event (Moment now) ∷ []) from turn.begun (ap (λ xs. core_of n xs) turn.sockets) refl refl)
+      (all_moves disk known contents remaining turn.goes.moves turn.begun to turn.goes.done
       (moved turn.begun from.host.tried from.sockets turn.tried turn.sockets r) n)
 
-  pub carried_none : (x : Seen S T) → IsInOrder x → AreCarried disk contents remaining [] x x
+  pub carried_none : (x : Seen S T) → IsInOrder x → AreCarried disk known contents remaining [] x x
   unfolding run_begins run_through
   carried_none x r = record {
-    run = run_begins disk x.host;
+    run = run_begins disk known x.host;
     in_order = r;
-    each = λ n. stays_in disk contents remaining n [] x x refl refl refl;
+    each = λ n. stays_in disk known contents remaining n [] x x refl refl refl;
   }
 
-  pub carried_on : (nows : List ℕ) (now : ℕ) (from at to : Seen S T) → AreCarried disk contents remaining nows from at
-      → IsTurn disk contents remaining now at to → AreCarried disk contents remaining (nows ++ now ∷ []) from to
+  pub carried_on : (nows : List ℕ) (now : ℕ) (from at to : Seen S T) → AreCarried disk known contents remaining nows from at
+      → IsTurn disk known contents remaining now at to → AreCarried disk known contents remaining (nows ++ now ∷ []) from to
   unfolding run_on
   carried_on nows now from at to before turn = record {
-    run = run_on disk nows now from.host at.host to.host before.run (run_of turn);
+    run = run_on disk known nows now from.host at.host to.host before.run (run_of turn);
     in_order = turn_keeps now at to turn before.in_order;
     each = λ n. either_then contents remaining n before.run.deeds (Event (Moment now) ∷ (run_of turn).deeds)
         from.host.tried at.host.tried to.host.tried (core_of n from.sockets) (core_of n at.sockets) (core_of n to.sockets)
@@ -503,14 +517,14 @@ module _ {S T : Type 0} {disk : S → Disk} {contents remaining : T → Option (
         (turn_rises now at to turn) (before.each n) (in_turn now at to turn before.in_order n);
   }
 
-  go_on : (before nows : List ℕ) (from at to : Seen S T) → AreCarried disk contents remaining before from at
-      → Along (IsTurn disk contents remaining) nows at to → AreCarried disk contents remaining (before ++ nows) from to
-  go_on before [] from at to one turns = subst (λ ms. AreCarried disk contents remaining ms from to) (sym (append-nil before))
-      (subst (λ (x : Seen S T). AreCarried disk contents remaining before from x) (sym turns) one)
+  go_on : (before nows : List ℕ) (from at to : Seen S T) → AreCarried disk known contents remaining before from at
+      → Along (IsTurn disk known contents remaining) nows at to → AreCarried disk known contents remaining (before ++ nows) from to
+  go_on before [] from at to one turns = subst (λ ms. AreCarried disk known contents remaining ms from to) (sym (append-nil before))
+      (subst (λ (x : Seen S T). AreCarried disk known contents remaining before from x) (sym turns) one)
   go_on before (now ∷ nows) from at to one turns =
-      subst (λ ms. AreCarried disk contents remaining ms from to) (append_assoc before (now ∷ []) nows)
+      subst (λ ms. AreCarried disk known contents remaining ms from to) (append_assoc before (now ∷ []) nows)
       (go_on (before ++ now ∷ []) nows from turns.0 to (carried_on before now from at turns.0 one turns.1) turns.2)
 
-  pub carried : (nows : List ℕ) (from to : Seen S T) → Along (IsTurn disk contents remaining) nows from to → IsInOrder from
-      → AreCarried disk contents remaining nows from to
+  pub carried : (nows : List ℕ) (from to : Seen S T) → Along (IsTurn disk known contents remaining) nows from to → IsInOrder from
+      → AreCarried disk known contents remaining nows from to
   carried nows from to turns r = go_on [] nows from from to (carried_none from r) turns

@@ -11,7 +11,7 @@ use Rattle.kb_node.specs.Cores.{Core, Seen}
 use Rattle.kb_node.specs.Got.{taken_of}
 use Rattle.kb_node.specs.Moves.{IsRunThrough}
 use Rattle.kb_node.specs.Numbers.{IsInOrder}
-use Rattle.kb_node.specs.Traffic.{Along, Commit, Deed, Event, IsUsed, Take, Use, events_of, read_by, written_by}
+use Rattle.kb_node.specs.Traffic.{Along, Commit, Deed, Event, Fail, IsUsed, Take, Use, events_of, read_by, written_by}
 
 -- 1. The socket of a connection
 
@@ -54,6 +54,7 @@ handed_of n [] = []
 handed_of n (Event e ∷ ds) = came_in n e ++ handed_of n ds
 handed_of n (Take k bytes ∷ ds) = handed_of n ds
 handed_of n (Commit ∷ ds) = handed_of n ds
+handed_of n (Fail ∷ ds) = handed_of n ds
 
 -- 3. What a socket carries
 
@@ -101,9 +102,9 @@ IsCarriedIn contents remaining n deeds from to =
 
 -- Turns at those moments were one run of the broker, and each connection was carried by one socket in it, or by none. The sockets stand by
 -- rising number, so no two carry one connection.
-pub record AreCarried {S T : Type 0} (disk : S → Disk) (contents remaining : T → Option (List ℕ)) (nows : List ℕ)
-    (from to : Seen S T) : Type 0 where
-  pub run : IsRunThrough disk nows from.host to.host
+pub record AreCarried {S T : Type 0} (disk : S → Disk) (known : Deed → S → Type 0) (contents remaining : T → Option (List ℕ))
+    (nows : List ℕ) (from to : Seen S T) : Type 0 where
+  pub run : IsRunThrough disk known nows from.host to.host
   pub in_order : IsInOrder to
   pub each : (n : ℕ) → IsCarriedIn contents remaining n run.deeds from to
 
@@ -144,6 +145,7 @@ pub record IsAlone {S T : Type 0} (x : Seen S T) : Type 0 where
 
 -- Clients were served in turns at those moments: each connection was carried by one socket, or by none. Where the store is honest to the end,
 -- they were sent what the machines write.
-pub record AreServed {S T : Type 0} (disk : S → Disk) (contents remaining : T → Option (List ℕ)) (nows : List ℕ) (from to : Seen S T) : Type 0 where
-  pub carried : AreCarried disk contents remaining nows from to
+pub record AreServed {S T : Type 0} (disk : S → Disk) (known : Deed → S → Type 0) (contents remaining : T → Option (List ℕ))
+    (nows : List ℕ) (from to : Seen S T) : Type 0 where
+  pub carried : AreCarried disk known contents remaining nows from to
   pub sent : is_honest disk to.host.broker → AreSent contents remaining carried.run.deeds from to

@@ -52,7 +52,8 @@ impl<T: Read + Write + Drop> Socket<T> {
         ensures ended { self.new.is_ended ≡ self.old.is_ended }
         ensures numbers { numbers host.new.broker.state ≡ numbers host.old.broker.state }
         ensures tried { host.new.tried ≡ host.old.tried }
-        ensures at_once { tells_at_once host.old.commits ≡ true → tells_at_once host.new.commits ≡ true }
+        ensures sync { (host.new.commits.sync ≡ host.old.commits.sync)
+            × (tells_at_once host.old.commits ≡ true → tells_at_once host.new.commits ≡ true) }
         ensures fits { turn.new.read ≤ turn.old.read + room_of self.old.connection host.old.broker.state }
         // What is kept of a request that may not begin is not handed on.
         ensures held { may_begin self.old.is_bound most
@@ -133,7 +134,8 @@ impl<T: Read + Write + Drop> Socket<T> {
         ensures ended { self.new.is_ended ≡ self.old.is_ended }
         ensures numbers { numbers host.new.broker.state ≡ numbers host.old.broker.state }
         ensures tried { host.new.tried ≡ host.old.tried }
-        ensures at_once { tells_at_once host.old.commits ≡ true → tells_at_once host.new.commits ≡ true }
+        ensures sync { (host.new.commits.sync ≡ host.old.commits.sync)
+            × (tells_at_once host.old.commits ≡ true → tells_at_once host.new.commits ≡ true) }
         ensures read { turn.new.read ≡ turn.old.read }
         // Nothing is handed on of a request that may not begin.
         ensures held { may_begin self.old.is_bound most (awaited self.old.input.progress.left piece.now) ≡ false → host.new ≡ host.old }

@@ -10,7 +10,7 @@ use Rattle.kb_node.proofs.edge.Edge.close.Goals.{in_default-via-in-None-1, in_de
 pub returns-then-not-is_ended-clause-goes : goal.returns-then-not-is_ended-clause-goes
 returns-then-not-is_ended-clause-goes g c = let unended : c.in-Some-get_mut.socket.now.is_ended ≡ false = grind (arith, c.is_ended.ensures, c.if-not-is_ended.true) in
     goes_carried _ _ c.args.self.now.sockets c.in-Some.place c.in-Some-get_mut.socket.now c.close.new.self (c.in-Some-get_mut.ensures.variant.0 refl)
-    c.in-Some-get_mut.ensures.value c.close.ensures.connection unended c.close.ensures.tried c.close.ensures.tells.carries
+    c.in-Some-get_mut.ensures.value c.close.ensures.connection unended c.close.ensures.tried (ap (λ x. x.sync) c.close.ensures.commits) c.close.ensures.tells.carries
 
 pub invariant_of-self-else-not-is_ended-clause-seated : goal.invariant_of-self-else-not-is_ended-clause-seated
 invariant_of-self-else-not-is_ended-clause-seated g c = let ended : c.in-Some-get_mut.socket.now.is_ended ≡ true = grind (arith, c.is_ended.ensures, c.if-not-is_ended.false) in
@@ -32,7 +32,7 @@ returns-in_default-clause-goes g c = elim c.in_default.branch [
 pub returns-then-not-is_ended-clause-tells : goal.returns-then-not-is_ended-clause-tells
 returns-then-not-is_ended-clause-tells g c = let unended : c.in-Some-get_mut.socket.now.is_ended ≡ false = grind (arith, c.is_ended.ensures, c.if-not-is_ended.true) in
     telling_at_place _ _ c.args.self.now.sockets c.in-Some.place c.in-Some-get_mut.socket.now c.close.new.self c.close.new.self refl
-    (c.in-Some-get_mut.ensures.variant.0 refl) c.in-Some-get_mut.ensures.value c.close.ensures.connection unended c.close.ensures.tried c.close.ensures.tells
+    (c.in-Some-get_mut.ensures.variant.0 refl) c.in-Some-get_mut.ensures.value c.close.ensures.connection unended c.close.ensures.tried (ap (λ x. x.sync) c.close.ensures.commits) c.close.ensures.tells
 
 pub returns-in_default-clause-tells : goal.returns-in_default-clause-tells
 returns-in_default-clause-tells g c = elim c.in_default.branch [

@@ -12,7 +12,7 @@ use Rattle.kb_node.specs.Cores.{Seen}
 use Rattle.kb_node.specs.Got.{AreIsolated}
 use Rattle.kb_node.specs.Known.{lasting}
 use Rattle.kb_node.specs.Moves.{IsRunThrough, IsTurn}
-use Rattle.kb_node.specs.Streams.{AreServed, IsAlone}
+use Rattle.kb_node.specs.Streams.{AreClientsServed, IsAlone}
 use Rattle.kb_node.specs.Traffic.{Along, AreDone, Deed, events_of, moments_of}
 
 -- the clock after readings
@@ -32,7 +32,7 @@ pub record AreTurned {S T : Type 0} (disk : S → Disk) (known : Deed → S → 
   pub clock : end ≡ clock_behind start readings
   pub turns : Along (IsTurn disk known contents remaining) (ticks start readings) from to
   pub run : IsRunThrough disk known (ticks start readings) from.host to.host
-  pub clients : IsAlone from → AreServed disk known contents remaining (ticks start readings) from to
+  pub clients : IsAlone from → AreClientsServed disk known contents remaining (ticks start readings) from to
 
 -- A broker was served from then on: what was done to it is a run, event by event, with takes of output and commits between. Its moments are
 -- those of a clock. Whenever output was taken where replies wait for a commit, and behind each commit, all that was done before lasted. A

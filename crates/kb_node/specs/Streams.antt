@@ -68,9 +68,9 @@ abbrev pub EndsWith : {T : Type 0} → T → ℕ → ℕ → Option (Core T) →
 EndsWith stream n tried None = n ≤ tried
 EndsWith stream n tried (Some c) = c.stream ≡ stream
 
--- A socket carried a connection, by one stream. What was written to that is what was unwritten, and then what was taken of the connection, in
--- order. What was handed on as the connection's bytes is what was kept, and then what was read of the stream, in order. Nothing is lost but at
--- the end, and what was read but for want of memory. The greatest numbers that were tried before and after are given.
+-- A socket carried a connection, by one stream. What was written to that is what was unwritten, and then what was taken of the connection,
+-- in order. What was handed on as the connection's bytes is what was kept, and then what was read of the stream, in order. Nothing is lost
+-- but at the end, and what was read but for want of memory. The greatest numbers that were tried before and after are given.
 pub record IsCarried {T : Type 0} (contents remaining : T → Option (List ℕ)) (n : ℕ) (deeds : List Deed) (before after : ℕ)
     (old new : Option (Core T)) : Type 0 where
   pub first : T
@@ -143,8 +143,8 @@ pub record IsAlone {S T : Type 0} (x : Seen S T) : Type 0 where
   pub lines : x.host.broker.state.lines ≡ []
   pub tried : x.host.broker.state.last ≤ x.host.tried
 
--- Clients were served in turns at those moments: each connection was carried by one socket, or by none. Where the store is honest to the end,
--- they were sent what the machines write.
+-- Clients were served in turns at those moments: each connection was carried by one socket, or by none. Where the store is honest to the
+-- end, they were sent what the machines write.
 pub record AreClientsServed {S T : Type 0} (disk : S → Disk) (known : Deed → S → Type 0) (contents remaining : T → Option (List ℕ))
     (nows : List ℕ) (from to : Seen S T) : Type 0 where
   pub carried : AreCarried disk known contents remaining nows from to

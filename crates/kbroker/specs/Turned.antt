@@ -26,7 +26,8 @@ ticks clock [] = []
 ticks clock (r ∷ rs) = (clock_after clock r).time / 2000 ∷ ticks (clock_after clock r) rs
 
 -- The clock was read, and at each reading there was one turn, of the moment that the clock then gave. All of them together are one run of
--- the broker, with those moments. That is known of the store at each deed. Where nobody was connected before, its clients were served in it.
+-- the broker, with those moments. That is known of the store at each deed. Where nobody was connected before, its clients were served in
+-- it.
 pub record AreTurned {S T : Type 0} (disk : S → Disk) (known : Deed → S → Type 0) (contents remaining : T → Option (List ℕ))
     (readings : List Reading) (start end : GuardedClock) (from to : Seen S T) : Type 0 where
   pub clock : end ≡ clock_behind start readings

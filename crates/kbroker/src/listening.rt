@@ -22,6 +22,7 @@ pub fn listen<R: Net, S: Store + Drop, L: PartitionLog + Drop>(
 ) -> Result<Edge<R, S, L>, Fault>
     ensures host { IfOk result (λ edge. (edge.host.broker ≡ broker) × (edge.host.tried ≡ broker.state.last)) }
     ensures fault { IfOk result (λ edge. edge.host.commits.fault ≡ None) }
+    ensures sync { IfOk result (λ edge. edge.host.commits.sync ≡ settings.now.sync) }
     ensures empty { IfOk result (λ edge. vec_len edge.sockets ≡ 0) }
 {
     let alloc = rt.alloc();

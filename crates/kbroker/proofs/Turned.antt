@@ -1,6 +1,8 @@
 -- One turn more, by one reading more of the clock.
 use Rattle.std.specs.Prelude.{◌/◌}
-use Rattle.std.proofs.Common.{◌≡◌, ◌∙◌, ◌≤◌, ℕ, List, [], ◌∷◌, ◌++◌, Option, None, ap, refl, sym, subst, arith}
+use Rattle.std.proofs.Common.{◌≡◌, ◌∙◌, ◌≤◌, ℕ, List, [], ◌∷◌, ◌++◌, Option, None, length, vec_len, ap, refl, sym, subst, arith}
+use Rattle.std.specs.declared.alloc.Global.{Global}
+use Rattle.std.specs.declared.vec.Vec.{Vec}
 use Rattle.kb_store.specs.Disk.{Disk}
 use Rattle.kb_store.specs.Loss.{Loss}
 use Rattle.kb_server_log.specs.Guard.{clock_after}
@@ -8,7 +10,6 @@ use Rattle.kb_server_log.specs.declared.guard.GuardedClock.{GuardedClock}
 use Rattle.kb_server_log.specs.declared.guard.Reading.{Reading}
 use Rattle.kb_isolation_spec.specs.Broker.{IsRun, Rising}
 use Rattle.kb_broker.specs.Hosts.{OnStore}
-use Rattle.kb_node.specs.Commits.{Host}
 use Rattle.kb_node.specs.Cores.{Seen}
 use Rattle.kb_node.specs.Known.{lasting}
 use Rattle.kb_node.specs.Moves.{IsRunThrough, IsTurn}
@@ -19,6 +20,14 @@ use Rattle.kb_node.proofs.Isolated.{isolated}
 use Rattle.kb_node.proofs.Known.{lasting_on, none_there}
 use Rattle.kb_node.proofs.Traffic.{along_then}
 use Rattle.kbroker.specs.Turned.{AreTurned, IsServed, clock_behind, ticks}
+
+no_items : {X : Type 0} (xs : List X) → length xs ≡ 0 → xs ≡ []
+no_items [] is = refl
+no_items (x ∷ xs) is = absurd (omega (arith, is))
+
+-- a list of no length is empty
+pub none_of : {X : Type 0} (v : Vec X Global) → vec_len v ≡ 0 → v.items ≡ []
+none_of v is = no_items v.items (sym v.ok.0 ∙ is)
 
 clock_more : (c : GuardedClock) (rs : List Reading) (r : Reading) → clock_behind c (rs ++ r ∷ []) ≡ clock_after (clock_behind c rs) r
 clock_more c [] r = refl
@@ -100,8 +109,9 @@ module _ {S T : Type 0} (settled : S → Type 0) (disk : S → Disk) (loss : S �
   -- turns from a broker on that nobody was connected to by a socket
   pub turned_from : {rs : List Reading} {c d : GuardedClock} {x y : Seen S T} (broker : OnStore S)
       → AreTurned disk (lasting settled disk loss y.host.commits) contents remaining rs c d x y
-      → x.host.broker ≡ broker → x.host.tried ≡ broker.state.last → broker.state.lines ≡ [] → IsServed settled disk loss broker y.host
-  turned_from {rs} {c} {d} {x} {y} broker turned same tried alone =
+      → x.host.broker ≡ broker → x.host.tried ≡ broker.state.last → x.sockets ≡ [] → broker.state.lines ≡ []
+      → IsServed settled disk loss contents remaining broker y
+  turned_from {rs} {c} {d} {x} {y} broker turned same tried none alone =
       let run = turned.run in
       let known = lasting settled disk loss y.host.commits in
       let done : AreDone disk known run.deeds broker y.host.broker = subst (λ b. AreDone disk known run.deeds b y.host.broker) same run.done in
@@ -116,4 +126,11 @@ module _ {S T : Type 0} (settled : S → Type 0) (disk : S → Disk) (loss : S �
         moments = run.moments;
         is_run = is_run;
         isolated = λ honest. isolated disk known broker.state.last run.deeds broker y.host.broker done is_run rises (omega arith) honest;
+        from = x;
+        begins = (same, none);
+        clients = turned.clients (record {
+          sockets = none;
+          lines = ap (λ (b : OnStore S). b.state.lines) same ∙ alone;
+          tried = let last = ap (λ (b : OnStore S). b.state.last) same in omega (arith, tried, last);
+        });
       }

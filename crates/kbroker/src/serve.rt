@@ -160,8 +160,8 @@ struct Found {
 /// Serves a network's sockets on a broker until the turns are used up, or a commit is refused: its edge as it then is, and how that
 /// ended. The network is any one whose sockets the system can wait for.
 ///
-/// What is done to the broker is one run of it, in which tenants are kept apart. With [`Sync::Always`] output is taken only while all that
-/// was done before it lasts.
+/// What is done to the broker is one run of it, in which tenants are kept apart, and clients are sent what the machines write. With
+/// [`Sync::Always`] output is taken only while all that was done before it lasts.
 fn serve_broker<R: Net, S: Store + Drop, L: PartitionLog + Drop>(
     rt: &HostRuntime,
     net: &R,
@@ -172,7 +172,8 @@ fn serve_broker<R: Net, S: Store + Drop, L: PartitionLog + Drop>(
     journal: &mut Journal,
 ) -> Result<(Edge<R, S, L>, Result<(), StoreFault>), Fault>
     requires { broker.state.lines ≡ [] }
-    ensures served { IfOk result (λ ended. IsServed S.settled S.disk S.loss broker ended.0.host) }
+    ensures served { IfOk result (λ ended. IsServed S.settled S.disk S.loss R.Stream.contents R.Stream.remaining broker
+        (seen ended.0.host ended.0.sockets.items)) }
     ensures sync { IfOk result (λ ended. ended.0.host.commits.sync ≡ settings.now.sync) }
     ensures refused { IfOk result (λ ended. IfErr ended.1 (λ fault. ended.0.host.commits.fault ≡ Some fault)) }
 {

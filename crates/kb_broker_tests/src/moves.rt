@@ -4,7 +4,6 @@ use crate::edge::{Client, Server};
 use crate::words::bytes_of;
 use std::alloc::Global;
 use std::io;
-use std::net::Net;
 
 /// How often a client looks for an answer.
 const LOOKS: usize = 10_000;
@@ -45,8 +44,8 @@ pub(crate) enum Deed<'a> {
 }
 
 /// How many of some moves go as they say, before the first that does not.
-pub(crate) fn play<R: Net, E: Server>(
-    net: &R,
+pub(crate) fn play<E: Server>(
+    net: &HostRuntime,
     alloc: Global,
     edge: &mut E,
     moves: &[Move<'_>],
@@ -56,11 +55,11 @@ pub(crate) fn play<R: Net, E: Server>(
 }
 
 /// The same among clients that are there.
-fn play_among<R: Net, E: Server>(
-    net: &R,
+fn play_among<E: Server>(
+    net: &HostRuntime,
     alloc: Global,
     edge: &mut E,
-    clients: &mut Vec<Client<R>>,
+    clients: &mut Vec<Client>,
     moves: &[Move<'_>],
 ) -> io::Result<usize> {
     let mut now = 0u32;
@@ -78,11 +77,11 @@ fn play_among<R: Net, E: Server>(
 }
 
 /// Whether a move goes as it says.
-fn goes<R: Net, E: Server>(
-    net: &R,
+fn goes<E: Server>(
+    net: &HostRuntime,
     alloc: Global,
     edge: &mut E,
-    clients: &mut Vec<Client<R>>,
+    clients: &mut Vec<Client>,
     now: u32,
     next: Move<'_>,
 ) -> io::Result<bool> {
@@ -101,10 +100,10 @@ fn turns<E: Server>(alloc: Global, edge: &mut E, now: u32, counts: [u64; 6]) -> 
 }
 
 /// Whether what happens to the client at a place goes as it says.
-fn is_done_at<R: Net, E: Server>(
+fn is_done_at<E: Server>(
     alloc: Global,
     edge: &mut E,
-    clients: &mut [Client<R>],
+    clients: &mut [Client],
     now: u32,
     place: usize,
     deed: Deed<'_>,
@@ -116,11 +115,11 @@ fn is_done_at<R: Net, E: Server>(
 }
 
 /// A client connects.
-fn join<R: Net>(
-    net: &R,
+fn join(
+    net: &HostRuntime,
     alloc: Global,
     port: u16,
-    clients: &mut Vec<Client<R>>,
+    clients: &mut Vec<Client>,
 ) -> io::Result<bool> {
     let client = Client::connect(net, alloc, port)?;
     clients.push(client)?;
@@ -128,12 +127,7 @@ fn join<R: Net>(
 }
 
 /// The last client goes: whether just one socket is closed in the turns that follow.
-fn leaves<R: Net, E: Server>(
-    alloc: Global,
-    edge: &mut E,
-    clients: &mut Vec<Client<R>>,
-    now: u32,
-) -> bool {
+fn leaves<E: Server>(alloc: Global, edge: &mut E, clients: &mut Vec<Client>, now: u32) -> bool {
     drop(clients.pop());
     count_closed(alloc, edge, now) == 1
 }
@@ -148,10 +142,10 @@ fn count_closed<E: Server>(alloc: Global, edge: &mut E, now: u32) -> u64 {
 }
 
 /// Whether what happens to a client goes as it says.
-fn is_done<R: Net, E: Server>(
+fn is_done<E: Server>(
     alloc: Global,
     edge: &mut E,
-    client: &mut Client<R>,
+    client: &mut Client,
     now: u32,
     deed: Deed<'_>,
 ) -> io::Result<bool> {
@@ -175,10 +169,10 @@ fn is_done<R: Net, E: Server>(
 }
 
 /// A client sends bytes, so many at a time, and the edge turns after each.
-fn sends<R: Net, E: Server>(
+fn sends<E: Server>(
     alloc: Global,
     edge: &mut E,
-    client: &mut Client<R>,
+    client: &mut Client,
     now: u32,
     bytes: &str,
     size: usize,
@@ -192,10 +186,10 @@ fn sends<R: Net, E: Server>(
 }
 
 /// Whether a client is told bytes.
-fn hears<R: Net, E: Server>(
+fn hears<E: Server>(
     alloc: Global,
     edge: &mut E,
-    client: &mut Client<R>,
+    client: &mut Client,
     now: u32,
     reply: &str,
 ) -> io::Result<bool> {
@@ -205,10 +199,10 @@ fn hears<R: Net, E: Server>(
 }
 
 /// Turns the edge until that many bytes have come to a client, or its connection is over.
-fn listen<R: Net, E: Server>(
+fn listen<E: Server>(
     alloc: Global,
     edge: &mut E,
-    client: &mut Client<R>,
+    client: &mut Client,
     now: u32,
     count: usize,
 ) -> io::Result<()> {

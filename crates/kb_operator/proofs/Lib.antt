@@ -1,2 +1,4 @@
 pub mod Counted
+pub mod Logged
 pub mod Unlimited
+pub mod Visited

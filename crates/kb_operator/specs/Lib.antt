@@ -1,5 +1,10 @@
 pub mod Bucket
+pub mod Counted
 pub mod Device
+pub mod Known
+pub mod KnownLaws
+pub mod Logged
+pub mod Logins
 pub mod Others
 pub mod Settings
 pub mod Sums

@@ -1,6 +1,9 @@
 //! What is told on standard error while a data folder is open: a line each, with the time.
 
-ghost use Rattle.std.specs.Prelude.{◌≤◌, ◌^◌};
+ghost use Rattle.std.specs.Prelude.{◌≡◌, ◌≤◌, ◌++◌, ◌^◌, map, option_map, string_bytes, IfOk, OnOk};
+ghost use Rattle.kb_operator.specs.Counted.{closed_line, closed_of, closed_parts, silent_part, turned_away_lines, with_sockets_at};
+ghost use Rattle.kb_operator.specs.Known.{known, known_user, known_users};
+ghost use Rattle.kb_operator.specs.Logged.{Tells};
 
 mod logins;
 mod refusals;
@@ -10,9 +13,9 @@ mod unread;
 use crate::bucket::Bucket;
 use crate::counts::RefusalCounts;
 use crate::deleted::deleted_text;
-use crate::lines::Lines;
+use crate::lines::{LineLog, Lines};
 use kb_server_log::{Change, Notice, Pace, Tally, time_text};
-use kb_settings::{Settings, Sync, tenant_names};
+use kb_settings::{Settings, Sync, User, tenant_names};
 use kb_start::{Deleted, StrayCounts, Total};
 use std::alloc::{AllocError, Global};
 
@@ -83,9 +86,9 @@ const LONG_COMMIT: u64 = 1000;
 
 /// What was told so far. No line is waited for ([`Lines`]).
 #[derive(Drop)]
-pub struct Journal {
+pub struct Journal<T = Lines> {
     is_quiet: bool,
-    lines: Lines,
+    lines: T,
     connections: u32,
     sync: Sync,
     tenants: Vec<Tenant>,
@@ -108,13 +111,16 @@ pub struct Journal {
     pace: Pace,
 }
 
-impl Journal {
+impl Journal<Lines> {
     /// Nothing is told yet, and with `is_quiet` nothing will be.
     pub fn new(
         rt: &HostRuntime,
         settings: &Settings,
         is_quiet: bool,
-    ) -> Result<Journal, AllocError> {
+    ) -> Result<Journal, AllocError>
+        ensures users { IfOk result (λ journal. map known journal.users.items ≡ known_users settings.now) }
+        ensures quiet { IfOk result (λ journal. journal.is_quiet ≡ is_quiet) }
+    {
         Ok(Journal {
             is_quiet,
             lines: Lines::new(rt)?,
@@ -132,9 +138,11 @@ impl Journal {
             pace: Pace::default(),
         })
     }
+}
 
+impl<T: LineLog> Journal<T> {
     /// Where other lines on the same folder go.
-    pub fn lines(&mut self) -> &mut Lines {
+    pub fn lines(&mut self) -> &mut T {
         &mut self.lines
     }
 
@@ -307,7 +315,11 @@ impl Journal {
     }
 
     /// How many connections were closed at once since the last line.
-    fn tell_turned_away(&mut self, alloc: Global, now: u64) {
+    fn tell_turned_away(&mut self, alloc: Global, now: u64)
+        ensures told { Tells now (turned_away_lines self.old.turned_away self.old.connections)
+            (T.logged self.old.lines) (T.logged self.new.lines) }
+        ensures others { self.new ≡ record self.old { turned_away = 0; lines = self.new.lines } }
+    {
         if self.turned_away == 0 {
             return;
         }
@@ -338,19 +350,45 @@ fn closed_text<B: RefusalCounts>(
     tenants: &mut [Tenant],
     broker: &B,
     closed: Closed,
-) -> Result<Option<String>, AllocError> {
+) -> Result<Option<String>, AllocError>
+    ensures line { IfOk result (λ line. option_map string_bytes line ≡ closed_line closed (closed_parts (B.sockets broker.now) tenants.old)) }
+    ensures told { OnOk result (tenants.new ≡ map (with_sockets_at (B.sockets broker.now)) tenants.old) }
+{
     let mut counts = String::new(alloc);
-    for tenant in tenants {
-        let closed = broker.sockets_of_tenant(tenant.place);
-        let grown = tenant.sockets.grown(closed);
-        if grown > 0 {
-            let (name, most) = (tenant.name.as_str(), tenant.connections);
-            counts.push_str(&format!(in alloc; "{grown} of tenant {name} over its {most}, ")?)?;
-        }
+    for tenant in tenants.iter_mut() {
+        push_closed(alloc, &mut counts, tenant, broker)?;
     }
     if closed == Closed::default() && counts.is_empty() {
         return Ok(None);
     }
+    let silent = silent_text(alloc, closed)?;
+    Ok(Some(format!(in alloc; "connections closed: {counts}{silent}")?))
+}
+
+/// Puts how many sockets of a tenant were closed since the last line, where there were some.
+fn push_closed<B: RefusalCounts>(
+    alloc: Global,
+    counts: &mut String,
+    tenant: &mut Tenant,
+    broker: &B,
+) -> Result<(), AllocError>
+    ensures text { OnOk result (string_bytes counts.new
+        ≡ string_bytes counts.old ++ closed_of (B.sockets broker.now tenant.old.place) tenant.old) }
+    ensures told { tenant.new ≡ with_sockets_at (B.sockets broker.now) tenant.old }
+{
+    let closed = broker.sockets_of_tenant(tenant.place);
+    let grown = tenant.sockets.grown(closed);
+    if grown == 0 {
+        return Ok(());
+    }
+    let (name, most) = (tenant.name.as_str(), tenant.connections);
+    counts.push_str(&format!(in alloc; "{grown} of tenant {name} over its {most}, ")?)
+}
+
+/// How many sockets kept silent, by what they did.
+fn silent_text(alloc: Global, closed: Closed) -> Result<String, AllocError>
+    ensures { IfOk result (λ text. string_bytes text ≡ silent_part closed) }
+{
     let Closed {
         strangers,
         unread,
@@ -358,10 +396,7 @@ fn closed_text<B: RefusalCounts>(
         slow,
     } = closed;
     let silent = format!(in alloc; "{strangers} before a login, {unread} that did not read")?;
-    let text = format!(in alloc;
-        "connections closed: {counts}{silent}, {idle} that were idle, {slow} whose request took too long"
-    )?;
-    Ok(Some(text))
+    format!(in alloc; "{silent}, {idle} that were idle, {slow} whose request took too long")
 }
 
 /// The users' tenants, in byte order, each once.
@@ -382,18 +417,27 @@ fn tenants_of(alloc: Global, settings: &Settings) -> Result<Vec<Tenant>, AllocEr
 }
 
 /// The users whose logins are told: all of the settings in their order, or none.
-fn users_of(alloc: Global, settings: &Settings) -> Result<Vec<Account>, AllocError> {
+fn users_of(alloc: Global, settings: &Settings) -> Result<Vec<Account>, AllocError>
+    ensures { IfOk result (λ users. map known users.items ≡ known_users settings.now) }
+{
     let mut users = Vec::new(alloc);
     if !settings.logins {
         return Ok(users);
     }
     for user in &settings.users {
-        users.push(Account {
-            name: String::from_str(alloc, &user.name)?,
-            tenant: String::from_str(alloc, &user.tenant)?,
-        })?;
+        users.push(account_of(alloc, user)?)?;
     }
     Ok(users)
+}
+
+/// A user as he is known: by his name and his tenant.
+fn account_of(alloc: Global, user: &User) -> Result<Account, AllocError>
+    ensures { IfOk result (λ account. known account ≡ known_user user.now) }
+{
+    Ok(Account {
+        name: String::from_str(alloc, &user.name)?,
+        tenant: String::from_str(alloc, &user.tenant)?,
+    })
 }
 
 /// What was found, which is empty where there is no memory for it.

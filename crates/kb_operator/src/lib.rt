@@ -40,7 +40,7 @@ pub use folder::{
     DataStore, HeldFolder, hold, is_folder, look_into, store_in, store_to_read, store_to_serve,
 };
 pub use journal::{Closed, Held, Journal, Word};
-pub use lines::Lines;
+pub use lines::{LineLog, Lines};
 pub use look::look_at_start;
 pub use named::settings_of_files;
 pub use refused::FolderJournal;

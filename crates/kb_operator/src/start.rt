@@ -7,7 +7,7 @@ use crate::dropped::DroppedParts;
 use crate::fault::OperatorFault;
 use crate::folder::store_to_read;
 use crate::journal::Journal;
-use crate::lines::Lines;
+use crate::lines::{LineLog, Lines};
 use crate::refused::FolderJournal;
 use crate::report::dropped_texts;
 use kb_server_log::now;

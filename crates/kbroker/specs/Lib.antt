@@ -5,5 +5,6 @@ pub mod Pages
 pub mod Refusals
 pub mod Server
 pub mod Shortened
+pub mod Shut
 pub mod Turned
 pub mod Unread

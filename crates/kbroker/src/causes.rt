@@ -1,5 +1,8 @@
 //! Why a connection was shut, as it is told.
 
+ghost use Rattle.std.specs.Prelude.{◌≡◌, option_map, string_bytes, IfOk};
+ghost use Rattle.kbroker.specs.Shut.{api_text, cause_text, name_at, not_served_text, stranger_text, unanswerable_text};
+
 use kb_isolation_spec::Shut;
 use std::alloc::{AllocError, Global};
 
@@ -57,45 +60,70 @@ const NAMES: [&str; 48] = [
 
 /// Why a connection was shut on which no request of more than `request_bytes` is read, in words. They depend on nothing else but the
 /// cause.
-pub fn text_of(alloc: Global, cause: Shut, request_bytes: u32) -> Result<String, AllocError> {
+pub fn text_of(alloc: Global, cause: Shut, request_bytes: u32) -> Result<String, AllocError>
+    ensures { IfOk result (λ text. string_bytes text ≡ cause_text request_bytes cause) }
+{
     match cause {
         Shut::TooShort => String::from_str(alloc, "a request is too short for its header"),
         Shut::TooLong => format!(in alloc; "a request is longer than {request_bytes} bytes"),
         Shut::NotServed {
             api_key,
             api_version,
-        } => {
-            let api = name_of(alloc, api_key)?;
-            format!(in alloc; "version {api_version} of {api} is not served")
-        }
+        } => not_served_text(alloc, api_key, api_version),
         Shut::Unanswerable {
             api_key,
             api_version,
-        } => {
-            let api = name_of(alloc, api_key)?;
-            format!(in alloc;
-                "the body of {api} {api_version} does not match or names more than request_entries, or there was no room for its reply"
-            )
-        }
+        } => unanswerable_text(alloc, api_key, api_version),
         Shut::NotLoggedIn {
             api_key,
             api_version,
-        } => {
-            let api = name_of(alloc, api_key)?;
-            format!(in alloc; "{api} {api_version} before a login")
-        }
+        } => stranger_text(alloc, api_key, api_version),
         Shut::Denied => String::from_str(alloc, "its login failed"),
         Shut::Overrun => String::from_str(alloc, "more came than there was room for"),
         Shut::Memory => String::from_str(alloc, "out of memory"),
     }
 }
 
+/// What is told of a request of a version that is not served.
+fn not_served_text(alloc: Global, api_key: i16, api_version: i16) -> Result<String, AllocError>
+    ensures { IfOk result (λ text. string_bytes text ≡ not_served_text api_key api_version) }
+{
+    let api = name_of(alloc, api_key)?;
+    format!(in alloc; "version {api_version} of {api} is not served")
+}
+
+/// What is told of a request to which there is no reply.
+fn unanswerable_text(alloc: Global, api_key: i16, api_version: i16) -> Result<String, AllocError>
+    ensures { IfOk result (λ text. string_bytes text ≡ unanswerable_text api_key api_version) }
+{
+    let api = name_of(alloc, api_key)?;
+    format!(in alloc;
+        "the body of {api} {api_version} does not match or names more than request_entries, or there was no room for its reply"
+    )
+}
+
+/// What is told of a request of a stranger.
+fn stranger_text(alloc: Global, api_key: i16, api_version: i16) -> Result<String, AllocError>
+    ensures { IfOk result (λ text. string_bytes text ≡ stranger_text api_key api_version) }
+{
+    let api = name_of(alloc, api_key)?;
+    format!(in alloc; "{api} {api_version} before a login")
+}
+
 /// The name of an API, or its key where it has none here.
-fn name_of(alloc: Global, api_key: i16) -> Result<String, AllocError> {
-    if let Ok(place) = usize::try_from(api_key)
-        && let Some(name) = NAMES.get(place)
-    {
-        return String::from_str(alloc, name);
+fn name_of(alloc: Global, api_key: i16) -> Result<String, AllocError>
+    ensures { IfOk result (λ text. string_bytes text ≡ api_text api_key) }
+{
+    match name_at(api_key) {
+        Some(name) => String::from_str(alloc, name),
+        None => format!(in alloc; "API {api_key}"),
     }
-    format!(in alloc; "API {api_key}")
+}
+
+/// The name of an API, where it has one here.
+fn name_at(api_key: i16) -> Option<&'static str>
+    ensures { option_map (λ name. name.now) result ≡ name_at api_key }
+{
+    let place = usize::try_from(api_key).ok()?;
+    NAMES.get(place).copied()
 }

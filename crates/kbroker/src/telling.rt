@@ -1,6 +1,6 @@
 //! What a journal is told of a broker.
 
-ghost use Rattle.std.specs.Prelude.{◌≡◌, ◌≤◌, ◌^◌};
+ghost use Rattle.std.specs.Prelude.{◌≡◌, ◌≤◌, ◌^◌, slice_get, unwrap_or};
 ghost use Rattle.kbroker.specs.Refusals.{refusals_at};
 ghost use Rattle.kbroker.specs.Unread.{unread_at};
 
@@ -23,7 +23,15 @@ pub struct CountsOf<'a, S: Store, L: PartitionLog + Drop>(
 );
 
 impl<'a, S: Store, L: PartitionLog + Drop> RefusalCounts for CountsOf<'a, S, L> {
+    ghost refused = { λ counts place. refusals_at place counts.0.now.state.tenants counts.0.now.counts };
+
+    ghost sockets = { λ counts place. unwrap_or (slice_get counts.1.now place) 0 };
+
     ghost unread = { λ counts place. unread_at place counts.2.now };
+
+    ghost unbound = { λ counts. counts.0.now.state.unbound_refusals };
+
+    ghost by_disk = { λ counts. (S.disk counts.0.now.store).failures };
 
     fn is_calm(&self) -> bool {
         self.0.is_calm()

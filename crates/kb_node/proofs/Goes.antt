@@ -14,7 +14,7 @@ use Rattle.kb_node.specs.Traffic.{Along, AreAbout, AreDone, Commit, Deed, Event,
 use Rattle.kb_node.specs.Carries.{Carries, unhanded_of, unwritten_of}
 use Rattle.kb_node.specs.Commits.{Host}
 use Rattle.kb_node.specs.Cores.{Core, Seen, core, cores, open_ones, seen}
-use Rattle.kb_node.specs.Moves.{Carry, Goes, HasOpened, IsJoined, IsMoved, IsRunOf, IsRunThrough, IsTurn, Leave, LeaveAt, Move, Open, Settle}
+use Rattle.kb_node.specs.Moves.{Carry, Goes, HasOpened, IsJoined, IsKept, IsMoved, IsRunOf, IsRunThrough, IsTurn, IsUnkept, Leave, LeaveAt, Move, Open, Settle}
 use Rattle.kb_node.proofs.Cores.{held_at, held_in, removed, set_at}
 use Rattle.kb_node.proofs.Carries.{writes}
 use Rattle.kb_node.proofs.Traffic.{along_then, all_then}
@@ -87,15 +87,15 @@ module _ {S T : Type 0} {disk : S → Disk} {contents remaining : T → Option (
 
   -- a connection opens, and could not be kept
   pub goes_opened : {from to : Seen S T} {n : ℕ} → from.host.tried < n → to.host.tried ≡ n → Happens disk (Opens n) from.host.broker to.host.broker
-      → to.sockets ≡ from.sockets → Goes disk contents remaining from to
-  goes_opened {from} {to} {n} rises is c sockets =
-      record { moves = Open n ∷ []; done = (to, record { rises = rises; tried = is; opens = c; sockets = inl sockets }, refl) }
+      → IsUnkept from to → Goes disk contents remaining from to
+  goes_opened {from} {to} {n} rises is c unkept =
+      record { moves = Open n ∷ []; done = (to, record { rises = rises; tried = is; opens = c; sockets = inl unkept }, refl) }
 
   -- or its socket joins the others
   pub goes_joined : {from to : Seen S T} (n : ℕ) (stream : T) → from.host.tried < n → to.host.tried ≡ n
-      → Happens disk (Opens n) from.host.broker to.host.broker → IsJoined stream n from.sockets to.sockets → Goes disk contents remaining from to
-  goes_joined {from} {to} n stream rises is c joined =
-      record { moves = Open n ∷ []; done = (to, record { rises = rises; tried = is; opens = c; sockets = inr (stream, joined) }, refl) }
+      → Happens disk (Opens n) from.host.broker to.host.broker → IsKept stream n from to → Goes disk contents remaining from to
+  goes_joined {from} {to} n stream rises is c kept =
+      record { moves = Open n ∷ []; done = (to, record { rises = rises; tried = is; opens = c; sockets = inr (stream, kept) }, refl) }
 
   -- the socket at a place wrote some of its output
   pub goes_written : (h : Host S) (v : Vec (Socket T) Global) (p : ℕ) (s t : Socket T) → p < vec_len v → s ≡ slice_index_or v.items p s

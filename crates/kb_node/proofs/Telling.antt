@@ -68,5 +68,13 @@ module _ {S T : Type 0} {disk : S → Disk} {contents remaining : T → Option (
     store = told.told.store;
   }
 
+  -- and no connection opens meanwhile
+  tried_along : (ns : List ℕ) (from to : Seen S T) → Along (HasTold disk contents remaining) ns from to → to.host.tried ≡ from.host.tried
+  tried_along [] from to h = ap (λ x. x.host.tried) h
+  tried_along (n ∷ ns) from to h = tried_along ns h.0 to h.2 ∙ h.1.carried.tried
+
+  pub telling_tried : {from to : Seen S T} → GoesTelling disk contents remaining from to → to.host.tried ≡ from.host.tried
+  telling_tried {from} {to} tells = tried_along tells.numbers from to tells.done
+
   pub goes_telling : {from to : Seen S T} → GoesTelling disk contents remaining from to → Goes disk contents remaining from to
   goes_telling {from} {to} h = record { moves = moves_by h.numbers; done = carried_by disk contents remaining h.numbers from to h.done }

@@ -15,3 +15,4 @@ pub mod PutBack
 pub mod Isolated
 pub mod Seats
 pub mod Many
+pub mod Ready

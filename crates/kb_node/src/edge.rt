@@ -14,6 +14,7 @@ ghost use Rattle.kb_node.specs.Waiting.{socket_at};
 
 mod beside;
 mod closing;
+mod hearing;
 mod rounds;
 mod serving;
 mod waiting;
@@ -436,30 +437,6 @@ impl<R: Net, S: Store, L: PartitionLog + Drop> Edge<R, S, L> {
         Ok(())
     }
 
-    /// Without a watch every socket may be ready.
-    fn hear_all(&mut self)
-        ensures { seen self.new.host self.new.sockets.items ≡ seen self.old.host self.old.sockets.items }
-    {
-        if self.watch.is_some() {
-            return;
-        }
-        self.accepts = Accepts::Ready;
-        for place in 0..self.sockets.len() {
-            self.hear_at(place);
-        }
-    }
-
-    /// The socket at a place may be ready.
-    fn hear_at(&mut self, place: usize)
-        ensures { seen self.new.host self.new.sockets.items ≡ seen self.old.host self.old.sockets.items }
-    {
-        let Some(socket) = self.sockets.get_mut(place) else {
-            return;
-        };
-        socket.hear_any();
-        self.queue(place);
-    }
-
     /// Accepts the sockets that wait, at most as many as there may be.
     #[tactic(auto, using(crate::proofs::Goes::goes_then, crate::proofs::Goes::goes_none))]
     fn accept(&mut self, alloc: Global, turn: &mut Turn)
@@ -581,41 +558,6 @@ impl<R: Net, S: Store, L: PartitionLog + Drop> Edge<R, S, L> {
             → option_map (λ s. s.now) result ≡ socket_of number self.now.sockets.items }
     {
         self.sockets.get(self.place_of(number)?)
-    }
-
-    /// The socket at a place can go on.
-    fn queue(&mut self, place: usize)
-        ensures seen { seen self.new.host self.new.sockets.items ≡ seen self.old.host self.old.sockets.items }
-        ensures lanes { self.new.lanes ≡ self.old.lanes }
-    {
-        let Some(socket) = self.sockets.get_mut(place) else {
-            return;
-        };
-        // there is room for each socket once
-        if !socket.is_queued && self.ready.push(socket.connection()).is_ok() {
-            socket.is_queued = true;
-        }
-    }
-
-    /// The connections that the broker told something can go on, whoever asked for it. One that has still to be written what it was
-    /// told before waits for that, and a failed login for its time: those are not gone through where nobody else has something to say.
-    fn hear_speakers(&mut self)
-        ensures { seen self.new.host self.new.sockets.items ≡ seen self.old.host self.old.sockets.items }
-    {
-        // each failed login that waits is one of them, since its connection is shut
-        if self.host.broker().speakers().len() == self.delays.len() {
-            return;
-        }
-        for at in 0..self.host.broker().speakers().len() {
-            if let Some(number) = self.host.broker().speakers().get(at)
-                && let Some(place) = self.place_of(*number)
-                && let Some(socket) = self.sockets.get(place)
-                && socket.unwritten() == 0
-                && socket.held.is_none()
-            {
-                self.queue(place);
-            }
-        }
     }
 }
 

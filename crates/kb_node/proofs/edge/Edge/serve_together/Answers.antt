@@ -6,10 +6,10 @@ use Rattle.kb_node.proofs.edge.Edge.serve_together.Goals as goal
 
 pub returns-in_err-commit-clause-goes : goal.returns-in_err-commit-clause-goes
 returns-in_err-commit-clause-goes g c =
-    goes_then c.hand_on.ensures (goes_then (goes_still c.hear_speakers.ensures) (goes_committed c.commit.ensures.tried c.commit.ensures.commits refl))
+    goes_then c.hand_on.ensures (goes_then (goes_still c.hear_speakers.ensures.seen) (goes_committed c.commit.ensures.tried c.commit.ensures.commits refl))
 
 pub returns-clause-goes : goal.returns-clause-goes
-returns-clause-goes g c = goes_then c.hand_on.ensures (goes_then (goes_still c.hear_speakers.ensures) (goes_then (goes_committed c.commit.ensures.tried c.commit.ensures.commits refl)
+returns-clause-goes g c = goes_then c.hand_on.ensures (goes_then (goes_still c.hear_speakers.ensures.seen) (goes_then (goes_committed c.commit.ensures.tried c.commit.ensures.commits refl)
     (goes_telling (telling_then c.tell.ensures.tells c.tell_asked.ensures.tells))))
 
 pub returns-clause-well : goal.returns-clause-well

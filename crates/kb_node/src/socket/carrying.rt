@@ -5,7 +5,7 @@ ghost use Rattle.std.specs.Io.KnownBytes.{Appends};
 ghost use Rattle.kb_isolation_spec.specs.Broker.{bound_to};
 ghost use Rattle.kb_isolation_spec.specs.Calls.{is_open, login_of, output_of};
 ghost use Rattle.kb_broker.specs.Places.{numbers};
-ghost use Rattle.kb_node.specs.Carries.{Carries, HasToldAll, Tells, TellsInTurn, unhanded_of, unwritten_of};
+ghost use Rattle.kb_node.specs.Carries.{Carries, HasHeard, HasToldAll, Tells, TellsInTurn, unhanded_of, unwritten_of};
 ghost use Rattle.kb_node.specs.Commits.{may_tell, tells_at_once};
 ghost use Rattle.kb_node.specs.News.{IsAdded};
 ghost use Rattle.kb_node.specs.Seats.{IsReseated, KeepsSeat};
@@ -63,8 +63,10 @@ impl<T: Read + Write + Drop> Socket<T> {
             (vec_len self.new.output - self.new.written) self.new.connection host.new.broker.state ≡ false) }
         // Then the broker has nothing more to say to it, but to a failed login before its time.
         ensures told { TellsInTurn self.old host.old.broker.state → result ≢ End → HasToldAll self.new host.new.broker.state }
+        // Whatever it had still to write before, what is left in the broker waits for what is unwritten, or for its time.
+        ensures heard { result ≢ End → HasHeard self.new host.new.broker.state }
     {
-        self.write_output(alloc, host, turn);
+        self.write_all(alloc, host, turn);
         if may_ask && self.can_ask(host.broker()) {
             self.ask(alloc, host, buffer, most, turn);
             if self.take_seat(host.broker(), shares, turn) {
@@ -137,6 +139,8 @@ impl<T: Read + Write + Drop> Socket<T> {
             (vec_len self.new.output - self.new.written) self.new.connection host.new.broker.state ≡ false }
         // Then the broker has nothing more to say to it, but to a failed login before its time.
         ensures told { TellsInTurn self.old host.old.broker.state → result ≢ End → HasToldAll self.new host.new.broker.state }
+        // Whatever it had still to write before, what is left in the broker waits for what is unwritten, or for its time.
+        ensures heard { result ≢ End → HasHeard self.new host.new.broker.state }
     {
         if self.unwritten() == 0 && !self.is_over {
             self.write_output(alloc, host, turn);
@@ -295,6 +299,31 @@ impl<T: Read + Write + Drop> Socket<T> {
         self.input = Input::new(alloc);
         host.disconnect(alloc, self.connection);
         turn.count_closed();
+    }
+
+    /// Writes what the socket takes now of what is left of the output, and then of what the connection has to say since.
+    fn write_all<S: Store, L: PartitionLog + Drop>(
+        &mut self,
+        alloc: Global,
+        host: &mut Committed<S, L>,
+        turn: &mut Turn,
+    )
+        requires not_ended { self.now.is_ended ≡ false }
+        requires may_tell { may_tell host.old.commits ≡ true }
+        ensures tells { Tells S.disk T.contents T.remaining self.old self.new host.old.broker host.new.broker }
+        ensures connection { self.new.connection ≡ self.old.connection }
+        ensures seat { KeepsSeat self.old self.new }
+        ensures tried { host.new.tried ≡ host.old.tried }
+        ensures commits { host.new.commits ≡ host.old.commits }
+        ensures ended { self.new.is_ended ≡ self.old.is_ended }
+        ensures numbers { numbers host.new.broker.state ≡ numbers host.old.broker.state }
+        ensures told { TellsInTurn self.old host.old.broker.state → HasToldAll self.new host.new.broker.state }
+        ensures heard { HasHeard self.new host.new.broker.state }
+    {
+        self.write_on(turn);
+        if self.unwritten() == 0 {
+            self.write_output(alloc, host, turn);
+        }
     }
 
     /// Writes what the socket takes now of the output. New output is taken only once the earlier one is written, and that of a failed login

@@ -1,6 +1,6 @@
 use Rattle.std.proofs.Common.{◌-◌, ◌∙◌, ap, inl, vec_len, ⊎_elim, arith}
-use Rattle.kb_node.proofs.ToldAll.{none_unwritten, over_ends, told_at, told_on}
-use Rattle.kb_node.specs.Carries.{HasToldAll}
+use Rattle.kb_node.proofs.ToldAll.{all_written, heard_all, heard_at, heard_later, heard_on, none_unwritten, over_ends, told_at, told_on}
+use Rattle.kb_node.specs.Carries.{HasHeard, HasToldAll}
 use Rattle.kb_node.proofs.Carries.{StaysTelling, stays_telling, telling_at, telling_on}
 use Rattle.kb_node.proofs.socket.Socket.tell.Goals as goal
 use Rattle.kb_node.proofs.socket.Socket.tell.Goals.{then-unwritten-eq0+then-not-self, else-unwritten-eq0, else-unwritten-eq0-via-then-unwritten-eq0+else-not-self, else-unwritten-eq0-via-else-unwritten-eq0}
@@ -30,3 +30,20 @@ returns-clause-told g c = λ turn. λ goes_on.
       ])
     ] in
     told_on c.if-unwritten-eq0.self f c.if-unwritten-eq0.host.broker.state c.finish.new.host.broker.state (ap (λ h. h.broker.state) rest.0) rest.1 first
+
+pub returns-clause-heard : goal.returns-clause-heard
+returns-clause-heard g c = λ goes_on.
+    let rest = c.finish.ensures.rest goes_on in let f = c.finish.new.self in let s = c.args.self.now in
+    let first : HasHeard c.if-unwritten-eq0.self c.if-unwritten-eq0.host.broker.state = elim c.if-unwritten-eq0.branch [
+      | then-unwritten-eq0+then-not-self w ↦ heard_at w.write_output.new.self c.if-unwritten-eq0.self w.write_output.new.host.broker.state
+          c.if-unwritten-eq0.host.broker.state w.self-is (ap (λ h. h.broker.state) w.host-is)
+          (heard_all w.write_output.new.self w.write_output.new.host.broker.state
+          (w.write_output.ensures.told (inl (all_written s (omega (arith, w.if-unwritten-eq0.true, c.unwritten.ensures))))))
+      | else-unwritten-eq0 w ↦ heard_at s c.if-unwritten-eq0.self c.args.host.now.broker.state c.if-unwritten-eq0.host.broker.state w.self-is (ap (λ h. h.broker.state) w.host-is) (elim w.else-unwritten-eq0.branch [
+        | else-unwritten-eq0-via-then-unwritten-eq0+else-not-self w' ↦ over_ends f.is_over f.is_half_closed f.may_answer (vec_len f.output - f.written) f.connection c.finish.new.host.broker.state
+            (ap (λ x. x.is_over) rest.1 ∙ ap (λ x. x.is_over) w.self-is ∙ w'.if-not-self.false) (c.finish.ensures.stays goes_on)
+        | else-unwritten-eq0-via-else-unwritten-eq0 w' ↦ heard_later s c.args.host.now.broker.state
+            (λ none. absurd (omega (arith, w'.if-unwritten-eq0.false, c.unwritten.ensures, none)))
+      ])
+    ] in
+    heard_on c.if-unwritten-eq0.self f c.if-unwritten-eq0.host.broker.state c.finish.new.host.broker.state (ap (λ h. h.broker.state) rest.0) rest.1 first

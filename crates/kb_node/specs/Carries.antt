@@ -71,3 +71,8 @@ HasToldAll s b = (output_of s.connection b ≡ []) ⊎ ((unwritten_of s ≡ []) 
 -- waits until it may be answered.
 abbrev pub HasHeard : {T : Type 0} → Socket T → BrokerState → Type 0
 HasHeard s b = (output_of s.connection b ≡ []) ⊎ ((unwritten_of s ≢ []) ⊎ (is_held s.may_answer s.connection b ≡ true))
+
+-- What is so of a socket that goes on behind a call. Where all was written before that was said, or nothing was left to say, all is told.
+pub record HasBeenTold {T : Type 0} (old new : Socket T) (from to : BrokerState) : Type 0 where
+  pub all : TellsInTurn old from → HasToldAll new to
+  pub heard : HasHeard new to

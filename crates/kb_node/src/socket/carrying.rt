@@ -5,7 +5,7 @@ ghost use Rattle.std.specs.Io.KnownBytes.{Appends};
 ghost use Rattle.kb_isolation_spec.specs.Broker.{bound_to};
 ghost use Rattle.kb_isolation_spec.specs.Calls.{is_open, login_of, output_of};
 ghost use Rattle.kb_broker.specs.Places.{numbers};
-ghost use Rattle.kb_node.specs.Carries.{Carries, HasHeard, HasToldAll, Tells, TellsInTurn, unhanded_of, unwritten_of};
+ghost use Rattle.kb_node.specs.Carries.{Carries, HasBeenTold, HasToldAll, Tells, TellsInTurn, unhanded_of, unwritten_of};
 ghost use Rattle.kb_node.specs.Commits.{may_tell, tells_at_once};
 ghost use Rattle.kb_node.specs.News.{IsAdded};
 ghost use Rattle.kb_node.specs.Seats.{IsReseated, KeepsSeat};
@@ -61,10 +61,8 @@ impl<T: Read + Write + Drop> Socket<T> {
         ensures stays { result ≢ End → (numbers host.new.broker.state ≡ numbers host.old.broker.state)
             × (is_done self.new.is_over self.new.is_half_closed self.new.may_answer
             (vec_len self.new.output - self.new.written) self.new.connection host.new.broker.state ≡ false) }
-        // Then the broker has nothing more to say to it, but to a failed login before its time.
-        ensures told { TellsInTurn self.old host.old.broker.state → result ≢ End → HasToldAll self.new host.new.broker.state }
-        // Whatever it had still to write before, what is left in the broker waits for what is unwritten, or for its time.
-        ensures heard { result ≢ End → HasHeard self.new host.new.broker.state }
+        // Then the broker has nothing more to say to it, but to a failed login before its time, or behind what is still to be written.
+        ensures told { result ≢ End → HasBeenTold self.old self.new host.old.broker.state host.new.broker.state }
     {
         self.write_all(alloc, host, turn);
         if may_ask && self.can_ask(host.broker()) {
@@ -137,10 +135,8 @@ impl<T: Read + Write + Drop> Socket<T> {
         ensures open { result ≢ End → numbers host.new.broker.state ≡ numbers host.old.broker.state }
         ensures stays { result ≢ End → is_done self.new.is_over self.new.is_half_closed self.new.may_answer
             (vec_len self.new.output - self.new.written) self.new.connection host.new.broker.state ≡ false }
-        // Then the broker has nothing more to say to it, but to a failed login before its time.
-        ensures told { TellsInTurn self.old host.old.broker.state → result ≢ End → HasToldAll self.new host.new.broker.state }
-        // Whatever it had still to write before, what is left in the broker waits for what is unwritten, or for its time.
-        ensures heard { result ≢ End → HasHeard self.new host.new.broker.state }
+        // Then the broker has nothing more to say to it, but to a failed login before its time, or behind what is still to be written.
+        ensures told { result ≢ End → HasBeenTold self.old self.new host.old.broker.state host.new.broker.state }
     {
         if self.unwritten() == 0 && !self.is_over {
             self.write_output(alloc, host, turn);
@@ -317,8 +313,7 @@ impl<T: Read + Write + Drop> Socket<T> {
         ensures commits { host.new.commits ≡ host.old.commits }
         ensures ended { self.new.is_ended ≡ self.old.is_ended }
         ensures numbers { numbers host.new.broker.state ≡ numbers host.old.broker.state }
-        ensures told { TellsInTurn self.old host.old.broker.state → HasToldAll self.new host.new.broker.state }
-        ensures heard { HasHeard self.new host.new.broker.state }
+        ensures told { HasBeenTold self.old self.new host.old.broker.state host.new.broker.state }
     {
         self.write_on(turn);
         if self.unwritten() == 0 {

@@ -64,33 +64,33 @@ returns-clause-unasked g c = λ off.
     telling_on disk out in_ c.args.self.now c.if-may_ask.self _ _ _ _ second c.finish.ensures.tells
 
 pub returns-clause-told : goal.returns-clause-told
-returns-clause-told g c = λ turn. λ goes_on.
-    let first : HasToldAll c.write_all.new.self c.write_all.new.host.broker.state = c.write_all.ensures.told turn in
-    let t = c.write_all.new.self in
-    let rest = c.finish.ensures.rest goes_on in let f = c.finish.new.self in
-    let second : HasToldAll c.if-may_ask.self c.if-may_ask.host.broker.state = elim c.if-may_ask.branch [
-      | then-may_ask+then-can_ask+then-take_seat w ↦ told_at w.write_output.new.self c.if-may_ask.self
-          w.write_output.new.host.broker.state c.if-may_ask.host.broker.state w.self-is (ap (λ h. h.broker.state) w.host-is)
-          (w.write_output.ensures.told (inl (ap unwritten_of w.take_seat.ensures.rest ∙ w.ask.ensures.unwritten
-          ∙ asked_written c.write_all.new.self c.write_all.new.host.broker.state (ap (λ b. can_ask t.is_over (vec_len t.output - t.written) t.connection b.state) (sym w.broker.ensures) ∙ sym w.can_ask.ensures ∙ w.if-can_ask.true))))
-      | then-may_ask+then-can_ask+else-take_seat w ↦ over_ends f.is_over f.is_half_closed f.may_answer (vec_len f.output - f.written) f.connection c.finish.new.host.broker.state
-          (ap (λ s. s.is_over) rest.1 ∙ ap (λ s. s.is_over) w.self-is ∙ w.take_seat.ensures.stays.1 w.if-take_seat.false) (c.finish.ensures.stays goes_on)
-      | else-may_ask w ↦ told_at t c.if-may_ask.self c.write_all.new.host.broker.state c.if-may_ask.host.broker.state w.self-is (ap (λ h. h.broker.state) w.host-is) first
-    ] in
-    told_on c.if-may_ask.self f c.if-may_ask.host.broker.state c.finish.new.host.broker.state (ap (λ h. h.broker.state) rest.0) rest.1 second
-
-pub returns-clause-heard : goal.returns-clause-heard
-returns-clause-heard g c = λ goes_on.
-    let t = c.write_all.new.self in
-    let rest = c.finish.ensures.rest goes_on in let f = c.finish.new.self in
-    let second : HasHeard c.if-may_ask.self c.if-may_ask.host.broker.state = elim c.if-may_ask.branch [
-      | then-may_ask+then-can_ask+then-take_seat w ↦ heard_at w.write_output.new.self c.if-may_ask.self
-          w.write_output.new.host.broker.state c.if-may_ask.host.broker.state w.self-is (ap (λ h. h.broker.state) w.host-is)
-          (heard_all w.write_output.new.self w.write_output.new.host.broker.state
-          (w.write_output.ensures.told (inl (ap unwritten_of w.take_seat.ensures.rest ∙ w.ask.ensures.unwritten
-          ∙ asked_written t c.write_all.new.host.broker.state (ap (λ b. can_ask t.is_over (vec_len t.output - t.written) t.connection b.state) (sym w.broker.ensures) ∙ sym w.can_ask.ensures ∙ w.if-can_ask.true)))))
-      | then-may_ask+then-can_ask+else-take_seat w ↦ over_ends f.is_over f.is_half_closed f.may_answer (vec_len f.output - f.written) f.connection c.finish.new.host.broker.state
-          (ap (λ s. s.is_over) rest.1 ∙ ap (λ s. s.is_over) w.self-is ∙ w.take_seat.ensures.stays.1 w.if-take_seat.false) (c.finish.ensures.stays goes_on)
-      | else-may_ask w ↦ heard_at t c.if-may_ask.self c.write_all.new.host.broker.state c.if-may_ask.host.broker.state w.self-is (ap (λ h. h.broker.state) w.host-is) c.write_all.ensures.heard
-    ] in
-    heard_on c.if-may_ask.self f c.if-may_ask.host.broker.state c.finish.new.host.broker.state (ap (λ h. h.broker.state) rest.0) rest.1 second
+returns-clause-told g c = λ goes_on. record {
+  all = λ turn.
+        let first : HasToldAll c.write_all.new.self c.write_all.new.host.broker.state = c.write_all.ensures.told.all turn in
+        let t = c.write_all.new.self in
+        let rest = c.finish.ensures.rest goes_on in let f = c.finish.new.self in
+        let second : HasToldAll c.if-may_ask.self c.if-may_ask.host.broker.state = elim c.if-may_ask.branch [
+          | then-may_ask+then-can_ask+then-take_seat w ↦ told_at w.write_output.new.self c.if-may_ask.self
+              w.write_output.new.host.broker.state c.if-may_ask.host.broker.state w.self-is (ap (λ h. h.broker.state) w.host-is)
+              (w.write_output.ensures.told (inl (ap unwritten_of w.take_seat.ensures.rest ∙ w.ask.ensures.unwritten
+              ∙ asked_written c.write_all.new.self c.write_all.new.host.broker.state (ap (λ b. can_ask t.is_over (vec_len t.output - t.written) t.connection b.state) (sym w.broker.ensures) ∙ sym w.can_ask.ensures ∙ w.if-can_ask.true))))
+          | then-may_ask+then-can_ask+else-take_seat w ↦ over_ends f.is_over f.is_half_closed f.may_answer (vec_len f.output - f.written) f.connection c.finish.new.host.broker.state
+              (ap (λ s. s.is_over) rest.1 ∙ ap (λ s. s.is_over) w.self-is ∙ w.take_seat.ensures.stays.1 w.if-take_seat.false) (c.finish.ensures.stays goes_on)
+          | else-may_ask w ↦ told_at t c.if-may_ask.self c.write_all.new.host.broker.state c.if-may_ask.host.broker.state w.self-is (ap (λ h. h.broker.state) w.host-is) first
+        ] in
+        told_on c.if-may_ask.self f c.if-may_ask.host.broker.state c.finish.new.host.broker.state (ap (λ h. h.broker.state) rest.0) rest.1 second;
+  heard =
+        let t = c.write_all.new.self in
+        let rest = c.finish.ensures.rest goes_on in let f = c.finish.new.self in
+        let second : HasHeard c.if-may_ask.self c.if-may_ask.host.broker.state = elim c.if-may_ask.branch [
+          | then-may_ask+then-can_ask+then-take_seat w ↦ heard_at w.write_output.new.self c.if-may_ask.self
+              w.write_output.new.host.broker.state c.if-may_ask.host.broker.state w.self-is (ap (λ h. h.broker.state) w.host-is)
+              (heard_all w.write_output.new.self w.write_output.new.host.broker.state
+              (w.write_output.ensures.told (inl (ap unwritten_of w.take_seat.ensures.rest ∙ w.ask.ensures.unwritten
+              ∙ asked_written t c.write_all.new.host.broker.state (ap (λ b. can_ask t.is_over (vec_len t.output - t.written) t.connection b.state) (sym w.broker.ensures) ∙ sym w.can_ask.ensures ∙ w.if-can_ask.true)))))
+          | then-may_ask+then-can_ask+else-take_seat w ↦ over_ends f.is_over f.is_half_closed f.may_answer (vec_len f.output - f.written) f.connection c.finish.new.host.broker.state
+              (ap (λ s. s.is_over) rest.1 ∙ ap (λ s. s.is_over) w.self-is ∙ w.take_seat.ensures.stays.1 w.if-take_seat.false) (c.finish.ensures.stays goes_on)
+          | else-may_ask w ↦ heard_at t c.if-may_ask.self c.write_all.new.host.broker.state c.if-may_ask.host.broker.state w.self-is (ap (λ h. h.broker.state) w.host-is) c.write_all.ensures.told.heard
+        ] in
+        heard_on c.if-may_ask.self f c.if-may_ask.host.broker.state c.finish.new.host.broker.state (ap (λ h. h.broker.state) rest.0) rest.1 second;
+}

@@ -15,12 +15,9 @@ returns-then-unwritten-eq0-clause-tells g c =
     telling_on disk out in_ c.args.self.now c.write_on.new.self _ c.args.host.now.broker c.args.host.now.broker _ first c.write_output.ensures.tells
 
 pub returns-then-unwritten-eq0-clause-told : goal.returns-then-unwritten-eq0-clause-told
-returns-then-unwritten-eq0-clause-told g c = λ turn.
-    c.write_output.ensures.told (inl (all_written c.write_on.new.self (omega (arith, c.if-unwritten-eq0.true, c.unwritten.ensures))))
-
-pub returns-then-unwritten-eq0-clause-heard : goal.returns-then-unwritten-eq0-clause-heard
-returns-then-unwritten-eq0-clause-heard g c = heard_all c.write_output.new.self c.write_output.new.host.broker.state
-    (c.write_output.ensures.told (inl (all_written c.write_on.new.self (omega (arith, c.if-unwritten-eq0.true, c.unwritten.ensures)))))
+returns-then-unwritten-eq0-clause-told g c =
+    let told = c.write_output.ensures.told (inl (all_written c.write_on.new.self (omega (arith, c.if-unwritten-eq0.true, c.unwritten.ensures)))) in
+    record { all = λ turn. told; heard = heard_all c.write_output.new.self c.write_output.new.host.broker.state told }
 
 pub returns-else-unwritten-eq0-clause-tells : goal.returns-else-unwritten-eq0-clause-tells
 returns-else-unwritten-eq0-clause-tells g c =
@@ -29,12 +26,12 @@ returns-else-unwritten-eq0-clause-tells g c =
     c.write_on.ensures.unhanded c.write_on.ensures.over
 
 pub returns-else-unwritten-eq0-clause-told : goal.returns-else-unwritten-eq0-clause-told
-returns-else-unwritten-eq0-clause-told g c = λ turn.
+returns-else-unwritten-eq0-clause-told g c =
     let put = c.write_on.ensures.written in
-    told_kept c.args.self.now c.write_on.new.self c.args.host.now.broker.state put.0 c.write_on.ensures.connection c.write_on.ensures.answer put.2
-    (λ all. absurd (omega (arith, c.if-unwritten-eq0.false, c.unwritten.ensures, none_unwritten c.write_on.new.self (none_after put.0 _ (sym all ∙ put.2)))))
-    turn
-
-pub returns-else-unwritten-eq0-clause-heard : goal.returns-else-unwritten-eq0-clause-heard
-returns-else-unwritten-eq0-clause-heard g c = heard_later c.write_on.new.self c.args.host.now.broker.state
-    (λ none. absurd (omega (arith, c.if-unwritten-eq0.false, c.unwritten.ensures, none)))
+    record {
+      all = λ turn. told_kept c.args.self.now c.write_on.new.self c.args.host.now.broker.state put.0 c.write_on.ensures.connection c.write_on.ensures.answer put.2
+          (λ all. absurd (omega (arith, c.if-unwritten-eq0.false, c.unwritten.ensures, none_unwritten c.write_on.new.self (none_after put.0 _ (sym all ∙ put.2)))))
+          turn;
+      heard = heard_later c.write_on.new.self c.args.host.now.broker.state
+          (λ none. absurd (omega (arith, c.if-unwritten-eq0.false, c.unwritten.ensures, none)));
+    }

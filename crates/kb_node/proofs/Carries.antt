@@ -73,6 +73,10 @@ pub on_ok : {A E : Type 0} {P : Type 0} (r : Result A E) → OnOk r P → is_err
 on_ok (Ok x) h is = h
 on_ok (Err e) h is = absurd (let no : true ≡ false = is in cc)
 
+pub on_err : {A E : Type 0} {P : Type 0} (r : Result A E) → OnErr r P → is_err r ≡ true → P
+on_err (Err e) h is = h
+on_err (Ok x) h is = absurd (let no : false ≡ true = is in cc)
+
 module _ {S T : Type 0} (disk : S → Disk) (contents remaining : T → Option (List ℕ)) where
   -- a piece was read, and it was handed on or kept
   pub reads : (old mid new : Socket T) (from to : OnStore S) (piece : List ℕ) → Consumes (remaining old.stream) (remaining mid.stream) piece

@@ -73,6 +73,14 @@ module _ {S T : Type 0} {disk : S → Disk} {known : Deed → S → Type 0} {con
     store = told.told.store;
   }
 
+  -- and no connection opens meanwhile
+  tried_along : (ns : List ℕ) (from to : Seen S T) → Along (HasTold disk known contents remaining) ns from to → to.host.tried ≡ from.host.tried
+  tried_along [] from to h = ap (λ x. x.host.tried) h
+  tried_along (n ∷ ns) from to h = tried_along ns h.0 to h.2 ∙ h.1.carried.tried
+
+  pub telling_tried : {from to : Seen S T} → GoesTellingWith disk known contents remaining from to → to.host.tried ≡ from.host.tried
+  telling_tried {from} {to} tells = tried_along tells.numbers from to tells.done
+
   pub goes_telling : {from to : Seen S T} → GoesTellingWith disk known contents remaining from to → GoesWith disk known contents remaining from to
   goes_telling {from} {to} h = record { moves = moves_by h.numbers; done = carried_by disk known contents remaining h.numbers from to h.done }
 

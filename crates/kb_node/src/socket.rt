@@ -5,6 +5,7 @@ ghost use Rattle.std.specs.Prelude.{None, Some, IfSome};
 ghost use Rattle.std.specs.BTreeMap.{insert_entry};
 ghost use Rattle.std.specs.Ordering.{nat_cmp};
 ghost use Rattle.kb_isolation_spec.specs.Broker.{bound_to};
+ghost use Rattle.kb_node.specs.Ready.{can_hear};
 ghost use Rattle.kb_node.specs.Requests.{awaited};
 ghost use Rattle.kb_node.specs.Sockets.{can_ask, is_denial, is_done, is_held};
 ghost use Rattle.kb_node.specs.SocketShares.{may_bind, without};
@@ -248,6 +249,13 @@ impl<T: Read + Write + Drop> Socket<T> {
         ensures { result ≡ vec_len self.now.output - self.now.written }
     {
         self.output.len() - self.written
+    }
+
+    /// Whether all that was said to it before is written, and no failed login on it waits.
+    pub fn can_hear(&self) -> bool
+        ensures { result ≡ can_hear self.now }
+    {
+        self.unwritten() == 0 && self.held.is_none()
     }
 
     /// A read may find something.

@@ -8,26 +8,26 @@ use Rattle.kb_isolation_spec.specs.Broker.{Rising}
 use Rattle.kb_node.specs.Cores.{Core, Seen}
 use Rattle.kb_node.specs.Got.{AreIsolated, HasGot, taken_of}
 use Rattle.kb_node.specs.Moves.{IsTurn}
-use Rattle.kb_node.specs.Streams.{AreCarried, AreSent, AreServed, IsAlone, IsFront, IsSent, bytes_of, core_of, unwritten_in}
+use Rattle.kb_node.specs.Streams.{AreCarried, AreSent, AreClientsServed, IsAlone, IsInFront, IsSent, bytes_got, core_of, unwritten_in}
 use Rattle.kb_node.specs.Traffic.{Along, Deed, written_by}
 use Rattle.kb_node.proofs.Isolated.{isolated}
 use Rattle.kb_node.proofs.Numbers.{nobody_in_order}
 use Rattle.kb_node.proofs.Streams.{carried}
 
 -- what was taken is in front of what the connection got
-got_front : (n : ℕ) (bytes : List ℕ) (o : Option Session) (got : List Sent) → HasGot n bytes o got → IsFront bytes (bytes_of got)
+got_front : (n : ℕ) (bytes : List ℕ) (o : Option Session) (got : List Sent) → HasGot n bytes o got → IsInFront bytes (bytes_got got)
 got_front n bytes None got h = ⊎_elim
-    (λ none. ([], ap bytes_of none.1 ∙ sym (append-nil bytes ∙ none.0)))
-    (λ last. (last.1, ap bytes_of last.2 ∙ append-nil last.0.bytes ∙ last.4))
+    (λ none. ([], ap bytes_got none.1 ∙ sym (append-nil bytes ∙ none.0)))
+    (λ last. (last.1, ap bytes_got last.2 ∙ append-nil last.0.bytes ∙ last.4))
     h
-got_front n bytes (Some s) got h = (s.output, ap bytes_of h ∙ append-nil (bytes ++ s.output))
+got_front n bytes (Some s) got h = (s.output, ap bytes_got h ∙ append-nil (bytes ++ s.output))
 
 -- a front of a front
-front_then : (first mid all : List ℕ) → IsFront first mid → IsFront mid all → IsFront first all
+front_then : (first mid all : List ℕ) → IsInFront first mid → IsInFront mid all → IsInFront first all
 front_then first mid all one two = (one.0 ++ two.0, two.1 ∙ ap (λ x. x ++ two.0) one.1 ∙ append_assoc first one.0 two.0)
 
 module _ {S T : Type 0} (contents remaining : T → Option (List ℕ)) (deeds : List Deed) (from to : Seen S T) where
-  in_front : (n : ℕ) (all : List ℕ) → from.sockets ≡ [] → IsFront (taken_of n deeds) all → IsSent contents remaining n deeds from to all
+  in_front : (n : ℕ) (all : List ℕ) → from.sockets ≡ [] → IsInFront (taken_of n deeds) all → IsSent contents remaining n deeds from to all
   in_front n all none front = λ c.
       let before : unwritten_in (core_of n from.sockets) ≡ [] = ap (λ (cs : List (Core T)). unwritten_in (core_of n cs)) none in
       front_then (flat_map written_by c.uses) (taken_of n deeds) all (c.writes.0, ap (λ x. x ++ taken_of n deeds) (sym before) ∙ c.writes.1) front
@@ -41,7 +41,7 @@ module _ {S T : Type 0} (contents remaining : T → Option (List ℕ)) (deeds : 
 
 -- turns from where nobody is connected
 pub served : {S T : Type 0} {disk : S → Disk} {known : Deed → S → Type 0} {contents remaining : T → Option (List ℕ)} (nows : List ℕ) (from to : Seen S T)
-    → Along (IsTurn disk known contents remaining) nows from to → IsAlone from → AreServed disk known contents remaining nows from to
+    → Along (IsTurn disk known contents remaining) nows from to → IsAlone from → AreClientsServed disk known contents remaining nows from to
 served {S} {T} {disk} {known} {contents} {remaining} nows from to turns alone =
     let all : AreCarried disk known contents remaining nows from to = carried nows from to turns (nobody_in_order from alone.sockets) in
     let low : 0 ≤ from.host.broker.state.last = omega arith in

@@ -68,9 +68,9 @@ abbrev pub EndsWith : {T : Type 0} → T → ℕ → ℕ → Option (Core T) →
 EndsWith stream n tried None = n ≤ tried
 EndsWith stream n tried (Some c) = c.stream ≡ stream
 
--- A socket carried a connection, by one stream. What was written to that is what was unwritten, and then what was taken of the connection, in
--- order. What was handed on as the connection's bytes is what was kept, and then what was read of the stream, in order. Nothing is lost but at
--- the end, and what was read but for want of memory. The greatest numbers that were tried before and after are given.
+-- A socket carried a connection, by one stream. What was written to that is what was unwritten, and then what was taken of the connection,
+-- in order. What was handed on as the connection's bytes is what was kept, and then what was read of the stream, in order. Nothing is lost
+-- but at the end, and what was read but for want of memory. The greatest numbers that were tried before and after are given.
 pub record IsCarried {T : Type 0} (contents remaining : T → Option (List ℕ)) (n : ℕ) (deeds : List Deed) (before after : ℕ)
     (old new : Option (Core T)) : Type 0 where
   pub first : T
@@ -111,18 +111,18 @@ pub record AreCarried {S T : Type 0} (disk : S → Disk) (known : Deed → S →
 -- 4. What is sent
 
 -- the first bytes are in front of all
-abbrev pub IsFront : List ℕ → List ℕ → Type 0
-IsFront first all = (rest : List ℕ) × (all ≡ first ++ rest)
+abbrev pub IsInFront : List ℕ → List ℕ → Type 0
+IsInFront first all = (rest : List ℕ) × (all ≡ first ++ rest)
 
 -- the bytes that connections got
-abbrev pub bytes_of : List Sent → List ℕ
-bytes_of got = flat_map (λ s. s.bytes) got
+abbrev pub bytes_got : List Sent → List ℕ
+bytes_got got = flat_map (λ s. s.bytes) got
 
 -- What was written to the stream of a connection, if a socket carried it, is in front of those bytes.
 abbrev pub IsSent : {S T : Type 0} → (T → Option (List ℕ)) → (T → Option (List ℕ)) → ℕ → List Deed → Seen S T → Seen S T → List ℕ → Type 0
 IsSent contents remaining n deeds from to all =
     (c : IsCarried contents remaining n deeds from.host.tried to.host.tried (core_of n from.sockets) (core_of n to.sockets))
-    → IsFront (flat_map written_by c.uses) all
+    → IsInFront (flat_map written_by c.uses) all
 
 -- What clients are sent, where tenants are kept apart.
 pub record AreSent {S T : Type 0} (contents remaining : T → Option (List ℕ)) (deeds : List Deed) (from to : Seen S T) : Type 0 where
@@ -130,12 +130,12 @@ pub record AreSent {S T : Type 0} (contents remaining : T → Option (List ℕ))
   -- refused to the tenant or to a connection that was not bound.
   pub owned : (t : ℕ) → IsCalmFor t from.host.broker.state to.host.broker.state → (n : ℕ)
       → owned_by t (events_of deeds) from.host.broker.state n ≡ true
-      → IsSent contents remaining n deeds from to (bytes_of (those_sent (only n) (alone t (events_of deeds) from.host.broker.state)))
+      → IsSent contents remaining n deeds from to (bytes_got (those_sent (only n) (alone t (events_of deeds) from.host.broker.state)))
   -- One without owner is sent what a machine with nothing in it but that connection writes, unless something was refused to one that was not
   -- bound.
   pub unowned : IsSound from.host.broker.state → (n : ℕ) → IsUnowned n (events_of deeds) from.host.broker.state
       → IsCalm from.host.broker.state.unbound_refusals to.host.broker.state.unbound_refusals
-      → IsSent contents remaining n deeds from to (bytes_of (those_sent (only n) (alone_unowned n (events_of deeds) from.host.broker.state)))
+      → IsSent contents remaining n deeds from to (bytes_got (those_sent (only n) (alone_unowned n (events_of deeds) from.host.broker.state)))
 
 -- Nobody is connected, with a socket or without.
 pub record IsAlone {S T : Type 0} (x : Seen S T) : Type 0 where
@@ -143,9 +143,9 @@ pub record IsAlone {S T : Type 0} (x : Seen S T) : Type 0 where
   pub lines : x.host.broker.state.lines ≡ []
   pub tried : x.host.broker.state.last ≤ x.host.tried
 
--- Clients were served in turns at those moments: each connection was carried by one socket, or by none. Where the store is honest to the end,
--- they were sent what the machines write.
-pub record AreServed {S T : Type 0} (disk : S → Disk) (known : Deed → S → Type 0) (contents remaining : T → Option (List ℕ))
+-- Clients were served in turns at those moments: each connection was carried by one socket, or by none. Where the store is honest to the
+-- end, they were sent what the machines write.
+pub record AreClientsServed {S T : Type 0} (disk : S → Disk) (known : Deed → S → Type 0) (contents remaining : T → Option (List ℕ))
     (nows : List ℕ) (from to : Seen S T) : Type 0 where
   pub carried : AreCarried disk known contents remaining nows from to
   pub sent : is_honest disk to.host.broker → AreSent contents remaining carried.run.deeds from to

@@ -12,7 +12,7 @@ use Rattle.kb_node.specs.Cores.{Seen}
 use Rattle.kb_node.specs.Got.{AreIsolated}
 use Rattle.kb_node.specs.Known.{lasting}
 use Rattle.kb_node.specs.Moves.{IsRunThrough, IsTurn}
-use Rattle.kb_node.specs.Streams.{AreServed, IsAlone}
+use Rattle.kb_node.specs.Streams.{AreClientsServed, IsAlone}
 use Rattle.kb_node.specs.Traffic.{Along, AreDone, Deed, events_of, moments_of}
 
 -- the clock after readings
@@ -26,13 +26,14 @@ ticks clock [] = []
 ticks clock (r ∷ rs) = (clock_after clock r).time / 2000 ∷ ticks (clock_after clock r) rs
 
 -- The clock was read, and at each reading there was one turn, of the moment that the clock then gave. All of them together are one run of
--- the broker, with those moments. That is known of the store at each deed. Where nobody was connected before, its clients were served in it.
+-- the broker, with those moments. That is known of the store at each deed. Where nobody was connected before, its clients were served in
+-- it.
 pub record AreTurned {S T : Type 0} (disk : S → Disk) (known : Deed → S → Type 0) (contents remaining : T → Option (List ℕ))
     (readings : List Reading) (start end : GuardedClock) (from to : Seen S T) : Type 0 where
   pub clock : end ≡ clock_behind start readings
   pub turns : Along (IsTurn disk known contents remaining) (ticks start readings) from to
   pub run : IsRunThrough disk known (ticks start readings) from.host to.host
-  pub clients : IsAlone from → AreServed disk known contents remaining (ticks start readings) from to
+  pub clients : IsAlone from → AreClientsServed disk known contents remaining (ticks start readings) from to
 
 -- A broker was served from then on: what was done to it is a run, event by event, with takes of output and commits between. Its moments are
 -- those of a clock. Whenever output was taken where replies wait for a commit, and behind each commit, all that was done before lasted. A

@@ -1,9 +1,12 @@
 -- Which sockets can go on, and who comes behind them.
-use Rattle.std.specs.Prelude.{◌≡◌, ◌≤◌, ◌⊎◌, ◌-◌, ◌&&◌, ◌||◌, ◌++◌, min, ◌∷◌, [], ℕ, List, Bool, true, false, not, nat_eq, is_none, vec_len, slice_get, slice_set, Option, Some, None}
+use Rattle.std.specs.Prelude.{◌≡◌, ◌≤◌, ◌<◌, ◌⊎◌, ⊤, ◌-◌, ◌&&◌, ◌||◌, ◌++◌, min, ◌∷◌, [], ℕ, List, Bool, true, false, not, nat_eq, is_none, vec_len, slice_get, slice_set, Option, Some, None}
+use Rattle.std.specs.List.{AllByRecursion}
 use Rattle.std.specs.Vec.{vec_capacity}
 use Rattle.std.specs.declared.alloc.Global.{Global}
 use Rattle.std.specs.declared.vec.Vec.{Vec}
 use Rattle.kb_shares.specs.Shares.{Pool}
+use Rattle.kb_isolation_spec.specs.Broker.{BrokerState}
+use Rattle.kb_broker.specs.Speakers.{speakers}
 use Rattle.kb_node.specs.declared.lanes.Lanes.{Lanes}
 use Rattle.kb_node.specs.declared.socket.Socket.{Socket}
 use Rattle.kb_node.specs.Numbers.{socket_of}
@@ -21,20 +24,20 @@ pub record Ready (T : Type 0) : Type 0 where
 abbrev pub ready_of : {T : Type 0} → Vec ℕ Global → List (Socket T) → Ready T
 ready_of numbers sockets = record { numbers = numbers; sockets = sockets }
 
--- A socket comes behind those that can go on. It is noted on it that its turn is to come, and the other sockets stay.
+-- A socket comes behind those that can go on, as there is room. It is noted on it that its turn is to come, and the other sockets stay.
 pub record ComesBehind {T : Type 0} (s : Socket T) (old new : Ready T) : Type 0 where
   pub place : ℕ
   pub there : slice_get old.sockets place ≡ Some s
+  pub room : vec_len old.numbers < vec_capacity old.numbers
   pub behind : new.numbers.items ≡ old.numbers.items ++ s.connection ∷ []
   pub noted : new.sockets ≡ slice_set old.sockets place (record s { is_queued = true })
 
--- The list was full, and there was no memory for one more. All stays.
+-- the list of those that can go on is full, and all stays
 pub record IsFull {T : Type 0} (old new : Ready T) : Type 0 where
   pub full : vec_capacity old.numbers ≤ vec_len old.numbers
-  pub numbers : new.numbers.items ≡ old.numbers.items
-  pub sockets : new.sockets ≡ old.sockets
+  pub same : new ≡ old
 
--- a socket comes behind them where that is to be, unless there is no memory for it, and else all stays
+-- a socket comes behind them where that is to be, unless the list is full, and else all stays
 abbrev pub IsQueued : {T : Type 0} → Bool → Socket T → Ready T → Ready T → Type 0
 IsQueued true s old new = ComesBehind s old new ⊎ IsFull old new
 IsQueued false s old new = new ≡ old
@@ -52,6 +55,15 @@ IsHeardAt (Some s) old new = IsQueued (can_hear s && not s.is_queued) s old new
 -- The broker has something to say to a connection. Its socket can go on from now on, if it can hear that, and its turn was not to come yet.
 abbrev pub IsHeard : {T : Type 0} → ℕ → Ready T → Ready T → Type 0
 IsHeard n old new = IsHeardAt (socket_of n old.sockets) old new
+
+-- it cannot hear anything now, or its turn is to come
+abbrev pub IsCalled : {T : Type 0} → Option (Socket T) → Type 0
+IsCalled None = ⊤
+IsCalled (Some s) = can_hear s ≡ true → s.is_queued ≡ true
+
+-- so it is of each connection that the broker has something to say to
+abbrev pub AreCalled : {T : Type 0} → BrokerState → List (Socket T) → Type 0
+AreCalled b sockets = AllByRecursion (λ n. IsCalled (socket_of n sockets)) (speakers b.lines)
 
 -- 3. Who stands in line
 

@@ -1,13 +1,16 @@
 //! A broker on a network. A turn waits for no peer.
 
 ghost use Rattle.std.specs.Prelude.{◌≡◌, ◌≤◌, ◌<◌, ◌⊎◌, ◌*◌, ◌^◌, [], Err, None, Some, IfOk, IfErr, IfSome, OnErr, OnOk};
-ghost use Rattle.std.specs.Prelude.{option_map, replicate, slice_get, vec_len};
+ghost use Rattle.std.specs.Prelude.{◌≢◌, length, option_map, replicate, slice_get, vec_len};
+ghost use Rattle.std.specs.Vec.{vec_capacity};
 ghost use Rattle.kb_isolation_spec.specs.Calls.{IsRefused};
 ghost use Rattle.kb_isolation_spec.specs.Machine.{Moment};
+ghost use Rattle.kb_broker.specs.Speakers.{speakers};
 ghost use Rattle.kb_node.specs.Cores.{cores, seen};
 ghost use Rattle.kb_node.specs.Known.{lasting};
 ghost use Rattle.kb_node.specs.Moves.{Goes, GoesWith, IsAdmitted, IsKept, IsRunOf, IsTurn};
 ghost use Rattle.kb_node.specs.Numbers.{IsInOrder, socket_of};
+ghost use Rattle.kb_node.specs.Ready.{AreCalled};
 ghost use Rattle.kb_node.specs.Seats.{AreSeated, AreSeated-prop};
 ghost use Rattle.kb_node.specs.SocketShares.{IsGiven};
 ghost use Rattle.kb_node.specs.Traffic.{Happens};
@@ -362,6 +365,10 @@ impl<R: Net, S: Store, L: PartitionLog + Drop> Edge<R, S, L> {
             (seen self.new.host self.new.sockets.items) }
         ensures run { self.old.host.commits.fault ≡ None → IsRunOf S.disk
             (lasting S.settled S.disk S.loss self.new.host.commits) now self.old.host self.new.host }
+        // Nobody waits for nothing: who has something to hear from the broker cannot hear it yet, or can go on. But where as many failed
+        // logins wait, or as many can go on as there is room for.
+        ensures called { OnOk result (length (speakers self.new.host.broker.state.lines) ≢ length self.new.delays.moments.moments.keys
+            → vec_len self.new.ready < vec_capacity self.new.ready → AreCalled self.new.host.broker.state self.new.sockets.items) }
     {
         if let Some(fault) = self.host.commits().fault() {
             return Err(fault);
@@ -372,6 +379,7 @@ impl<R: Net, S: Store, L: PartitionLog + Drop> Edge<R, S, L> {
         self.accept(alloc, &mut turn);
         self.answer(alloc, now, &mut turn)?;
         self.close_late(alloc, &mut turn);
+        self.hear_speakers();
         Ok(turn)
     }
 

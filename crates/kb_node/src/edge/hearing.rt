@@ -1,9 +1,10 @@
 //! Which sockets can go on.
 
-ghost use Rattle.std.specs.Prelude.{◌≡◌, ◌≢◌, not, length, slice_get, IfSome};
+ghost use Rattle.std.specs.Prelude.{◌≡◌, ◌≢◌, ◌<◌, not, length, vec_len, slice_get, IfSome};
+ghost use Rattle.std.specs.Vec.{vec_capacity};
 ghost use Rattle.kb_broker.specs.Speakers.{speakers};
 ghost use Rattle.kb_node.specs.Cores.{seen};
-ghost use Rattle.kb_node.specs.Ready.{IsHeard, IsQueued, ready_of};
+ghost use Rattle.kb_node.specs.Ready.{AreCalled, IsHeard, IsQueued, ready_of};
 ghost use Rattle.kb_node.specs.Traffic.{Along};
 
 use crate::edge::{Accepts, Edge};
@@ -41,10 +42,14 @@ impl<R: Net, S: Store, L: PartitionLog + Drop> Edge<R, S, L> {
     pub(super) fn hear_speakers(&mut self)
         ensures seen { seen self.new.host self.new.sockets.items ≡ seen self.old.host self.old.sockets.items }
         ensures lanes { self.new.lanes ≡ self.old.lanes }
+        ensures delays { self.new.delays ≡ self.old.delays }
         // Each of them in turn, unless as many failed logins wait.
         ensures heard { length (speakers self.old.host.broker.state.lines) ≢ length self.old.delays.moments.moments.keys
             → Along IsHeard (speakers self.old.host.broker.state.lines)
             (ready_of self.old.ready self.old.sockets.items) (ready_of self.new.ready self.new.sockets.items) }
+        // Then each of them that can hear that can go on, unless the list of those is full.
+        ensures called { length (speakers self.old.host.broker.state.lines) ≢ length self.old.delays.moments.moments.keys
+            → vec_len self.new.ready < vec_capacity self.new.ready → AreCalled self.old.host.broker.state self.new.sockets.items }
         ensures nobody { length (speakers self.old.host.broker.state.lines) ≡ length self.old.delays.moments.moments.keys
             → self.new ≡ self.old }
     {
@@ -62,6 +67,7 @@ impl<R: Net, S: Store, L: PartitionLog + Drop> Edge<R, S, L> {
     fn hear_speaker(&mut self, at: usize)
         ensures seen { seen self.new.host self.new.sockets.items ≡ seen self.old.host self.old.sockets.items }
         ensures lanes { self.new.lanes ≡ self.old.lanes }
+        ensures delays { self.new.delays ≡ self.old.delays }
         ensures heard { IfSome (slice_get (speakers self.old.host.broker.state.lines) at) (λ n. IsHeard n
             (ready_of self.old.ready self.old.sockets.items) (ready_of self.new.ready self.new.sockets.items)) }
     {
@@ -83,6 +89,7 @@ impl<R: Net, S: Store, L: PartitionLog + Drop> Edge<R, S, L> {
     pub(super) fn queue(&mut self, place: usize)
         ensures seen { seen self.new.host self.new.sockets.items ≡ seen self.old.host self.old.sockets.items }
         ensures lanes { self.new.lanes ≡ self.old.lanes }
+        ensures delays { self.new.delays ≡ self.old.delays }
         // It comes behind the others, unless its turn is to come already.
         ensures queued { IfSome (slice_get self.old.sockets.items place) (λ s. IsQueued (not s.is_queued) s
             (ready_of self.old.ready self.old.sockets.items) (ready_of self.new.ready self.new.sockets.items)) }
@@ -91,7 +98,8 @@ impl<R: Net, S: Store, L: PartitionLog + Drop> Edge<R, S, L> {
             return;
         };
         // there is room for each socket once
-        if !socket.is_queued && self.ready.push(socket.connection()).is_ok() {
+        if !socket.is_queued && self.ready.len() < self.ready.capacity() {
+            self.ready.push_reserved(socket.connection());
             socket.is_queued = true;
         }
     }

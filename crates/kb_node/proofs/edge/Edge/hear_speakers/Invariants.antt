@@ -10,5 +10,6 @@ abbrev pub invariant-loop-at : goal.invariant-loop-at
 invariant-loop-at g l = record {
   stays : seen l.self.host l.self.sockets.items ≡ seen l.fn.self.host l.fn.self.sockets.items;
   lanes : l.self.lanes ≡ l.fn.self.lanes;
+  delays : l.self.delays ≡ l.fn.self.delays;
   heard : Along IsHeard (take l.at (speakers l.fn.self.host.broker.state.lines)) (ready_of l.fn.self.ready l.fn.self.sockets.items) (ready_of l.self.ready l.self.sockets.items);
 }

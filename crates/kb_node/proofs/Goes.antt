@@ -14,11 +14,12 @@ use Rattle.kb_node.specs.Traffic.{Along, AreAbout, AreDone, Commit, Deed, Event,
 use Rattle.kb_node.specs.Carries.{CarriesWith, unhanded_of, unwritten_of}
 use Rattle.kb_node.specs.Commits.{Host}
 use Rattle.kb_node.specs.Cores.{Core, Seen, core, cores, open_ones, seen}
-use Rattle.kb_node.specs.Known.{silent}
+use Rattle.kb_store.specs.Loss.{Loss}
+use Rattle.kb_node.specs.Known.{lasting, silent}
 use Rattle.kb_node.specs.Moves.{Carry, Goes, GoesWith, HasCarried, HasOpened, HasSettled, IsJoined, IsKept, IsMoved, IsRunOf, IsRunThrough, IsTurn, IsUnkept, Leave, LeaveAt, Move, Open, Settle}
 use Rattle.kb_node.proofs.Cores.{held_at, held_in, removed, set_at}
 use Rattle.kb_node.proofs.Carries.{carries_knowing, writes}
-use Rattle.kb_node.proofs.Known.{from_silent}
+use Rattle.kb_node.proofs.Known.{from_silent, lasting_on, none_there}
 use Rattle.kb_node.proofs.Traffic.{all_knowing, along_then, all_then, done_knowing}
 
 -- 1. Moves
@@ -380,6 +381,7 @@ run_of {S} {T} {disk} {known} {contents} {remaining} {now} {from} {to} turn =
     record {
       begun = turn.begun.host.broker;
       moment = turn.moment;
+      sync = turn_sync turn;
       deeds = all.deeds;
       timeless = all.timeless;
       done = all.done;
@@ -423,7 +425,7 @@ unfoldable pub run_begins : {S : Type 0} (disk : S → Disk) (known : Deed → S
 run_begins disk known x = run_through disk known [] x x refl
 
 -- what is known of the store may be less
-pub run_knowing : {S : Type 0} (disk : S → Disk) (known less : Deed → S → Type 0) (nows : List ℕ) (from to : Host S)
+unfoldable pub run_knowing : {S : Type 0} (disk : S → Disk) (known less : Deed → S → Type 0) (nows : List ℕ) (from to : Host S)
     → ((d : Deed) (s : S) → known d s → less d s) → IsRunThrough disk known nows from to → IsRunThrough disk less nows from to
 run_knowing disk known less nows from to weaker run = record {
   deeds = run.deeds;
@@ -432,3 +434,13 @@ run_knowing disk known less nows from to weaker run = record {
   is_run = run.is_run;
   tried = run.tried;
 }
+
+-- a run goes on with a turn, where no commit was refused before
+pub run_lasting : {S : Type 0} (settled : S → Type 0) (disk : S → Disk) (loss : S → Loss) (nows : List ℕ) (now : ℕ) (from at to : Host S)
+    → at.commits.fault ≡ None → IsRunThrough disk (lasting settled disk loss at.commits) nows from at
+    → IsRunOf disk (lasting settled disk loss to.commits) now at to
+    → IsRunThrough disk (lasting settled disk loss to.commits) (nows ++ now ∷ []) from to
+run_lasting settled disk loss nows now from at to none before turn =
+    let known = lasting settled disk loss to.commits in
+    run_on disk known nows now from at to (run_knowing disk (lasting settled disk loss at.commits) known nows from at
+    (lasting_on settled disk loss at.commits to.commits turn.sync (λ some. absurd (none_there at.commits.fault none some))) before) turn

@@ -4,6 +4,7 @@ use Rattle.std.specs.List.{AllByRecursion, filter, find, flat_map, remove}
 use Rattle.std.proofs.lemmas.Grind.{flat_map-append}
 use Rattle.std.proofs.lemmas.Bool.Decides.{eqb_tells, nat_tests}
 use Rattle.kb_store.specs.Disk.{Disk}
+use Rattle.kb_store.specs.Loss.{Loss}
 use Rattle.kb_isolation_spec.specs.Machine.{Closes, Comes, Happening, Moment, Opens}
 use Rattle.kb_isolation_spec.specs.Broker.{IsRun}
 use Rattle.kb_broker.specs.Hosts.{OnStore}
@@ -13,11 +14,13 @@ use Rattle.kb_node.specs.Carries.{CarriesWith, GoesOn, unhanded_of, unwritten_of
 use Rattle.kb_node.specs.Commits.{Host}
 use Rattle.kb_node.specs.Cores.{Core, Seen, core, open_ones}
 use Rattle.kb_node.specs.Got.{taken_of}
+use Rattle.kb_node.specs.Known.{lasting}
 use Rattle.kb_node.specs.Moves.{Carry, IsMoved, IsTurn, Leave, LeaveAt, Move, Open, Settle}
 use Rattle.kb_node.specs.Numbers.{IsInOrder, Rise}
 use Rattle.kb_node.specs.Streams.{AreCarried, BeginsWith, EndsWith, IsCarried, IsCarriedIn, IsUncarried, came_in, core_of, handed_of, is_broken_in, is_closed_in, unhanded_in, unwritten_in}
 use Rattle.kb_node.proofs.Carries.{either, goes_on, or_right}
-use Rattle.kb_node.proofs.Goes.{SettledAs, of_move, of_moves, of_settled, run_begins, run_of, run_on, run_through}
+use Rattle.kb_node.proofs.Goes.{SettledAs, of_move, of_moves, of_settled, run_begins, run_knowing, run_of, run_on, run_through, turn_sync}
+use Rattle.kb_node.proofs.Known.{lasting_on, none_there}
 use Rattle.kb_node.proofs.Numbers.{behind_here, behind_other, find_here, is_it, is_not, move_keeps, moved, none_above, none_below, remove_here, remove_other, rise_filter, rises_by, set_here, set_other, turn_keeps}
 use Rattle.kb_node.proofs.Traffic.{along_then}
 
@@ -528,3 +531,25 @@ module _ {S T : Type 0} {disk : S → Disk} {known : Deed → S → Type 0} {con
   pub carried : (nows : List ℕ) (from to : Seen S T) → Along (IsTurn disk known contents remaining) nows from to → IsInOrder from
       → AreCarried disk known contents remaining nows from to
   carried nows from to turns r = go_on [] nows from from to (carried_none from r) turns
+
+-- What is known of the store may be less.
+module _ {S T : Type 0} (disk : S → Disk) (known less : Deed → S → Type 0) (contents remaining : T → Option (List ℕ))
+    (weaker : (d : Deed) (s : S) → known d s → less d s) where
+  carried_knowing : (nows : List ℕ) (from to : Seen S T) → AreCarried disk known contents remaining nows from to
+      → AreCarried disk less contents remaining nows from to
+  unfolding run_knowing
+  carried_knowing nows from to before = record {
+    run = run_knowing disk known less nows from.host to.host weaker before.run;
+    in_order = before.in_order;
+    each = before.each;
+  }
+
+module _ {S T : Type 0} (settled : S → Type 0) (disk : S → Disk) (loss : S → Loss) {contents remaining : T → Option (List ℕ)} where
+  -- one turn more goes on with it, where no commit was refused before
+  pub carried_lasting : (nows : List ℕ) (now : ℕ) (from at to : Seen S T) → at.host.commits.fault ≡ None
+      → AreCarried disk (lasting settled disk loss at.host.commits) contents remaining nows from at
+      → IsTurn disk (lasting settled disk loss to.host.commits) contents remaining now at to
+      → AreCarried disk (lasting settled disk loss to.host.commits) contents remaining (nows ++ now ∷ []) from to
+  carried_lasting nows now from at to none before turn =
+      carried_on nows now from at to (carried_knowing disk (lasting settled disk loss at.host.commits) (lasting settled disk loss to.host.commits) contents remaining
+      (lasting_on settled disk loss at.host.commits to.host.commits (turn_sync turn) (λ some. absurd (none_there at.host.commits.fault none some))) nows from at before) turn

@@ -1,6 +1,6 @@
 //! Laws about many turns, as contracts of functions with empty bodies.
 
-ghost use Rattle.std.specs.Prelude.{◌≡◌, ◌≤◌, ◌++◌, ◌∷◌, ℕ, List, [], IsSome};
+ghost use Rattle.std.specs.Prelude.{◌≡◌, ◌≤◌, ◌++◌, ◌∷◌, ℕ, List, [], None};
 ghost use Rattle.kb_isolation_spec.specs.Broker.{Rising};
 ghost use Rattle.kb_broker.specs.Hosts.{is_honest};
 ghost use Rattle.kb_node.specs.Commits.{Host};
@@ -17,8 +17,7 @@ use kb_store::Store;
 use std::io::{Read, Write};
 
 /// However often an edge is turned, what it does to its broker is one run, whose moments are those that it was given. `Edge::turn` says
-/// `IsRunOf` of each turn, and an edge begins where its broker is. What is known of the store at each deed is so with any setting of
-/// commits.
+/// `IsRunOf` of each turn, and an edge begins where its broker is.
 pub fn turns_are_a_run<S: Store>()
     ensures { (commits : Commits) (nows : List ℕ) → (from to : Host S)
         → Along (IsRunOf S.disk (lasting S.settled S.disk S.loss commits)) nows from to
@@ -27,15 +26,11 @@ pub fn turns_are_a_run<S: Store>()
 
 /// The same, turn by turn, as for a loop: nothing was done yet, and one turn more goes on with the run.
 pub fn a_turn_goes_on_with_the_run<S: Store>()
-    ensures begun { (commits : Commits) (x : Host S) → IsRunThrough S.disk (lasting S.settled S.disk S.loss commits) [] x x }
-    ensures turned { (commits : Commits) (nows : List ℕ) → (now : ℕ) → (from at to : Host S)
-        → IsRunThrough S.disk (lasting S.settled S.disk S.loss commits) nows from at
-        → IsRunOf S.disk (lasting S.settled S.disk S.loss commits) now at to
-        → IsRunThrough S.disk (lasting S.settled S.disk S.loss commits) (nows ++ now ∷ []) from to }
-    // What is known of the store stays known, where a refused commit does.
-    ensures kept { (old new : Commits) → new.sync ≡ old.sync → (IsSome old.fault → IsSome new.fault) → (nows : List ℕ)
-        → (from to : Host S) → IsRunThrough S.disk (lasting S.settled S.disk S.loss old) nows from to
-        → IsRunThrough S.disk (lasting S.settled S.disk S.loss new) nows from to }
+    ensures begun { (x : Host S) → IsRunThrough S.disk (lasting S.settled S.disk S.loss x.commits) [] x x }
+    ensures turned { (nows : List ℕ) → (now : ℕ) → (from at to : Host S) → at.commits.fault ≡ None
+        → IsRunThrough S.disk (lasting S.settled S.disk S.loss at.commits) nows from at
+        → IsRunOf S.disk (lasting S.settled S.disk S.loss to.commits) now at to
+        → IsRunThrough S.disk (lasting S.settled S.disk S.loss to.commits) (nows ++ now ∷ []) from to }
 {}
 
 /// The sockets of an edge stand by rising number of their connections, and no two carry one connection: an edge begins with no socket, and
@@ -62,12 +57,12 @@ pub fn turns_keep_tenants_apart<S: Store>()
 /// of that connection, in order, and what is handed on as that connection's bytes is what was read of the stream, in order. Behind its end
 /// nothing is read or written. It is so turn by turn, as for a loop.
 pub fn each_connection_has_one_socket<S: Store, T: Read + Write>()
-    ensures begun { (commits : Commits) (x : Seen S T) → IsInOrder x
-        → AreCarried S.disk (lasting S.settled S.disk S.loss commits) T.contents T.remaining [] x x }
-    ensures turned { (commits : Commits) (nows : List ℕ) → (now : ℕ) → (from at to : Seen S T)
-        → AreCarried S.disk (lasting S.settled S.disk S.loss commits) T.contents T.remaining nows from at
-        → IsTurn S.disk (lasting S.settled S.disk S.loss commits) T.contents T.remaining now at to
-        → AreCarried S.disk (lasting S.settled S.disk S.loss commits) T.contents T.remaining (nows ++ now ∷ []) from to }
+    ensures begun { (x : Seen S T) → IsInOrder x
+        → AreCarried S.disk (lasting S.settled S.disk S.loss x.host.commits) T.contents T.remaining [] x x }
+    ensures turned { (nows : List ℕ) → (now : ℕ) → (from at to : Seen S T) → at.host.commits.fault ≡ None
+        → AreCarried S.disk (lasting S.settled S.disk S.loss at.host.commits) T.contents T.remaining nows from at
+        → IsTurn S.disk (lasting S.settled S.disk S.loss to.host.commits) T.contents T.remaining now at to
+        → AreCarried S.disk (lasting S.settled S.disk S.loss to.host.commits) T.contents T.remaining (nows ++ now ∷ []) from to }
     ensures all { (commits : Commits) (nows : List ℕ) → (from to : Seen S T)
         → Along (IsTurn S.disk (lasting S.settled S.disk S.loss commits) T.contents T.remaining) nows from to → IsInOrder from
         → AreCarried S.disk (lasting S.settled S.disk S.loss commits) T.contents T.remaining nows from to }

@@ -5,7 +5,6 @@ ghost use Rattle.std.specs.Prelude.{None, Some, IfSome};
 ghost use Rattle.std.specs.BTreeMap.{insert_entry};
 ghost use Rattle.std.specs.Ordering.{nat_cmp};
 ghost use Rattle.kb_isolation_spec.specs.Broker.{bound_to};
-ghost use Rattle.kb_node.specs.Ready.{can_hear};
 ghost use Rattle.kb_node.specs.Requests.{awaited};
 ghost use Rattle.kb_node.specs.Sockets.{can_ask, is_denial, is_done, is_held};
 ghost use Rattle.kb_node.specs.SocketShares.{may_bind, without};
@@ -94,6 +93,7 @@ pub struct Socket<T> {
 }
 
 impl<T: Read + Write + Drop> Socket<T> {
+    ghost use Rattle.kb_node.specs.Ready.{can_hear};
     ghost use Rattle.kb_node.specs.Seats.{IsReseated};
 
     /// A socket whose connection is open.

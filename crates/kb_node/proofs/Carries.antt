@@ -1,5 +1,5 @@
 -- What a socket carries goes on.
-use Rattle.std.proofs.Common.{◌≡◌, List, length, take, ◌+◌, ◌-◌, ◌==◌, ◌≢◌, arith, [], ◌∷◌, ◌++◌, Option, ℕ, Result, Ok, Err, OnOk, Bool, true, false, ◌||◌, Some, drop, sym, refl, subst, ap, ◌∙◌, append_assoc, append-nil, ⊎_elim, inl, inr, ◌⊎◌}
+use Rattle.std.proofs.Common.{◌≡◌, List, length, take, ◌+◌, ◌-◌, ◌==◌, ◌≢◌, arith, [], ◌∷◌, ◌++◌, Option, ℕ, Result, Ok, Err, OnErr, OnOk, Bool, true, false, ◌||◌, Some, drop, sym, refl, subst, ap, ◌∙◌, append_assoc, append-nil, ⊎_elim, inl, inr, ◌⊎◌}
 use Rattle.std.proofs.lemmas.Grind.{flat_map-append}
 use Rattle.std.proofs.lemmas.List.{take-append-drop, drop-drop}
 use Rattle.std.proofs.lemmas.Bool.Decides.{nat_tests}

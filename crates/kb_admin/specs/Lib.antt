@@ -5,3 +5,4 @@ pub mod Settings
 pub mod Requests
 pub mod Replies
 pub mod Session
+pub mod Faults

@@ -20,6 +20,11 @@ pub enum AdminFault {
 }
 
 impl Display for AdminFault {
+    ghost use Rattle.std.specs.Prelude.{Some};
+    ghost use Rattle.kb_admin.specs.Faults.{fault_text};
+
+    ghost output = { λ fault. Some (fault_text fault) };
+
     fn fmt<W: Write>(&self, f: &mut Formatter<W>) -> fmt::Result {
         match self {
             AdminFault::Refused(code) => match code_name(*code) {

@@ -65,6 +65,13 @@ impl Session {
         }
     }
 
+    /// The task that it was opened with.
+    pub fn task(&self) -> &Task
+        ensures { result.now ≡ self.now.task }
+    {
+        &self.task
+    }
+
     /// The bytes of the request whose turn it is; none once it ended.
     pub fn request(&self) -> Result<Vec<u8>, AllocError>
         ensures { IfOk result (λ text. text.items ≡ asked_text self.now.stage self.now) }

@@ -20,9 +20,10 @@ const TALKS: [&str; 4] = [
     "handshake ann-wrong versions",
 ];
 
-/// How many turns a talk has at most, and how many more follow in which nothing is to come.
-const TURNS: u32 = 10_000;
+/// How many turns a talk has at most. A client that does not log in has ten seconds.
+const TURNS: u32 = 9_000;
 
+/// How many turns follow in which nothing is to come.
 const MORE: u32 = 50;
 
 /// For how many turns a client reads nothing.

@@ -93,7 +93,7 @@ module _ {S T : Type 0} (disk : S → Disk) (known less : Deed → S → Type 0)
   told_knowing n from to h =
       let c = h.carried in
       let tells = tells_knowing disk known less contents remaining weaker c.old c.new from.host.broker to.host.broker
-          (record { carries = c.carries; told = h.told }) in
+      (record { carries = c.carries; told = h.told }) in
       record {
         carried = record {
           place = c.place;

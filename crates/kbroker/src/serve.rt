@@ -135,8 +135,15 @@ fn serve_on<S: PutsOff + Drop>(
     let alloc = rt.alloc();
     let (opened, held) = open(rt, start, store, folder, journal)?;
     let found = Found { held, changed };
-    let (_edge, served) =
-        serve_broker(rt, rt, opened.broker, start.settings, found, folder, journal)?;
+    let (_edge, served) = serve_broker(
+        rt,
+        rt,
+        opened.broker,
+        start.settings,
+        found,
+        folder,
+        journal,
+    )?;
     match served {
         Ok(()) => Ok(()),
         Err(fault) => Err(Fault::Operator(folder.of_store(alloc, fault))),

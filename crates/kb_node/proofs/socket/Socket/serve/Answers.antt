@@ -15,8 +15,12 @@ returns-clause-carries g c =
     let disk = g.S.Store.disk in let out = g.T.Write.contents in let in_ = g.T.Read.remaining in
     let settled = g.S.Store.settled in let loss = g.S.Store.loss in
     let first : StaysOpen disk hasty out in_ c.args.self.now c.write_all.new.self c.args.host.now.broker c.write_all.new.host.broker =
-    record { carries = carries_knowing disk (telling settled disk loss c.args.host.now.commits) hasty out in_ (telling_hasty settled disk loss c.args.host.now.commits)
-        c.args.self.now c.write_all.new.self _ _ c.write_all.ensures.tells.carries; connection = c.write_all.ensures.connection; ended = c.write_all.ensures.ended ∙ c.requires.not_ended } in
+    record {
+      carries = carries_knowing disk (telling settled disk loss c.args.host.now.commits) hasty out in_ (telling_hasty settled disk loss c.args.host.now.commits)
+          c.args.self.now c.write_all.new.self _ _ c.write_all.ensures.tells.carries;
+      connection = c.write_all.ensures.connection;
+      ended = c.write_all.ensures.ended ∙ c.requires.not_ended;
+    } in
     let second : StaysOpen disk hasty out in_ c.write_all.new.self c.if-may_ask.self c.write_all.new.host.broker c.if-may_ask.host.broker =
     elim c.if-may_ask.branch [
       | then-may_ask+then-can_ask+then-take_seat w ↦ open_at disk out in_ c.write_all.new.self _ _ _ _ _ w.self-is (ap (λ h. h.broker) w.host-is)
@@ -62,7 +66,9 @@ returns-clause-unasked g c = λ off.
     record {
       tells = tells_knowing disk (telling g.S.Store.settled disk g.S.Store.loss c.args.host.now.commits) hasty out in_
           (telling_hasty g.S.Store.settled disk g.S.Store.loss c.args.host.now.commits) c.args.self.now c.write_all.new.self _ _ c.write_all.ensures.tells;
-      connection = c.write_all.ensures.connection; ended = c.write_all.ensures.ended ∙ c.requires.not_ended } in
+      connection = c.write_all.ensures.connection;
+      ended = c.write_all.ensures.ended ∙ c.requires.not_ended;
+    } in
     let second : StaysTelling disk hasty out in_ c.args.self.now c.if-may_ask.self c.args.host.now.broker c.if-may_ask.host.broker =
     elim c.if-may_ask.branch [
       | then-may_ask+then-can_ask+then-take_seat w ↦ absurd (let yes : true ≡ false = sym w.if-may_ask.true ∙ off in cc)

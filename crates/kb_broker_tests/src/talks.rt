@@ -117,14 +117,14 @@ fn count_told<R: Net>(talkers: &[Talker<R>], told: &[Vec<u8>]) -> usize {
 }
 
 /// Turns an edge at each of some moments, and lets its clients go on, until they were told all, and some turns longer. It answers how many
-/// sockets were closed.
+/// of the first were told all, and how many sockets were closed.
 fn talk<R: Net, E: Server>(
     alloc: Global,
     edge: &mut E,
     talkers: &mut [Talker<R>],
     told: &[Vec<u8>],
     moments: Range<u32>,
-) -> io::Result<u64> {
+) -> io::Result<(usize, u64)> {
     let (mut left, mut closed) = (MORE, 0u64);
     for now in moments {
         if left == 0 {
@@ -133,106 +133,132 @@ fn talk<R: Net, E: Server>(
         closed = closed.saturating_add(edge.turn(alloc, now)[3]);
         go_on_all(talkers)?;
         if count_told(talkers, told) == talkers.len() {
-            left -= 1;
+            left = left.saturating_sub(1);
         }
     }
-    Ok(closed)
+    Ok((count_told(talkers, told), closed))
 }
 
-/// An edge on a network, for a broker that opens on no file.
-fn serve<R: Net>(net: &R, alloc: Global, sync: Sync) -> Result<Node<R>, Fail> {
-    let limits = Limits {
-        sync,
-        ..Limits::default()
-    };
-    Ok(Node::bind(net, alloc, Host::new(alloc)?, limits)?)
-}
-
-/// How many clients are told what a broker says, and how many sockets are closed.
-fn talk_over<R: Net>(
-    net: &R,
+/// The first client reads nothing at first, and so gets nothing, and the others are told all. Behind that it reads.
+fn hear_later<R: Net, E: Server>(
     alloc: Global,
-    sync: Sync,
+    edge: &mut E,
+    talkers: &mut [Talker<R>],
     told: &[Vec<u8>],
-) -> Result<(usize, u64), Fail> {
-    let mut edge = serve(net, alloc, sync)?;
-    let mut talkers = join_all(net, alloc, edge.port())?;
-    let closed = talk(alloc, &mut edge, &mut talkers, told, 0..TURNS)?;
-    Ok((count_told(&talkers, told), closed))
+) -> io::Result<(usize, u64)> {
+    set_deaf(talkers, true);
+    talk(alloc, edge, talkers, told, 0..DEAF)?;
+    let others = count_told(behind(talkers), behind(told));
+    let are_told = others == behind(told).len() && got_first(talkers) == 0;
+    set_deaf(talkers, false);
+    let (count, closed) = talk(alloc, edge, talkers, told, DEAF..TURNS)?;
+    Ok((if are_told { count } else { 0 }, closed))
 }
 
-#[test]
-fn bytes_may_go_in_any_pieces(rt: HostRuntime) -> Result<(), Fail> {
-    let told = told(rt.alloc())?;
-    for (most, room, sync) in &WAYS {
-        let pieces = Pieces::UpTo(*most, *room as u64);
-        let hall = Hall::new(rt.alloc(), TALKS.len(), pieces, *room)?;
-        let done = talk_over(&hall.room(), rt.alloc(), *sync, &told)?;
-        assert!(rt; done == (TALKS.len(), 1), "up to {most} bytes");
+/// All but the first.
+fn behind<T>(all: &[T]) -> &[T] {
+    all.get(1..).unwrap_or(&[])
+}
+
+/// How many bytes the first client got.
+fn got_first<R: Net>(talkers: &[Talker<R>]) -> usize {
+    match talkers.first() {
+        Some(talker) => talker.client.got.len(),
+        None => 0,
     }
-    Ok(())
 }
 
-/// How many clients were told all while the first one reads nothing, what that had got by then, and how many when it reads.
-fn talk_to_a_deaf_one<R: Net>(
-    net: &R,
-    alloc: Global,
-    told: &[Vec<u8>],
-) -> Result<(usize, usize, usize), Fail> {
-    let mut edge = serve(net, alloc, Sync::Interval)?;
-    let mut talkers = join_all(net, alloc, edge.port())?;
-    set_deaf(&mut talkers, true);
-    talk(alloc, &mut edge, &mut talkers, told, 0..DEAF)?;
-    let (others, got) = (
-        count_told(&talkers[1..], &told[1..]),
-        talkers[0].client.got.len(),
-    );
-    set_deaf(&mut talkers, false);
-    talk(alloc, &mut edge, &mut talkers, told, DEAF..TURNS)?;
-    Ok((others, got, count_told(&talkers, told)))
-}
-
-/// Whether the first client reads.
+/// Whether the first client reads nothing.
 fn set_deaf<R: Net>(talkers: &mut [Talker<R>], is_deaf: bool) {
     if let Some(talker) = talkers.first_mut() {
         talker.is_deaf = is_deaf;
     }
 }
 
+/// All but the first client go after so many turns, in the middle of what they say or hear.
+fn go_after<R: Net, E: Server>(
+    alloc: Global,
+    edge: &mut E,
+    talkers: &mut Vec<Talker<R>>,
+    told: &[Vec<u8>],
+    turns: u32,
+) -> io::Result<(usize, u64)> {
+    for now in 0..turns {
+        edge.turn(alloc, now);
+        go_on_all(talkers)?;
+    }
+    talkers.truncate(1);
+    talk(alloc, edge, talkers, told, turns..TURNS)
+}
+
+/// What the clients of an edge do.
+#[derive(Clone, Copy)]
+enum Course {
+    /// They say all, and hear.
+    All,
+    /// The first one hears later.
+    HearLater,
+    /// The others go after so many turns.
+    GoAfter(u32),
+}
+
+/// Clients do so: how many are told what a broker says, and how many sockets are closed in the end.
+fn take_course<R: Net, E: Server>(
+    net: &R,
+    alloc: Global,
+    edge: &mut E,
+    told: &[Vec<u8>],
+    course: Course,
+) -> io::Result<(usize, u64)> {
+    let mut talkers = join_all(net, alloc, edge.port())?;
+    match course {
+        Course::All => talk(alloc, edge, &mut talkers, told, 0..TURNS),
+        Course::HearLater => hear_later(alloc, edge, &mut talkers, told),
+        Course::GoAfter(turns) => go_after(alloc, edge, &mut talkers, told, turns),
+    }
+}
+
+/// The same of clients of a new broker over a network in memory, where bytes go so.
+fn takes_course(
+    alloc: Global,
+    way: (u32, usize, Sync),
+    told: &[Vec<u8>],
+    course: Course,
+) -> Result<(usize, u64), Fail> {
+    let (most, room, sync) = way;
+    let hall = Hall::new(alloc, TALKS.len(), Pieces::UpTo(most, room as u64), room)?;
+    let limits = Limits {
+        sync,
+        ..Limits::default()
+    };
+    let mut edge = Node::bind(&hall.room(), alloc, Host::new(alloc)?, limits)?;
+    Ok(take_course(&hall.room(), alloc, &mut edge, told, course)?)
+}
+
 #[test]
-fn a_client_that_reads_later_loses_nothing(rt: HostRuntime) -> Result<(), Fail> {
+fn bytes_may_go_in_any_pieces(rt: HostRuntime) -> Result<(), Fail> {
     let told = told(rt.alloc())?;
-    let hall = Hall::new(rt.alloc(), TALKS.len(), Pieces::UpTo(40, 1), 24)?;
-    let done = talk_to_a_deaf_one(&hall.room(), rt.alloc(), &told)?;
-    assert!(rt; done == (TALKS.len() - 1, 0, TALKS.len()));
+    for way in &WAYS {
+        let done = takes_course(rt.alloc(), *way, &told, Course::All)?;
+        assert!(rt; done == (TALKS.len(), 1), "up to {} bytes", way.0);
+    }
     Ok(())
 }
 
-/// How many of the first clients are told what a broker says where the others go in the middle, after so many turns of talk, and how many
-/// sockets are closed.
-fn talk_while_some_go<R: Net>(
-    net: &R,
-    alloc: Global,
-    told: &[Vec<u8>],
-    turns: u32,
-) -> Result<(usize, u64), Fail> {
-    let mut edge = serve(net, alloc, Sync::Interval)?;
-    let mut talkers = join_all(net, alloc, edge.port())?;
-    for now in 0..turns {
-        edge.turn(alloc, now);
-        go_on_all(&mut talkers)?;
-    }
-    talkers.truncate(1);
-    let closed = talk(alloc, &mut edge, &mut talkers, told, turns..TURNS)?;
-    Ok((count_told(&talkers, told), closed))
+#[test]
+fn a_client_that_reads_later_loses_nothing(rt: HostRuntime) -> Result<(), Fail> {
+    let told = told(rt.alloc())?;
+    let way = (40, 24, Sync::Interval);
+    assert!(rt; takes_course(rt.alloc(), way, &told, Course::HearLater)? == (TALKS.len(), 0));
+    Ok(())
 }
 
 #[test]
 fn clients_that_go_change_nothing(rt: HostRuntime) -> Result<(), Fail> {
     let told = told(rt.alloc())?;
     for turns in [1, 5, 9, 20] {
-        let hall = Hall::new(rt.alloc(), TALKS.len(), Pieces::UpTo(20, 3), 64)?;
-        let done = talk_while_some_go(&hall.room(), rt.alloc(), &told, turns)?;
+        let way = (20, 64, Sync::Interval);
+        let done = takes_course(rt.alloc(), way, &told, Course::GoAfter(turns))?;
         assert!(rt; done == (1, 3), "after {turns} turns");
     }
     Ok(())

@@ -297,7 +297,10 @@ impl<R: Net, S: Store, L: PartitionLog + Drop> Edge<R, S, L> {
             return false;
         };
         let before = socket.unwritten();
-        if before == 0 || socket.is_ended() {
+        if before == 0 {
+            return false;
+        }
+        if socket.is_ended() {
             return false;
         }
         socket.write_on(turn);

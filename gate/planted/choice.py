@@ -13,7 +13,7 @@ from planted.prover import LIB
 TRIED = "gate/tried"
 HEAD = "# Written by gate/wrong_bodies --record, oldest first: edit, sum of what it is judged by and of itself, seconds, by: clause\n"
 # What the chosen edits may take, in processor seconds.
-ROOM = 10 * 60
+ROOM = 8 * 60
 # The folders of a crate's edits: those that each run of the gate tries, and all others.
 EACH_RUN, FURTHER = "each-run", "further-edits"
 # What the first check of a crate takes over built libraries, what a line of a library that is not built takes to prove, and what an

@@ -32,6 +32,8 @@ NAMES = re.compile(r"has no field|is not in scope(?! here)|has no `|was not admi
 NAMES_BEGIN = re.compile(rf"\s*(?:`[^`]*`,?\s+)?(?:{NAMES.pattern})")
 # What is said of a declaration that was not looked at, as one that it names was refused: no goal, and no name that was taken away.
 NOT_LOOKED_AT = re.compile(r"depends? on .*(?:rejected|refused).*(?:was|were) not checked", re.S)
+# Where `gate/only` keeps what it checked of a crate, in the crate's folder.
+KEPT = "out/only/kept"
 # Where what a prover says of a place begins, and where anything else that it says does.
 PLACE = re.compile(r"(?:note: )?(?:\./)?((?:src|specs|proofs)/\S+?):(\d+):\d+: (?:error: )?(.*)", re.S)
 BEGINS = re.compile(
@@ -143,10 +145,11 @@ def read(status: int, text: str, seconds: float) -> Report:
 
 
 class Room:
-    """A copy of a crate's sources, with the checked work that its checks share."""
+    """A copy of a crate's sources, with the checked work that its checks share: in the room, or in the place of `gate/only`."""
 
-    def __init__(self, crate, below, scratch: str):
-        self.crate, self.folder, self.kept = crate, f"{scratch}/{crate.name}", f"{scratch}/{crate.name}.kept"
+    def __init__(self, crate, below, scratch: str, keeps: bool = False):
+        self.crate, self.folder = crate, f"{scratch}/{crate.name}"
+        self.kept = f"{crate.folder}/{KEPT}" if keeps else f"{self.folder}.kept"
         for part in LIB.PARTS:
             if os.path.isdir(f"{crate.folder}/{part}"):
                 shutil.copytree(f"{crate.folder}/{part}", f"{self.folder}/{part}")

@@ -21,7 +21,7 @@ UNKNOWN = "could not tell"
 NO_GOAL = "no goal was tried"
 LEFT = "left out"
 # How many edits a round takes at most, so that what it told is written down before the next.
-MOST = 12
+MOST = 48
 
 
 class Plan:
@@ -67,8 +67,8 @@ def without_bodies(file: str, text: str) -> str:
 class Crate:
     """One crate's edits, and what earlier rounds told of who calls whom."""
 
-    def __init__(self, crate, edits: List[str], below, scratch: str):
-        self.name, self.room = crate.name, Room(crate, below, scratch)
+    def __init__(self, crate, edits: List[str], below, scratch: str, keeps: bool = False):
+        self.name, self.room = crate.name, Room(crate, below, scratch, keeps)
         # (where the crate's own library is there, all of it is proved as it stands)
         self.is_proved = below.has(crate)
         # (where there is no code, the definitions are what is tried, and whichever law is false then refuses)
@@ -78,7 +78,8 @@ class Crate:
         self.rounds = 0
         self.unexplained: List[str] = []
         self.before: Dict[str, str] = {}
-        self.plans = [self.plan(it) for it in edits]
+        # (those that take a round of their own come behind all others)
+        self.plans = sorted(map(self.plan, edits), key=lambda it: (it.is_alone and not it.is_owed, not it.is_owed))
 
     def plan(self, edit: str) -> Plan:
         texts, why = self.room.apply(edit)

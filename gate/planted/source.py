@@ -1,4 +1,5 @@
 """The functions of a Rust text: which there are, and which of them an edit changes."""
+import functools
 import os
 import re
 from collections import Counter
@@ -36,6 +37,7 @@ def blanked(text: str) -> str:
     return ASIDE.sub(lambda it: re.sub(r"[^\n]", " ", it[0]), text)
 
 
+@functools.lru_cache(maxsize=512)
 def functions_in(file: str, text: str) -> Dict[Key, Function]:
     flat, found, owners, depth, at = blanked(text), {}, [], 0, 0
     while True:
@@ -158,6 +160,7 @@ def branches_in(body: str) -> Counter:
     return Counter(ALIKE.get(it, it) for it in BRANCH.findall(blanked(body)))
 
 
+@functools.lru_cache(maxsize=512)
 def constants_in(text: str) -> Dict[str, str]:
     return {it[1]: text[it.start() : it.end()] for it in CONSTANT.finditer(blanked(text))}
 

@@ -1,12 +1,15 @@
 //! Rounds, in which those are served who have little to be done, or one whose request is long.
 
-ghost use Rattle.std.specs.Prelude.{◌≡◌, ◌≢◌, min, true};
-ghost use Rattle.kb_node.specs.Moves.{Goes};
+ghost use Rattle.std.specs.Prelude.{◌≡◌, ◌≢◌, [], min, true};
+ghost use Rattle.kb_node.specs.Known.{hasty};
+ghost use Rattle.kb_node.specs.Moves.{GoesWith};
 ghost use Rattle.kb_node.specs.Cores.{seen};
 ghost use Rattle.kb_node.specs.Commits.{tells_at_once};
 ghost use Rattle.kb_shares.specs.Turns.{after_next};
 ghost use Rattle.kb_node.specs.Numbers.{IsInOrder, socket_of};
+ghost use Rattle.kb_node.specs.Ready.{LinesUp};
 ghost use Rattle.kb_node.specs.Replies.{place_of};
+ghost use Rattle.kb_node.specs.Traffic.{Along};
 ghost use Rattle.kb_node.specs.Waiting.{behind, behind_round, in_lane, is_long};
 
 use crate::edge::{Edge, HOLDERS, PIECE};
@@ -30,7 +33,7 @@ impl<R: Net, S: Store, L: PartitionLog + Drop> Edge<R, S, L> {
     pub(super) fn serve_round(&mut self, alloc: Global, turn: &mut Turn)
         requires { tells_at_once self.old.host.commits ≡ true }
         ensures commits { tells_at_once self.new.host.commits ≡ true }
-        ensures goes { Goes S.disk R.Stream.contents R.Stream.remaining (seen self.old.host self.old.sockets.items)
+        ensures goes { GoesWith S.disk hasty R.Stream.contents R.Stream.remaining (seen self.old.host self.old.sockets.items)
             (seen self.new.host self.new.sockets.items) }
     {
         self.serve(alloc, turn);
@@ -42,7 +45,12 @@ impl<R: Net, S: Store, L: PartitionLog + Drop> Edge<R, S, L> {
     /// The sockets that can go on stand in line for their turns, all of them or those alone that may be asked. Where there is no memory for
     /// that, they go on later.
     pub(super) fn line_up(&mut self, alloc: Global, is_for_all: bool)
-        ensures { seen self.new.host self.new.sockets.items ≡ seen self.old.host self.old.sockets.items }
+        ensures seen { seen self.new.host self.new.sockets.items ≡ seen self.old.host self.old.sockets.items }
+        // Each of them in turn.
+        ensures lined { IsInOrder (seen self.old.host self.old.sockets.items) → Along (LinesUp is_for_all self.old.shares
+            self.old.replies.pool self.old.inputs.pool self.old.sockets.items) self.old.ready.items
+            (record { lanes = self.old.lanes; ready = self.old.spare }) (record { lanes = self.new.lanes; ready = self.new.ready }) }
+        ensures spare { self.new.spare.items ≡ [] }
     {
         let spare = mem::replace(&mut self.spare, Vec::new(alloc));
         let mut round = mem::replace(&mut self.ready, spare);
@@ -57,6 +65,11 @@ impl<R: Net, S: Store, L: PartitionLog + Drop> Edge<R, S, L> {
     /// go on.
     fn line_up_one(&mut self, number: u64, is_for_all: bool)
         ensures seen { seen self.new.host self.new.sockets.items ≡ seen self.old.host self.old.sockets.items }
+        ensures lined { IsInOrder (seen self.old.host self.old.sockets.items) → LinesUp is_for_all self.old.shares
+            self.old.replies.pool self.old.inputs.pool self.old.sockets.items number
+            (record { lanes = self.old.lanes; ready = self.old.ready }) (record { lanes = self.new.lanes; ready = self.new.ready }) }
+        ensures rest { (self.new.sockets ≡ self.old.sockets) × (self.new.shares ≡ self.old.shares)
+            × (self.new.replies ≡ self.old.replies) × (self.new.inputs ≡ self.old.inputs) }
         ensures waits { IsInOrder (seen self.old.host self.old.sockets.items) → self.new.lanes ≢ self.old.lanes
             → self.new.lanes ≡ in_lane (is_long (socket_of number self.old.sockets.items))
             (min (place_of number self.old.shares) 256) number self.old.lanes }
@@ -88,7 +101,7 @@ impl<R: Net, S: Store, L: PartitionLog + Drop> Edge<R, S, L> {
         requires { tells_at_once self.old.host.commits ≡ true }
         ensures commits { tells_at_once self.new.host.commits ≡ true }
         ensures lanes { self.new.lanes ≡ behind_round self.old.lanes }
-        ensures goes { Goes S.disk R.Stream.contents R.Stream.remaining (seen self.old.host self.old.sockets.items)
+        ensures goes { GoesWith S.disk hasty R.Stream.contents R.Stream.remaining (seen self.old.host self.old.sockets.items)
             (seen self.new.host self.new.sockets.items) }
     {
         if self.lanes.begin_round() {
@@ -104,7 +117,7 @@ impl<R: Net, S: Store, L: PartitionLog + Drop> Edge<R, S, L> {
         requires { tells_at_once self.old.host.commits ≡ true }
         ensures commits { tells_at_once self.new.host.commits ≡ true }
         ensures lanes { self.new.lanes ≡ record self.old.lanes { long = after_next self.old.lanes.long } }
-        ensures goes { Goes S.disk R.Stream.contents R.Stream.remaining (seen self.old.host self.old.sockets.items)
+        ensures goes { GoesWith S.disk hasty R.Stream.contents R.Stream.remaining (seen self.old.host self.old.sockets.items)
             (seen self.new.host self.new.sockets.items) }
     {
         if let Some(number) = self.lanes.next_long() {
@@ -118,7 +131,7 @@ impl<R: Net, S: Store, L: PartitionLog + Drop> Edge<R, S, L> {
         requires { tells_at_once self.old.host.commits ≡ true }
         ensures commits { tells_at_once self.new.host.commits ≡ true }
         ensures lanes { self.new.lanes ≡ record self.old.lanes { short = behind 16 self.old.lanes.short } }
-        ensures goes { Goes S.disk R.Stream.contents R.Stream.remaining (seen self.old.host self.old.sockets.items)
+        ensures goes { GoesWith S.disk hasty R.Stream.contents R.Stream.remaining (seen self.old.host self.old.sockets.items)
             (seen self.new.host self.new.sockets.items) }
     {
         for _ in 0..ROUND {
@@ -135,7 +148,7 @@ impl<R: Net, S: Store, L: PartitionLog + Drop> Edge<R, S, L> {
         requires { tells_at_once self.old.host.commits ≡ true }
         ensures commits { tells_at_once self.new.host.commits ≡ true }
         ensures lanes { self.new.lanes ≡ record self.old.lanes { short = after_next self.old.lanes.short } }
-        ensures goes { Goes S.disk R.Stream.contents R.Stream.remaining (seen self.old.host self.old.sockets.items)
+        ensures goes { GoesWith S.disk hasty R.Stream.contents R.Stream.remaining (seen self.old.host self.old.sockets.items)
             (seen self.new.host self.new.sockets.items) }
     {
         if let Some(number) = self.lanes.next_short() {

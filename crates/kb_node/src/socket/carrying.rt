@@ -5,8 +5,10 @@ ghost use Rattle.std.specs.Io.KnownBytes.{Appends};
 ghost use Rattle.kb_isolation_spec.specs.Broker.{bound_to};
 ghost use Rattle.kb_isolation_spec.specs.Calls.{is_open, login_of, output_of};
 ghost use Rattle.kb_broker.specs.Places.{numbers};
-ghost use Rattle.kb_node.specs.Carries.{Carries, HasToldAll, Tells, TellsInTurn, unhanded_of, unwritten_of};
+ghost use Rattle.kb_node.specs.Carries.{Carries, CarriesWith, HasBeenTold, HasToldAll, Tells, TellsInTurn, TellsWith};
+ghost use Rattle.kb_node.specs.Carries.{unhanded_of, unwritten_of};
 ghost use Rattle.kb_node.specs.Commits.{may_tell, tells_at_once};
+ghost use Rattle.kb_node.specs.Known.{hasty, telling};
 ghost use Rattle.kb_node.specs.News.{IsAdded};
 ghost use Rattle.kb_node.specs.Seats.{IsReseated, KeepsSeat};
 ghost use Rattle.kb_node.specs.Sockets.{is_denied, is_done, is_held};
@@ -46,14 +48,14 @@ impl<T: Read + Write + Drop> Socket<T> {
     ) -> Next
         requires not_ended { self.now.is_ended ≡ false }
         requires at_once { tells_at_once host.old.commits ≡ true }
-        ensures carries { Carries S.disk T.contents T.remaining self.old self.new host.old.broker host.new.broker }
+        ensures carries { CarriesWith S.disk hasty T.contents T.remaining self.old self.new host.old.broker host.new.broker }
         ensures connection { self.new.connection ≡ self.old.connection }
         ensures seat { IsReseated self.old self.new shares.old shares.new }
         ensures tried { host.new.tried ≡ host.old.tried }
         // Where it may not be asked nothing is read or handed on.
         ensures unasked { may_ask ≡ false
-            → Tells S.disk T.contents T.remaining self.old self.new host.old.broker host.new.broker }
-        ensures at_once { tells_at_once host.new.commits ≡ true }
+            → TellsWith S.disk hasty T.contents T.remaining self.old self.new host.old.broker host.new.broker }
+        ensures sync { (host.new.commits.sync ≡ host.old.commits.sync) × (tells_at_once host.new.commits ≡ true) }
         // Where it has ended the broker was told, and its connection is not open.
         ensures ended { self.new.is_ended ≡ true → is_open self.old.connection host.new.broker.state ≡ false }
         ensures over { result ≡ End → self.new.is_ended ≡ true }
@@ -61,10 +63,10 @@ impl<T: Read + Write + Drop> Socket<T> {
         ensures stays { result ≢ End → (numbers host.new.broker.state ≡ numbers host.old.broker.state)
             × (is_done self.new.is_over self.new.is_half_closed self.new.may_answer
             (vec_len self.new.output - self.new.written) self.new.connection host.new.broker.state ≡ false) }
-        // Then the broker has nothing more to say to it, but to a failed login before its time.
-        ensures told { TellsInTurn self.old host.old.broker.state → result ≢ End → HasToldAll self.new host.new.broker.state }
+        // Then the broker has nothing more to say to it, but to a failed login before its time, or behind what is still to be written.
+        ensures told { result ≢ End → HasBeenTold self.old self.new host.old.broker.state host.new.broker.state }
     {
-        self.write_output(alloc, host, turn);
+        self.write_all(alloc, host, turn);
         if may_ask && self.can_ask(host.broker()) {
             self.ask(alloc, host, buffer, most, turn);
             if self.take_seat(host.broker(), shares, turn) {
@@ -94,6 +96,7 @@ impl<T: Read + Write + Drop> Socket<T> {
         ensures connection { self.new.connection ≡ self.old.connection }
         ensures seat { IsReseated self.old self.new shares.old shares.new }
         ensures tried { host.new.tried ≡ host.old.tried }
+        ensures sync { host.new.commits.sync ≡ host.old.commits.sync }
         ensures ended { self.new.is_ended ≡ self.old.is_ended }
         ensures numbers { numbers host.new.broker.state ≡ numbers host.old.broker.state }
         // Where it may not be asked the broker is not called, and nothing is read.
@@ -123,7 +126,8 @@ impl<T: Read + Write + Drop> Socket<T> {
     ) -> Next
         requires not_ended { self.now.is_ended ≡ false }
         requires may_tell { may_tell host.old.commits ≡ true }
-        ensures tells { Tells S.disk T.contents T.remaining self.old self.new host.old.broker host.new.broker }
+        ensures tells { TellsWith S.disk (telling S.settled S.disk S.loss host.old.commits) T.contents T.remaining
+            self.old self.new host.old.broker host.new.broker }
         ensures connection { self.new.connection ≡ self.old.connection }
         ensures seat { KeepsSeat self.old self.new }
         ensures tried { host.new.tried ≡ host.old.tried }
@@ -135,8 +139,8 @@ impl<T: Read + Write + Drop> Socket<T> {
         ensures open { result ≢ End → numbers host.new.broker.state ≡ numbers host.old.broker.state }
         ensures stays { result ≢ End → is_done self.new.is_over self.new.is_half_closed self.new.may_answer
             (vec_len self.new.output - self.new.written) self.new.connection host.new.broker.state ≡ false }
-        // Then the broker has nothing more to say to it, but to a failed login before its time.
-        ensures told { TellsInTurn self.old host.old.broker.state → result ≢ End → HasToldAll self.new host.new.broker.state }
+        // Then the broker has nothing more to say to it, but to a failed login before its time, or behind what is still to be written.
+        ensures told { result ≢ End → HasBeenTold self.old self.new host.old.broker.state host.new.broker.state }
     {
         if self.unwritten() == 0 && !self.is_over {
             self.write_output(alloc, host, turn);
@@ -297,6 +301,31 @@ impl<T: Read + Write + Drop> Socket<T> {
         turn.count_closed();
     }
 
+    /// Writes what the socket takes now of what is left of the output, and then of what the connection has to say since.
+    fn write_all<S: Store, L: PartitionLog + Drop>(
+        &mut self,
+        alloc: Global,
+        host: &mut Committed<S, L>,
+        turn: &mut Turn,
+    )
+        requires not_ended { self.now.is_ended ≡ false }
+        requires may_tell { may_tell host.old.commits ≡ true }
+        ensures tells { TellsWith S.disk (telling S.settled S.disk S.loss host.old.commits) T.contents T.remaining
+            self.old self.new host.old.broker host.new.broker }
+        ensures connection { self.new.connection ≡ self.old.connection }
+        ensures seat { KeepsSeat self.old self.new }
+        ensures tried { host.new.tried ≡ host.old.tried }
+        ensures commits { host.new.commits ≡ host.old.commits }
+        ensures ended { self.new.is_ended ≡ self.old.is_ended }
+        ensures numbers { numbers host.new.broker.state ≡ numbers host.old.broker.state }
+        ensures told { HasBeenTold self.old self.new host.old.broker.state host.new.broker.state }
+    {
+        self.write_on(turn);
+        if self.unwritten() == 0 {
+            self.write_output(alloc, host, turn);
+        }
+    }
+
     /// Writes what the socket takes now of the output. New output is taken only once the earlier one is written, and that of a failed login
     /// once it may be answered.
     fn write_output<S: Store, L: PartitionLog + Drop>(
@@ -307,7 +336,8 @@ impl<T: Read + Write + Drop> Socket<T> {
     )
         requires not_ended { self.now.is_ended ≡ false }
         requires may_tell { may_tell host.old.commits ≡ true }
-        ensures tells { Tells S.disk T.contents T.remaining self.old self.new host.old.broker host.new.broker }
+        ensures tells { TellsWith S.disk (telling S.settled S.disk S.loss host.old.commits) T.contents T.remaining
+            self.old self.new host.old.broker host.new.broker }
         ensures connection { self.new.connection ≡ self.old.connection }
         ensures seat { KeepsSeat self.old self.new }
         ensures tried { host.new.tried ≡ host.old.tried }
@@ -336,7 +366,8 @@ impl<T: Read + Write + Drop> Socket<T> {
         requires written { self.now.written ≡ vec_len self.now.output }
         requires may_tell { may_tell host.old.commits ≡ true }
         requires may_answer { is_held self.now.may_answer self.now.connection host.now.broker.state ≡ false }
-        ensures tells { Tells S.disk T.contents T.remaining self.old self.new host.old.broker host.new.broker }
+        ensures tells { TellsWith S.disk (telling S.settled S.disk S.loss host.old.commits) T.contents T.remaining
+            self.old self.new host.old.broker host.new.broker }
         ensures connection { self.new.connection ≡ self.old.connection }
         ensures seat { KeepsSeat self.old self.new }
         ensures tried { host.new.tried ≡ host.old.tried }
@@ -356,6 +387,7 @@ impl<T: Read + Write + Drop> Socket<T> {
             × (unwritten_of self.old ≡ put ++ unwritten_of self.new) }
         ensures unhanded { unhanded_of self.new ≡ unhanded_of self.old }
         ensures over { self.old.is_over ≡ true → self.new.is_over ≡ true }
+        ensures lost { self.new.is_lost ≡ self.old.is_lost }
         ensures connection { self.new.connection ≡ self.old.connection }
         ensures seat { KeepsSeat self.old self.new }
         ensures ended { self.new.is_ended ≡ self.old.is_ended }

@@ -26,18 +26,10 @@ pub nullable_blob_fits : (v : List ℕ) → length v < 2 ^ 31 → nullable_blob.
 unfolding nullable nullable_counted int octets
 nullable_blob_fits v lt = ((tt, record { sfits = lt }), tt)
 
-pub null_blob_fits : nullable_blob.Fits None
-unfolding nullable nullable_counted int
-null_blob_fits = (tt, record { sfits = lit< tt })
-
 -- at most 2147483647 items, each of which fits
 pub array_fits : {A : Type 0} (c : Codec A) (vs : List A) → length vs < 2 ^ 31 → All c.Fits vs → (array c).Fits vs
 unfolding sized counted int items
 array_fits c vs lt each = ((tt, record { sfits = lt }), each)
-
-pub nullable_array_fits : {A : Type 0} (c : Codec A) (vs : List A) → length vs < 2 ^ 31 → All c.Fits vs → (nullable_array c).Fits (Some vs)
-unfolding nullable nullable_counted int items
-nullable_array_fits c vs lt each = ((tt, record { sfits = lt }), each)
 
 pub null_array_fits : {A : Type 0} (c : Codec A) → (nullable_array c).Fits None
 unfolding nullable nullable_counted int

@@ -6,7 +6,7 @@ use Rattle.std.proofs.lemmas.Bool.{cases_eq}
 use Rattle.std.specs.FinMap.{get, insert, remove}
 use Rattle.kb_store.proofs.Maps.{get_inserted, get_removed}
 use Rattle.kb_store.specs.Disk.{Files, Table}
-use Rattle.kb_store.specs.Loss.{Loss, IsLawfulLoss, Goes, Same, Makes, Tears, Drops, Clears, found_of}
+use Rattle.kb_store.specs.Loss.{Loss, IsLawfulLoss, Goes, Makes, Tears, Drops, Clears, found_of}
 use Rattle.kb_durable.specs.Standing.{AreWithin, HasFronts, Stands}
 
 -- a step that leaves the files of a table alone
@@ -25,10 +25,6 @@ none_there : {X : Type 0} (o : Option X) → o ≡ None → IsSome o → ⊥
 none_there {X} o e some = let s : IsSome {T = X} None = subst (λ p. IsSome p) e some in absurd cc
 
 -- ---- where nothing changes, and a sync
-
-pub stands_same : (table : Table) (a b : Loss) → IsLawfulLoss a → Goes Same a b → Stands table a b
-stands_same table a b timely goes = stands_by table Same a b timely
-    (λ files x y within same fronts file bytes at. let had = fronts file bytes at in (had.0, ap (λ m. get m file) same ∙ had.1)) goes
 
 pub stands_cleared : (table : Table) (a b : Loss) → IsLawfulLoss a → Goes (Clears table) a b → Stands table a b
 stands_cleared table a b timely goes = stands_by table (Clears table) a b timely

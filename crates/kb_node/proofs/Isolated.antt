@@ -16,7 +16,7 @@ use Rattle.kb_isolation_spec.proofs.Parts.{calm-first, calm-then, grows-same, gr
 use Rattle.kb_isolation_spec.proofs.Runs.{run-step, those_sent-append}
 use Rattle.kb_broker.specs.Hosts.{OnStore, is_honest}
 use Rattle.kb_broker.specs.Runs.{Leads, numbers_of_lines}
-use Rattle.kb_node.specs.Traffic.{Along, AreDone, Commit, Deed, Event, IsDone, Take, events_of}
+use Rattle.kb_node.specs.Traffic.{Along, AreDone, Commit, Deed, Event, Fail, IsDone, Take, events_of}
 use Rattle.kb_node.specs.Got.{AreIsolated, HasGot, taken_of}
 use Rattle.kb_node.proofs.PutBack.{IsNew, all_back, back-destiny, back-heard, back-stepped, put_back, view_back}
 
@@ -26,25 +26,28 @@ abbrev IsMade : Deed → BrokerState → BrokerState → Type 0
 IsMade (Event e) x y = IsStep e x y × ((ended : List Sent) × Leads e x y ended)
 IsMade (Take n bytes) x y = (y ≡ taken x n) × (bytes ≡ output_of n x)
 IsMade Commit x y = y ≡ x
+IsMade Fail x y = y ≡ x
 
-honest_one : {S : Type 0} (disk : S → Disk) (d : Deed) (a b : OnStore S) → IsDone disk d a b → is_honest disk b → is_honest disk a
-honest_one disk (Event e) a b h honest = h.honest honest
-honest_one disk (Take n bytes) a b h honest = subst (λ s. (disk s).honest) (ap (λ x. x.store) h.0) honest
-honest_one disk Commit a b h honest = h.honest honest
+honest_one : {S : Type 0} (disk : S → Disk) (known : Deed → S → Type 0) (d : Deed) (a b : OnStore S) → IsDone disk known d a b → is_honest disk b → is_honest disk a
+honest_one disk known (Event e) a b h honest = h.honest honest
+honest_one disk known (Take n bytes) a b h honest = subst (λ s. (disk s).honest) (ap (λ x. x.store) h.0) honest
+honest_one disk known Commit a b h honest = h.0.honest honest
+honest_one disk known Fail a b h honest = h.0.honest honest
 
-honest_all : {S : Type 0} (disk : S → Disk) (ds : List Deed) (a b : OnStore S) → AreDone disk ds a b → is_honest disk b → is_honest disk a
-honest_all disk [] a b h honest = subst (is_honest disk) h honest
-honest_all disk (d ∷ ds) a b h honest = honest_one disk d a h.0 h.1 (honest_all disk ds h.0 b h.2 honest)
+honest_all : {S : Type 0} (disk : S → Disk) (known : Deed → S → Type 0) (ds : List Deed) (a b : OnStore S) → AreDone disk known ds a b → is_honest disk b → is_honest disk a
+honest_all disk known [] a b h honest = subst (is_honest disk) h honest
+honest_all disk known (d ∷ ds) a b h honest = honest_one disk known d a h.0 h.1 (honest_all disk known ds h.0 b h.2 honest)
 
-made_one : {S : Type 0} (disk : S → Disk) (d : Deed) (a b : OnStore S) → IsDone disk d a b → is_honest disk b → IsMade d a.state b.state
-made_one disk (Event e) a b h honest = (h.step honest, h.leads)
-made_one disk (Take n bytes) a b h honest = (ap (λ x. x.state) h.0, h.1)
-made_one disk Commit a b h honest = h.state honest
+made_one : {S : Type 0} (disk : S → Disk) (known : Deed → S → Type 0) (d : Deed) (a b : OnStore S) → IsDone disk known d a b → is_honest disk b → IsMade d a.state b.state
+made_one disk known (Event e) a b h honest = (h.step honest, h.leads)
+made_one disk known (Take n bytes) a b h honest = (ap (λ x. x.state) h.0, h.1)
+made_one disk known Commit a b h honest = h.0.state honest
+made_one disk known Fail a b h honest = h.0.state honest
 
-made_all : {S : Type 0} (disk : S → Disk) (ds : List Deed) (a b : OnStore S) → AreDone disk ds a b → is_honest disk b → Along IsMade ds a.state b.state
-made_all disk [] a b h honest = ap (λ x. x.state) h
-made_all disk (d ∷ ds) a b h honest =
-    (h.0.state, made_one disk d a h.0 h.1 (honest_all disk ds h.0 b h.2 honest), made_all disk ds h.0 b h.2 honest)
+made_all : {S : Type 0} (disk : S → Disk) (known : Deed → S → Type 0) (ds : List Deed) (a b : OnStore S) → AreDone disk known ds a b → is_honest disk b → Along IsMade ds a.state b.state
+made_all disk known [] a b h honest = ap (λ x. x.state) h
+made_all disk known (d ∷ ds) a b h honest =
+    (h.0.state, made_one disk known d a h.0 h.1 (honest_all disk known ds h.0 b h.2 honest), made_all disk known ds h.0 b h.2 honest)
 
 grows_taken : (x : BrokerState) (k : ℕ) → Grows x (taken x k)
 grows_taken x k = record { setup = refl; names = refl; own = λ t. omega arith; unbound = omega arith }
@@ -53,6 +56,7 @@ grows_one : (d : Deed) (x y : BrokerState) → IsMade d x y → Grows x y
 grows_one (Event e) x y h = h.0.grows
 grows_one (Take k bytes) x y h = subst (Grows x) (sym h.0) (grows_taken x k)
 grows_one Commit x y h = subst (Grows x) (sym h) (grows-same x)
+grows_one Fail x y h = subst (Grows x) (sym h) (grows-same x)
 
 grows_all : (ds : List Deed) (x y : BrokerState) → Along IsMade ds x y → Grows x y
 grows_all [] x y h = subst (Grows x) (sym h) (grows-same x)
@@ -449,6 +453,8 @@ module _ (t n : ℕ) (mine : ℕ → Bool) (own : mine n ≡ true) where
       subst (λ y. IsToldOn n tried (before n) [] x y (sent_on [] before x)) (sym h) (got_end tried before x rises none)
   told_on (Commit ∷ ds) tried before x to h in_order rises none m calm =
       told_on ds tried before x to (subst (λ y. Along IsMade ds y to) h.1 h.2) in_order rises none m calm
+  told_on (Fail ∷ ds) tried before x to h in_order rises none m calm =
+      told_on ds tried before x to (subst (λ y. Along IsMade ds y to) h.1 h.2) in_order rises none m calm
   told_on (Take k bytes ∷ ds) tried before x to h in_order rises none m calm =
       let after = and_more k bytes before in
       let rest = told_on ds tried after (taken x k) to (subst (λ y. Along IsMade ds y to) h.1.0 h.2) in_order (rises_taken k 0 tried x.lines rises)
@@ -550,16 +556,17 @@ none_back : (ls : List Line) → all_back (λ n. []) ls ≡ ls
 none_back [] = refl
 none_back (l ∷ ls) = ap (λ ms. l ∷ ms) (none_back ls)
 
-pub isolated : {S : Type 0} (disk : S → Disk) (tried : ℕ) (deeds : List Deed) (a b : OnStore S) → AreDone disk deeds a b → IsRun tried (events_of deeds)
+pub isolated : {S : Type 0} (disk : S → Disk) (known : Deed → S → Type 0) (tried : ℕ) (deeds : List Deed) (a b : OnStore S)
+    → AreDone disk known deeds a b → IsRun tried (events_of deeds)
     → Rising 0 a.state.last a.state.lines → a.state.last ≤ tried → is_honest disk b → AreIsolated deeds a.state b.state
-isolated disk tried deeds a b done in_order rises le honest = record {
+isolated disk known tried deeds a b done in_order rises le honest = record {
   owned = λ t calm n own. got t n (owned_by t (events_of deeds) a.state) own (owned-mine t (events_of deeds) a.state rises) calm;
   unowned = λ sound n none calm. got (length a.state.tenants) n (only n) (its n) (unowned-mine n (events_of deeds) a.state sound none)
       (calm-nobody a.state b.state (grows_all deeds a.state b.state made) calm);
 }
   where
     made : Along IsMade deeds a.state b.state
-    made = made_all disk deeds a b done honest
+    made = made_all disk known deeds a b done honest
 
     its : (n : ℕ) → only n n ≡ true
     its n = grind (arith, nat_tests)

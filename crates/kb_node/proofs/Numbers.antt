@@ -10,14 +10,14 @@ use Rattle.kb_store.specs.Disk.{Disk}
 use Rattle.kb_node.specs.declared.socket.Socket.{Socket}
 use Rattle.kb_node.specs.Commits.{Host}
 use Rattle.kb_node.specs.Cores.{Core, Seen, core, cores, seen}
-use Rattle.kb_node.specs.Moves.{Carry, Goes, IsMoved, IsTurn, Leave, LeaveAt, Move, Open, Settle}
+use Rattle.kb_node.specs.Moves.{Carry, GoesWith, IsMoved, IsTurn, Leave, LeaveAt, Move, Open, Settle}
+use Rattle.kb_node.specs.Traffic.{Along, Deed}
 use Rattle.kb_node.specs.Numbers.{IsInOrder, Rise, socket_of}
-use Rattle.kb_node.specs.Traffic.{Along}
 use Rattle.kb_node.specs.Waiting.{socket_at}
 
 -- 1. In order
 
-rises_by : (low last : ℕ) (ns : List ℕ) → Rise low last ns → low ≤ last
+pub rises_by : (low last : ℕ) (ns : List ℕ) → Rise low last ns → low ≤ last
 rises_by low last [] r = r
 rises_by low last (n ∷ ns) r = omega (arith, r.0, rises_by n last ns r.1)
 
@@ -249,13 +249,13 @@ searched_place {S} {T} h xs ls n r o same is rises within found =
 
 -- 6. Turns
 
-moved : {S T : Type 0} (x : Seen S T) (tried : ℕ) (cs : List (Core T)) → x.host.tried ≡ tried → x.sockets ≡ cs
+pub moved : {S T : Type 0} (x : Seen S T) (tried : ℕ) (cs : List (Core T)) → x.host.tried ≡ tried → x.sockets ≡ cs
     → Rise 0 tried (map (λ c. c.connection) cs) → IsInOrder x
 moved {S} {T} x tried cs is same r = subst (λ k. Rise 0 k (map (λ c. c.connection) x.sockets)) (sym is)
     (subst (λ (ds : List (Core T)). Rise 0 tried (map (λ c. c.connection) ds)) (sym same) r)
 
-module _ {S T : Type 0} (disk : S → Disk) (contents remaining : T → Option (List ℕ)) where
-  move_keeps : (m : Move) (from to : Seen S T) → IsMoved disk contents remaining m from to → IsInOrder from → IsInOrder to
+module _ {S T : Type 0} (disk : S → Disk) (known : Deed → S → Type 0) (contents remaining : T → Option (List ℕ)) where
+  pub move_keeps : (m : Move) (from to : Seen S T) → IsMoved disk known contents remaining m from to → IsInOrder from → IsInOrder to
   move_keeps (Open n) from to h r = ⊎_elim
       (λ same. moved to n from.sockets h.tried same (rise_up 0 from.host.tried n (map (λ c. c.connection) from.sockets) (omega (arith, h.rises)) r))
       (λ joined. moved to n _ h.tried joined.1.behind (rise_append (λ c. c.connection) 0 from.host.tried from.sockets _ r h.rises))
@@ -268,16 +268,16 @@ module _ {S T : Type 0} (disk : S → Disk) (contents remaining : T → Option (
       (rise_remove (λ c. c.connection) 0 from.host.tried from.sockets p r)
   move_keeps Settle from to h r = moved to from.host.tried from.sockets h.tried h.sockets r
 
-  moves_keep : (ms : List Move) (from to : Seen S T) → Along (IsMoved disk contents remaining) ms from to → IsInOrder from → IsInOrder to
+  moves_keep : (ms : List Move) (from to : Seen S T) → Along (IsMoved disk known contents remaining) ms from to → IsInOrder from → IsInOrder to
   moves_keep [] from to h r = subst (λ (x : Seen S T). IsInOrder x) (sym h) r
   moves_keep (m ∷ ms) from to h r = moves_keep ms h.0 to h.2 (move_keeps m from h.0 h.1 r)
 
-pub goes_keep : {S T : Type 0} {disk : S → Disk} {contents remaining : T → Option (List ℕ)} (from to : Seen S T)
-    → Goes disk contents remaining from to → IsInOrder from → IsInOrder to
-goes_keep {S} {T} {disk} {contents} {remaining} from to h r = moves_keep disk contents remaining h.moves from to h.done r
+pub goes_keep : {S T : Type 0} {disk : S → Disk} {known : Deed → S → Type 0} {contents remaining : T → Option (List ℕ)} (from to : Seen S T)
+    → GoesWith disk known contents remaining from to → IsInOrder from → IsInOrder to
+goes_keep {S} {T} {disk} {known} {contents} {remaining} from to h r = moves_keep disk known contents remaining h.moves from to h.done r
 
-pub turn_keeps : {S T : Type 0} {disk : S → Disk} {contents remaining : T → Option (List ℕ)} (now : ℕ) (from to : Seen S T)
-    → IsTurn disk contents remaining now from to → IsInOrder from → IsInOrder to
+pub turn_keeps : {S T : Type 0} {disk : S → Disk} {known : Deed → S → Type 0} {contents remaining : T → Option (List ℕ)} (now : ℕ) (from to : Seen S T)
+    → IsTurn disk known contents remaining now from to → IsInOrder from → IsInOrder to
 turn_keeps now from to h r = goes_keep h.begun to h.goes (moved h.begun from.host.tried from.sockets h.tried h.sockets r)
 
 pub nobody_in_order : {S T : Type 0} (x : Seen S T) → x.sockets ≡ [] → IsInOrder x

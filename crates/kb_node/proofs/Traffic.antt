@@ -7,7 +7,7 @@ use Rattle.kb_isolation_spec.specs.Machine.{Opens}
 use Rattle.kb_isolation_spec.specs.Calls.{opened, IsRefused}
 use Rattle.kb_broker.specs.Hosts.{OnStore, StepsTo}
 use Rattle.kb_broker.specs.Runs.{unkept}
-use Rattle.kb_node.specs.Traffic.{Along, Happens}
+use Rattle.kb_node.specs.Traffic.{Along, AreDone, Commit, Deed, Event, Fail, Happens, IsDone, Take}
 
 pub along_then : {D X : Type 0} (Does : D → X → X → Type 0) (ds es : List D) (a b c : X) → Along Does ds a b → Along Does es b c → Along Does (ds ++ es) a c
 along_then Does [] es a b c h k = subst (λ x. Along Does es x c) h k
@@ -16,6 +16,20 @@ along_then Does (d ∷ ds) es a b c h k = (h.0, h.1, along_then Does ds es h.0 b
 pub all_then : {X : Type 0} (P : X → Type 0) (xs ys : List X) → AllByRecursion P xs → AllByRecursion P ys → AllByRecursion P (xs ++ ys)
 all_then P [] ys h k = k
 all_then P (x ∷ xs) ys h k = (h.0, all_then P xs ys h.1 k)
+
+-- what is known of the store may be less
+pub done_knowing : {S : Type 0} (disk : S → Disk) (known less : Deed → S → Type 0) → ((d : Deed) (s : S) → known d s → less d s)
+    → (d : Deed) (a b : OnStore S) → IsDone disk known d a b → IsDone disk less d a b
+done_knowing disk known less weaker (Event e) a b h = h
+done_knowing disk known less weaker (Take n bytes) a b h = (h.0, h.1, weaker (Take n bytes) b.store h.2)
+done_knowing disk known less weaker Commit a b h = (h.0, weaker Commit b.store h.1)
+done_knowing disk known less weaker Fail a b h = (h.0, weaker Fail b.store h.1)
+
+pub all_knowing : {S : Type 0} (disk : S → Disk) (known less : Deed → S → Type 0) → ((d : Deed) (s : S) → known d s → less d s)
+    → (ds : List Deed) (a b : OnStore S) → AreDone disk known ds a b → AreDone disk less ds a b
+all_knowing disk known less weaker [] a b h = h
+all_knowing disk known less weaker (d ∷ ds) a b h =
+    (h.0, done_knowing disk known less weaker d a h.0 h.1, all_knowing disk known less weaker ds h.0 b h.2)
 
 -- nothing was added, and nothing went
 pub appends_none : (known : Option (List ℕ)) → Appends known known []

@@ -6,6 +6,7 @@ use Rattle.kb_isolation_spec.specs.Broker.{BrokerState}
 use Rattle.kb_isolation_spec.specs.Calls.{output_of}
 use Rattle.kb_broker.specs.Hosts.{OnStore}
 use Rattle.kb_node.specs.declared.socket.Socket.{Socket}
+use Rattle.kb_node.specs.Known.{silent}
 use Rattle.kb_node.specs.Sockets.{is_held}
 use Rattle.kb_node.specs.Traffic.{Along, AreAbout, AreDone, Deed, IsUsed, Use, handed_by, is_telling, is_write, read_by, taken_by, written_by}
 
@@ -23,41 +24,56 @@ GoesOn all gone holds left = (rest : List ℕ) × (all ≡ gone ++ rest) × (hol
 
 -- What a socket did to the broker was about its own connection alone. What it wrote to its stream is what was unwritten, and then what was
 -- taken. What it handed on is what was kept, and then what was read. Nothing is lost but at the end, and what was read but for want of
--- memory, which is the end.
-pub record Carries {S T : Type 0} (disk : S → Disk) (contents remaining : T → Option (List ℕ)) (old new : Socket T)
-    (from to : OnStore S) : Type 0 where
+-- memory, which is the end. That is known of the store whenever output is taken.
+pub record CarriesWith {S T : Type 0} (disk : S → Disk) (known : Deed → S → Type 0) (contents remaining : T → Option (List ℕ))
+    (old new : Socket T) (from to : OnStore S) : Type 0 where
   pub deeds : List Deed
   pub uses : List Use
   pub about : AreAbout old.connection deeds
-  pub done : AreDone disk deeds from to
+  pub done : AreDone disk known deeds from to
   pub used : Along (IsUsed contents remaining) uses old.stream new.stream
   pub writes : GoesOn (unwritten_of old ++ flat_map taken_by deeds) (flat_map written_by uses) (new.is_ended ≡ false) (unwritten_of new)
-  pub hands_on : GoesOn (unhanded_of old ++ flat_map read_by uses) (flat_map handed_by deeds) ((new.is_over || new.is_ended) ≡ false)
+  pub hands_on : GoesOn (unhanded_of old ++ flat_map read_by uses) (flat_map handed_by deeds) ((new.is_lost || new.is_ended) ≡ false)
       (unhanded_of new)
   -- where the peer is gone it stays so, and nothing is read or handed on
   pub over : old.is_over ≡ true → (new.is_over ≡ true) × (flat_map read_by uses ≡ []) × (flat_map handed_by deeds ≡ [])
+  -- where some of what was read is lost it stays so, and nothing more is read or handed on
+  pub lost : old.is_lost ≡ true → (new.is_lost ≡ true) × (flat_map read_by uses ≡ []) × (flat_map handed_by deeds ≡ [])
+  -- where it is lost now, the peer is taken to be gone
+  pub gone : old.is_lost ≡ false → new.is_lost ≡ true → new.is_over ≡ true
+
+-- The same, and no output was taken.
+abbrev pub Carries : {S T : Type 0} → (S → Disk) → (T → Option (List ℕ)) → (T → Option (List ℕ)) → Socket T → Socket T
+    → OnStore S → OnStore S → Type 0
+Carries disk contents remaining old new from to = CarriesWith disk silent contents remaining old new from to
 
 -- What was carried was told alone: output was taken and written, or the connection was closed. Nothing was read, no piece came, and the
 -- store stays.
-pub record IsTold {S T : Type 0} {disk : S → Disk} {contents remaining : T → Option (List ℕ)} {old new : Socket T} {from to : OnStore S}
-    (carries : Carries disk contents remaining old new from to) : Type 0 where
+pub record IsTold {S T : Type 0} {disk : S → Disk} {known : Deed → S → Type 0} {contents remaining : T → Option (List ℕ)}
+    {old new : Socket T} {from to : OnStore S} (carries : CarriesWith disk known contents remaining old new from to) : Type 0 where
   pub deeds : AllByRecursion (λ d. is_telling d ≡ true) carries.deeds
   pub uses : AllByRecursion (λ u. is_write u ≡ true) carries.uses
   pub store : to.store ≡ from.store
 
--- A socket told what there was to say to its connection, and carried nothing else.
-pub record Tells {S T : Type 0} (disk : S → Disk) (contents remaining : T → Option (List ℕ)) (old new : Socket T)
-    (from to : OnStore S) : Type 0 where
-  pub carries : Carries disk contents remaining old new from to
+-- A socket told what there was to say to its connection, and carried nothing else. That is known of the store whenever output is taken.
+pub record TellsWith {S T : Type 0} (disk : S → Disk) (known : Deed → S → Type 0) (contents remaining : T → Option (List ℕ))
+    (old new : Socket T) (from to : OnStore S) : Type 0 where
+  pub carries : CarriesWith disk known contents remaining old new from to
   pub told : IsTold carries
+
+-- The same, and no output was taken: it wrote what was taken before, or its connection was closed.
+abbrev pub Tells : {S T : Type 0} → (S → Disk) → (T → Option (List ℕ)) → (T → Option (List ℕ)) → Socket T → Socket T
+    → OnStore S → OnStore S → Type 0
+Tells disk contents remaining old new from to = TellsWith disk silent contents remaining old new from to
 
 -- A piece was read where so much was kept: what of both was handed on is in front, as pieces on its own connection.
 pub record HandsOn {S T : Type 0} (disk : S → Disk) (old new : Socket T) (piece : List ℕ) (from to : OnStore S) : Type 0 where
   pub deeds : List Deed
   pub about : AreAbout old.connection deeds
-  pub done : AreDone disk deeds from to
+  pub done : AreDone disk silent deeds from to
   pub none_taken : flat_map taken_by deeds ≡ []
-  pub hands_on : GoesOn (unhanded_of old ++ piece) (flat_map handed_by deeds) ((new.is_over || new.is_ended) ≡ false) (unhanded_of new)
+  pub hands_on : GoesOn (unhanded_of old ++ piece) (flat_map handed_by deeds) ((new.is_lost || new.is_ended) ≡ false) (unhanded_of new)
+  pub gone : old.is_lost ≡ false → new.is_lost ≡ true → new.is_over ≡ true
 
 -- Either all that was said to a socket's connection is written, or the broker has nothing more to say to it.
 abbrev pub TellsInTurn : {T : Type 0} → Socket T → BrokerState → Type 0

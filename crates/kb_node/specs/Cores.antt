@@ -5,13 +5,14 @@ use Rattle.kb_node.specs.declared.socket.Socket.{Socket}
 use Rattle.kb_node.specs.Carries.{unhanded_of, unwritten_of}
 use Rattle.kb_node.specs.Commits.{Host}
 
--- the connection of a socket, its stream, what was said to it and is not written, what was read on it and is not handed on, and whether its
--- connection is closed
+-- the connection of a socket, its stream, what was said to it and is not written, what was read on it and is not handed on, whether some of
+-- that was lost, and whether its connection is closed
 pub record Core (T : Type 0) : Type 0 where
   pub connection : ℕ
   pub stream : T
   pub unwritten : List ℕ
   pub unhanded : List ℕ
+  pub is_lost : Bool
   pub is_ended : Bool
 
 abbrev pub core : {T : Type 0} → Socket T → Core T
@@ -20,6 +21,7 @@ core s = record {
   stream = s.stream;
   unwritten = unwritten_of s;
   unhanded = unhanded_of s;
+  is_lost = s.is_lost;
   is_ended = s.is_ended;
 }
 

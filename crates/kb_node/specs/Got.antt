@@ -4,7 +4,7 @@ use Rattle.kb_tenant_state.specs.Counts.{IsCalm}
 use Rattle.kb_isolation_spec.specs.Session.{Session}
 use Rattle.kb_isolation_spec.specs.Machine.{Sent, find_line, those_sent}
 use Rattle.kb_isolation_spec.specs.Broker.{BrokerState, IsCalmFor, IsSound, IsUnowned, alone, alone_unowned, only, owned_by}
-use Rattle.kb_node.specs.Traffic.{Commit, Deed, Event, Take, events_of}
+use Rattle.kb_node.specs.Traffic.{Commit, Deed, Event, Fail, Take, events_of}
 
 -- the bytes that were taken of a connection, in order
 abbrev pub taken_of : ℕ → List Deed → List ℕ
@@ -12,6 +12,7 @@ taken_of n [] = []
 taken_of n (Event e ∷ ds) = taken_of n ds
 taken_of n (Take k bytes ∷ ds) = if n == k then bytes ++ taken_of n ds else taken_of n ds
 taken_of n (Commit ∷ ds) = taken_of n ds
+taken_of n (Fail ∷ ds) = taken_of n ds
 
 -- What a connection got of which those bytes were taken. One that is open got those, and then what it has still to be told, and was shut as it
 -- is now, for the same cause. One that is not open never was, or it got those, and then what was dropped as it closed.

@@ -18,11 +18,12 @@ Along {D} {X} Does (d ∷ ds) old new = (next : X) × Does d old next × Along D
 
 -- 2. What is done to a broker
 
--- an event, a take of a connection's output, with the bytes that it gave, or a commit
+-- an event, a take of a connection's output, with the bytes that it gave, a commit, or one that was refused
 pub data Deed : Type 0 where
   Event : (happening : Happening) → Deed
   Take : (number : ℕ) (bytes : List ℕ) → Deed
   Commit : Deed
+  Fail : Deed
 
 -- An event: a step, unless the store lied, and it had told the truth before if it still does. The number of a connection that opens is
 -- above all before, and no moment is after 2 ^ 62.
@@ -37,14 +38,17 @@ pub record IsCommitted {S : Type 0} (disk : S → Disk) (old new : OnStore S) : 
   pub state : is_honest disk new → new.state ≡ old.state
   pub honest : is_honest disk new → is_honest disk old
 
-abbrev pub IsDone : {S : Type 0} → (S → Disk) → Deed → OnStore S → OnStore S → Type 0
-IsDone disk (Event e) old new = Happens disk e old new
-IsDone disk (Take n bytes) old new = (new ≡ record old { state = taken old.state n }) × (bytes ≡ output_of n old.state)
-IsDone disk Commit old new = IsCommitted disk old new
+-- A deed is done, and that is known of the store then: of an event nothing is.
+abbrev pub IsDone : {S : Type 0} → (S → Disk) → (Deed → S → Type 0) → Deed → OnStore S → OnStore S → Type 0
+IsDone disk known (Event e) old new = Happens disk e old new
+IsDone disk known (Take n bytes) old new =
+    (new ≡ record old { state = taken old.state n }) × (bytes ≡ output_of n old.state) × known (Take n bytes) new.store
+IsDone disk known Commit old new = IsCommitted disk old new × known Commit new.store
+IsDone disk known Fail old new = IsCommitted disk old new × known Fail new.store
 
 -- all of them are done, one after another
-abbrev pub AreDone : {S : Type 0} → (S → Disk) → List Deed → OnStore S → OnStore S → Type 0
-AreDone disk deeds old new = Along (IsDone disk) deeds old new
+abbrev pub AreDone : {S : Type 0} → (S → Disk) → (Deed → S → Type 0) → List Deed → OnStore S → OnStore S → Type 0
+AreDone disk known deeds old new = Along (IsDone disk known) deeds old new
 
 -- the connection that an event is about, which is open before it
 abbrev pub connection_in : Happening → Option ℕ
@@ -58,6 +62,7 @@ abbrev pub connection_of : Deed → Option ℕ
 connection_of (Event e) = connection_in e
 connection_of (Take n bytes) = Some n
 connection_of Commit = None
+connection_of Fail = None
 
 -- all of them are about that connection
 abbrev pub AreAbout : ℕ → List Deed → Type 0
@@ -68,6 +73,7 @@ abbrev pub taken_by : Deed → List ℕ
 taken_by (Event e) = []
 taken_by (Take n bytes) = bytes
 taken_by Commit = []
+taken_by Fail = []
 
 -- the bytes that came in an event
 abbrev pub piece_in : Happening → List ℕ
@@ -81,6 +87,7 @@ abbrev pub handed_by : Deed → List ℕ
 handed_by (Event e) = piece_in e
 handed_by (Take n bytes) = []
 handed_by Commit = []
+handed_by Fail = []
 
 -- the events among them, in order
 abbrev pub events_of : List Deed → List Happening
@@ -88,6 +95,7 @@ events_of [] = []
 events_of (Event e ∷ ds) = e ∷ events_of ds
 events_of (Take n bytes ∷ ds) = events_of ds
 events_of (Commit ∷ ds) = events_of ds
+events_of (Fail ∷ ds) = events_of ds
 
 -- the greatest number that a connection had, after events
 abbrev pub tried_after : ℕ → List Happening → ℕ
@@ -102,6 +110,7 @@ is_moment (Event (Closes n)) = false
 is_moment (Event (Moment now)) = true
 is_moment (Take n bytes) = false
 is_moment Commit = false
+is_moment Fail = false
 
 -- whether it takes output or closes a connection
 abbrev pub is_telling : Deed → Bool
@@ -111,6 +120,7 @@ is_telling (Event (Closes n)) = true
 is_telling (Event (Moment now)) = false
 is_telling (Take n bytes) = true
 is_telling Commit = false
+is_telling Fail = false
 
 -- the moments among them, in order
 abbrev pub moments_of : List Deed → List ℕ
@@ -121,6 +131,7 @@ moments_of (Event (Closes n) ∷ ds) = moments_of ds
 moments_of (Event (Moment now) ∷ ds) = now ∷ moments_of ds
 moments_of (Take n bytes ∷ ds) = moments_of ds
 moments_of (Commit ∷ ds) = moments_of ds
+moments_of (Fail ∷ ds) = moments_of ds
 
 -- 3. What is done to a stream
 

@@ -64,6 +64,13 @@ impl Commits {
         self.fault
     }
 
+    /// The moment of the last commit, 0 before the first.
+    pub fn last(&self) -> u64
+        ensures { result ≡ self.now.last }
+    {
+        self.last
+    }
+
     /// Whether it is known that all that was done lasts.
     pub fn is_committed(&self) -> bool
         ensures { result ≡ self.now.is_committed }

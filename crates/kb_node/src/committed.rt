@@ -1,6 +1,6 @@
 //! A broker whose replies may wait until what was done lasts.
 
-ghost use Rattle.std.specs.Prelude.{◌≡◌, ◌≤◌, ◌<◌, ◌+◌, ◌-◌, ◌^◌, true, false, max, None, Some, Err, IfSome, IfErr, OnErr, OnOk};
+ghost use Rattle.std.specs.Prelude.{◌≡◌, ◌≤◌, ◌<◌, ◌+◌, ◌-◌, ◌^◌, ◌⊎◌, true, false, max, None, Some, Err, IfSome, IfErr, OnErr, OnOk};
 ghost use Rattle.kb_isolation_spec.specs.Machine.{Opens, Comes, Closes, Moment};
 ghost use Rattle.kb_isolation_spec.specs.Calls.{closed, taken, output_of, opened, IsRefused};
 ghost use Rattle.kb_broker.specs.Places.{numbers};
@@ -148,12 +148,13 @@ impl<S: Store, L: PartitionLog + Drop> Committed<S, L> {
     /// Makes all that was done before last through a loss of power, where that is not known. Once it was refused it is refused for ever.
     pub fn commit(&mut self, now: u64) -> Result<(), StoreFault>
         ensures commits { IsCommitted S.disk self.old.broker self.new.broker }
-        ensures ok { OnOk result ((self.new.commits.sync ≡ self.old.commits.sync) × (self.new.commits.is_committed ≡ true)) }
+        ensures ok { OnOk result (self.new.commits.is_committed ≡ true) }
         ensures lasts { OnOk result (Lasts S.settled S.disk S.loss self.new.broker.store) }
         ensures well { OnOk result ((self.old.commits.fault ≡ None) × (self.new.commits.fault ≡ None)) }
         ensures refused { IfErr result (λ fault. self.new.commits.fault ≡ Some fault) }
         ensures dead { IfSome self.old.commits.fault (λ fault. (result ≡ Err fault) × (self.new ≡ self.old)) }
         ensures known { self.old.commits.is_committed ≡ true → self.new ≡ self.old }
+        ensures sync { self.new.commits.sync ≡ self.old.commits.sync }
         ensures tried { self.new.tried ≡ self.old.tried }
         ensures state { is_honest S.disk self.new.broker → self.new.broker.state ≡ self.old.broker.state }
     {
@@ -178,7 +179,9 @@ impl<S: Store, L: PartitionLog + Drop> Committed<S, L> {
     /// The same where it is due.
     pub fn commit_in_time(&mut self, now: u64) -> Result<(), StoreFault>
         ensures commits { IsCommitted S.disk self.old.broker self.new.broker }
-        ensures sync { OnOk result (self.new.commits.sync ≡ self.old.commits.sync) }
+        ensures sync { self.new.commits.sync ≡ self.old.commits.sync }
+        // Where nothing was due nothing was done, and else all that was done before lasts.
+        ensures lasts { OnOk result ((self.new ≡ self.old) ⊎ Lasts S.settled S.disk S.loss self.new.broker.store) }
         ensures well { OnOk result (self.new.commits.fault ≡ None) }
         ensures due { OnOk result (is_due now self.new.commits ≡ false) }
         ensures tried { self.new.tried ≡ self.old.tried }

@@ -4,7 +4,8 @@ ghost use Rattle.std.specs.Prelude.{◌≡◌, ◌≤◌, ◌<◌, ◌*◌, ◌^
 ghost use Rattle.std.specs.Prelude.{option_map, replicate, slice_get, vec_len};
 ghost use Rattle.kb_isolation_spec.specs.Machine.{Moment};
 ghost use Rattle.kb_node.specs.Cores.{cores, seen};
-ghost use Rattle.kb_node.specs.Moves.{Goes, IsJoined, IsRunOf, IsTurn};
+ghost use Rattle.kb_node.specs.Known.{lasting};
+ghost use Rattle.kb_node.specs.Moves.{Goes, GoesWith, IsJoined, IsRunOf, IsTurn};
 ghost use Rattle.kb_node.specs.Numbers.{IsInOrder, socket_of};
 ghost use Rattle.kb_node.specs.Seats.{AreSeated, AreSeated-prop};
 ghost use Rattle.kb_node.specs.SocketShares.{IsGiven};
@@ -160,6 +161,7 @@ impl<R: Net, S: Store, L: PartitionLog + Drop> Edge<R, S, L> {
         ensures empty { IfOk result (λ edge. vec_len edge.sockets ≡ 0) }
         ensures host { IfOk result (λ edge. (edge.host.broker ≡ broker) × (edge.host.tried ≡ broker.state.last)) }
         ensures fault { IfOk result (λ edge. edge.host.commits.fault ≡ None) }
+        ensures sync { IfOk result (λ edge. edge.host.commits.sync ≡ limits.sync) }
     {
         Edge::open(net, alloc, broker, address, limits, None)
     }
@@ -176,6 +178,7 @@ impl<R: Net, S: Store, L: PartitionLog + Drop> Edge<R, S, L> {
         ensures empty { IfOk result (λ edge. vec_len edge.sockets ≡ 0) }
         ensures host { IfOk result (λ edge. (edge.host.broker ≡ broker) × (edge.host.tried ≡ broker.state.last)) }
         ensures fault { IfOk result (λ edge. edge.host.commits.fault ≡ None) }
+        ensures sync { IfOk result (λ edge. edge.host.commits.sync ≡ limits.sync) }
     {
         match Watch::new(net, alloc) {
             Ok(watch) => Edge::open(net, alloc, broker, address, limits, Some(watch)),
@@ -204,6 +207,7 @@ impl<R: Net, S: Store, L: PartitionLog + Drop> Edge<R, S, L> {
         ensures empty { IfOk result (λ edge. vec_len edge.sockets ≡ 0) }
         ensures host { IfOk result (λ edge. (edge.host.broker ≡ broker) × (edge.host.tried ≡ broker.state.last)) }
         ensures fault { IfOk result (λ edge. edge.host.commits.fault ≡ None) }
+        ensures sync { IfOk result (λ edge. edge.host.commits.sync ≡ limits.sync) }
         ensures login { IfOk result (λ edge. edge.strangers.millis ≡ limits.login_seconds * 1000) }
         ensures reply { IfOk result (λ edge. edge.reply_millis ≡ limits.reply_seconds * 1000) }
         ensures strangers { IfOk result (λ edge. edge.stranger_limit ≡ limits.strangers) }
@@ -325,16 +329,6 @@ impl<R: Net, S: Store, L: PartitionLog + Drop> Edge<R, S, L> {
         &self.reader_waits
     }
 
-    /// The port that is listened on.
-    pub fn port(&self) -> u16 {
-        self.doors.port()
-    }
-
-    /// The addresses that are listened on.
-    pub fn addresses(&self) -> &[SocketAddr] {
-        self.doors.addresses()
-    }
-
     /// The broker.
     pub fn broker(&self) -> &Broker<S, L>
         ensures { result.now ≡ self.now.host.broker }
@@ -361,9 +355,11 @@ impl<R: Net, S: Store, L: PartitionLog + Drop> Edge<R, S, L> {
         ensures refused { IfErr result (λ fault. self.new.host.commits.fault ≡ Some fault) }
         ensures well { OnOk result (self.new.host.commits.fault ≡ None) }
         ensures dead { IfSome self.old.host.commits.fault (λ fault. (result ≡ Err fault) × (self.new ≡ self.old)) }
-        ensures turn { self.old.host.commits.fault ≡ None → IsTurn S.disk R.Stream.contents R.Stream.remaining now
-            (seen self.old.host self.old.sockets.items) (seen self.new.host self.new.sockets.items) }
-        ensures run { self.old.host.commits.fault ≡ None → IsRunOf S.disk now self.old.host self.new.host }
+        ensures turn { self.old.host.commits.fault ≡ None → IsTurn S.disk (lasting S.settled S.disk S.loss self.new.host.commits)
+            R.Stream.contents R.Stream.remaining now (seen self.old.host self.old.sockets.items)
+            (seen self.new.host self.new.sockets.items) }
+        ensures run { self.old.host.commits.fault ≡ None → IsRunOf S.disk
+            (lasting S.settled S.disk S.loss self.new.host.commits) now self.old.host self.new.host }
     {
         if let Some(fault) = self.host.commits().fault() {
             return Err(fault);
@@ -382,6 +378,7 @@ impl<R: Net, S: Store, L: PartitionLog + Drop> Edge<R, S, L> {
         requires { now ≤ 2 ^ 62 }
         ensures moment { Happens S.disk (Moment now) self.old.host.broker self.new.host.broker }
         ensures tried { self.new.host.tried ≡ self.old.host.tried }
+        ensures sync { self.new.host.commits.sync ≡ self.old.host.commits.sync }
         ensures sockets { cores self.new.sockets.items ≡ cores self.old.sockets.items }
     {
         self.news.clear();
@@ -420,12 +417,12 @@ impl<R: Net, S: Store, L: PartitionLog + Drop> Edge<R, S, L> {
     /// The sockets that can go on are served: all before one commit where replies wait for it, and else one after another.
     ///
     /// An `Err` is that of a commit, behind which nothing goes out.
-    #[tactic(auto, using(crate::proofs::Goes::goes_then, crate::proofs::Goes::goes_none, crate::proofs::Goes::goes_committed))]
+    #[tactic(auto, using(crate::proofs::Goes::goes_then, crate::proofs::Goes::goes_none))]
     fn answer(&mut self, alloc: Global, now: u64, turn: &mut Turn) -> Result<(), StoreFault>
         ensures refused { IfErr result (λ fault. self.new.host.commits.fault ≡ Some fault) }
         ensures well { OnOk result (self.new.host.commits.fault ≡ None) }
-        ensures goes { Goes S.disk R.Stream.contents R.Stream.remaining (seen self.old.host self.old.sockets.items)
-            (seen self.new.host self.new.sockets.items) }
+        ensures goes { GoesWith S.disk (lasting S.settled S.disk S.loss self.new.host.commits) R.Stream.contents R.Stream.remaining
+            (seen self.old.host self.old.sockets.items) (seen self.new.host self.new.sockets.items) }
     {
         if self.host.commits().holds_back() {
             return self.serve_together(alloc, turn);

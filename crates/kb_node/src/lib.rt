@@ -44,7 +44,9 @@ pub use kb_store::{Store, StoreFault};
 pub use limits::Limits;
 pub use news::{LoginAttempt, News};
 pub use promises::{
-    a_turn_goes_on_with_the_run, sockets_stand_by_number, turns_are_a_run, turns_keep_tenants_apart,
+    a_turn_goes_on_with_the_run, clients_are_sent_what_machines_write,
+    each_connection_has_one_socket, sockets_stand_by_number, turns_are_a_run,
+    turns_keep_tenants_apart,
 };
 pub use reader_waits::ReaderWaits;
 pub use replies::{input_shares, reply_shares};

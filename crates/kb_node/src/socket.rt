@@ -61,6 +61,8 @@ pub struct Socket<T> {
     is_half_closed: bool,
     /// Whether the peer has closed, or a read or a write failed.
     is_over: bool,
+    /// Whether some of what was read was lost for want of memory. Then it is over, too.
+    is_lost: bool,
     /// Whether its connection is closed.
     is_ended: bool,
     /// Whether it was told of that its connection has logged in.
@@ -100,6 +102,7 @@ impl<T: Read + Write + Drop> Socket<T> {
         ensures connection { result.connection ≡ connection }
         ensures stream { result.stream ≡ stream }
         ensures open { result.is_ended ≡ false }
+        ensures whole { result.is_lost ≡ false }
         ensures stranger { (result.is_known ≡ false) × (result.is_bound ≡ false) }
         ensures unwritten { drop result.written result.output.items ≡ [] }
         ensures unhanded { drop result.input.handed result.input.bytes.items ≡ [] }
@@ -115,6 +118,7 @@ impl<T: Read + Write + Drop> Socket<T> {
             can_read: true,
             is_half_closed: false,
             is_over: false,
+            is_lost: false,
             is_ended: false,
             is_known: false,
             is_denied: false,

@@ -78,6 +78,9 @@ pub struct Closed {
 /// How many tenants stand in a line at most: it stays below 4,096 bytes, with names of 64.
 const TENANTS: usize = 30;
 
+/// A commit is told that took longer, in milliseconds.
+const LONG_COMMIT: u64 = 1000;
+
 /// What was told so far. No line is waited for ([`Lines`]).
 #[derive(Drop)]
 pub struct Journal {
@@ -247,6 +250,14 @@ impl Journal {
         if !self.is_quiet {
             self.lines
                 .tell(now, String::from_str(alloc, notice_text(notice)));
+        }
+    }
+
+    /// How long a commit took, where that was over a second.
+    pub fn tell_commit(&mut self, alloc: Global, now: u64, millis: u64) {
+        if !self.is_quiet && millis > LONG_COMMIT {
+            self.lines
+                .tell(now, format!(in alloc; "a commit took {millis} ms"));
         }
     }
 

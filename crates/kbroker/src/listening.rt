@@ -13,14 +13,16 @@ use kb_version::VERSION;
 use std::alloc::Global;
 use std::net::Net;
 
-/// Listens on every address of the settings' host. Nobody is connected yet, and the broker is as it was handed over.
-pub fn listen<S: Store + Drop, L: PartitionLog + Drop>(
+/// Listens in a network on every address of the settings' host. Nobody is connected yet, and the broker is as it was handed over.
+pub fn listen<R: Net, S: Store + Drop, L: PartitionLog + Drop>(
     rt: &HostRuntime,
+    net: &R,
     broker: Broker<S, L>,
     settings: &Settings,
-) -> Result<Edge<HostRuntime, S, L>, Fault>
+) -> Result<Edge<R, S, L>, Fault>
     ensures host { IfOk result (λ edge. (edge.host.broker ≡ broker) × (edge.host.tried ≡ broker.state.last)) }
     ensures fault { IfOk result (λ edge. edge.host.commits.fault ≡ None) }
+    ensures sync { IfOk result (λ edge. edge.host.commits.sync ≡ settings.now.sync) }
     ensures empty { IfOk result (λ edge. vec_len edge.sockets ≡ 0) }
 {
     let alloc = rt.alloc();
@@ -34,7 +36,7 @@ pub fn listen<S: Store + Drop, L: PartitionLog + Drop>(
     let Ok(inputs) = input_shares(alloc, settings) else {
         return Err(Fault::Operator(OperatorFault::Memory));
     };
-    match Edge::watching(rt, alloc, broker, &address, Limits::of(settings)) {
+    match Edge::watching(net, alloc, broker, &address, Limits::of(settings)) {
         Ok(mut edge) => {
             edge.share(shares, replies, inputs);
             let tenants = edge.broker().tenants_len();

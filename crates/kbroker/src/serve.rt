@@ -1,10 +1,14 @@
 //! `kbroker serve`: serves sockets, and tells of it.
 
-ghost use Rattle.std.specs.Prelude.{◌≡◌, ◌≤◌, ◌<◌, ◌*◌, ◌-◌, ◌/◌, ◌^◌, max, min, true, length, List, [], IfErr, IfOk, OnOk, None, Some};
+ghost use Rattle.std.specs.Prelude.{◌≡◌, ◌≢◌, ◌≤◌, ◌<◌, ◌*◌, ◌-◌, ◌/◌, ◌^◌};
+ghost use Rattle.std.specs.Prelude.{max, min, true, false, length, List, [], IfErr, IfOk, OnOk, None, Some};
 ghost use Rattle.kb_server_log.specs.Guard.{clock_after};
 ghost use Rattle.kb_server_log.specs.declared.guard.Reading.{Reading};
 ghost use Rattle.kb_node.specs.Cores.{seen};
+ghost use Rattle.kb_node.specs.Commits.{Lasts};
+ghost use Rattle.kb_node.specs.Known.{lasting};
 ghost use Rattle.kb_node.specs.Moves.{IsTurn};
+ghost use Rattle.kb_settings.specs.declared.sync.Sync.TheVariants.{Never};
 ghost use Rattle.kb_broker.specs.Hosts.{is_honest};
 ghost use Rattle.kbroker.specs.Ids.{AllGiveFresh};
 ghost use Rattle.kbroker.specs.Shortened.{may_shorten, AreShort};
@@ -15,7 +19,7 @@ use crate::ids::skip_ids;
 use crate::listening::{listen, tell_listening};
 use crate::monitoring::Monitoring;
 use crate::open::{Start, consent_of, held_now, open_on, with_consent};
-use crate::telling::tell_turn;
+use crate::telling::{tell_commit, tell_turn};
 use crate::{Fault, config};
 use clap::{Arg, ArgAction, ArgMatches, Command};
 use kb_broker::{Broker, group_limits};
@@ -131,7 +135,15 @@ fn serve_on<S: PutsOff + Drop>(
     let alloc = rt.alloc();
     let (opened, held) = open(rt, start, store, folder, journal)?;
     let found = Found { held, changed };
-    let (_edge, served) = serve_broker(rt, opened.broker, start.settings, found, folder, journal)?;
+    let (_edge, served) = serve_broker(
+        rt,
+        rt,
+        opened.broker,
+        start.settings,
+        found,
+        folder,
+        journal,
+    )?;
     match served {
         Ok(()) => Ok(()),
         Err(fault) => Err(Fault::Operator(folder.of_store(alloc, fault))),
@@ -145,23 +157,28 @@ struct Found {
     changed: Option<u64>,
 }
 
-/// Serves sockets on a broker until the turns are used up, or a commit is refused: its edge as it then is, and how that ended.
+/// Serves a network's sockets on a broker until the turns are used up, or a commit is refused: its edge as it then is, and how that
+/// ended. The network is any one whose sockets the system can wait for.
 ///
-/// What is done to the broker is one run of it, in which tenants are kept apart.
-fn serve_broker<S: Store + Drop, L: PartitionLog + Drop>(
+/// What is done to the broker is one run of it, in which tenants are kept apart, and clients are sent what the machines write. With
+/// [`Sync::Always`] output is taken only while all that was done before it lasts.
+fn serve_broker<R: Net, S: Store + Drop, L: PartitionLog + Drop>(
     rt: &HostRuntime,
+    net: &R,
     broker: Broker<S, L>,
     settings: &Settings,
     found: Found,
     folder: &mut FolderJournal,
     journal: &mut Journal,
-) -> Result<(Edge<HostRuntime, S, L>, Result<(), StoreFault>), Fault>
+) -> Result<(Edge<R, S, L>, Result<(), StoreFault>), Fault>
     requires { broker.state.lines ≡ [] }
-    ensures served { IfOk result (λ ended. IsServed S.disk broker ended.0.host) }
+    ensures served { IfOk result (λ ended. IsServed S.settled S.disk S.loss R.Stream.contents R.Stream.remaining broker
+        (seen ended.0.host ended.0.sockets.items)) }
+    ensures sync { IfOk result (λ ended. ended.0.host.commits.sync ≡ settings.now.sync) }
     ensures refused { IfOk result (λ ended. IfErr ended.1 (λ fault. ended.0.host.commits.fault ≡ Some fault)) }
 {
     let alloc = rt.alloc();
-    let mut edge = listen(rt, broker, settings)?;
+    let mut edge = listen(rt, net, broker, settings)?;
     let mut monitoring = Monitoring::open(rt, settings, &mut edge, now(rt))?;
     tell_listening(rt, &edge, folder.folder())?;
     journal.tell_found(alloc, now(rt), Word::Start, found.held);
@@ -177,6 +194,8 @@ fn serve_broker<S: Store + Drop, L: PartitionLog + Drop>(
 ///
 /// Each catalog to whose tenant nothing was refused is short then, whatever files are of no log: but with `--drop-damaged` no catalog is
 /// written anew beside such a file.
+///
+/// Unless [`Sync::Never`] is set, all that it left lasts then.
 fn open<S: PutsOff + Drop>(
     rt: &HostRuntime,
     start: Start<'_>,
@@ -188,6 +207,10 @@ fn open<S: PutsOff + Drop>(
     ensures fresh { IfOk result (λ both. is_honest S.disk both.0.broker → AllGiveFresh both.0.broker.state) }
     ensures short { IfOk result (λ both. is_honest S.disk both.0.broker
         → may_shorten start.entry.consent both.0.strays.items ≡ true → AreShort both.0.broker) }
+    // Where anything is synced, nothing is put off then, and a loss of power leaves the files as they are.
+    ensures settled { IfOk result (λ both. start.entry.settings.now.sync ≢ Never → S.settled both.0.broker.store) }
+    ensures lasts { IfOk result (λ both. start.entry.settings.now.sync ≢ Never
+        → Lasts S.settled S.disk S.loss both.0.broker.store) }
 {
     let (mut opened, _) = open_on(rt, start, store, folder, journal)?;
     let limits = group_limits(rt.alloc(), start.settings)?;
@@ -197,13 +220,24 @@ fn open<S: PutsOff + Drop>(
     if may_shorten(start.consent, &opened.strays) {
         shorten_catalogs(rt.alloc(), &mut opened.broker);
     }
-    if start.settings.sync != Sync::Never
+    if syncs(start.settings.sync)
         && let Err(fault) = settle(&mut opened.broker)
     {
         return Err(Fault::Operator(folder.of_store(rt.alloc(), fault)));
     }
     let held = held_now(rt, &opened, folder)?;
     Ok((opened, held))
+}
+
+/// Whether anything is made to last through a loss of power.
+fn syncs(sync: Sync) -> bool
+    ensures some { result ≡ true → sync ≢ Never }
+    ensures none { result ≡ false → sync ≡ Never }
+{
+    match sync {
+        Sync::Always | Sync::Interval => true,
+        Sync::Never => false,
+    }
 }
 
 /// Makes what a start left last before anybody is served: else what is acknowledged next would stand behind what was dropped. It ends
@@ -214,6 +248,7 @@ fn settle<S: Store, L: PartitionLog + Drop>(broker: &mut Broker<S, L>) -> Result
     ensures stays { is_honest S.disk broker.new → is_honest S.disk broker.old × (broker.new.state ≡ broker.old.state) }
     ensures commands { broker.new.commands ≡ broker.old.commands }
     ensures settled { OnOk result (S.settled broker.new.store) }
+    ensures lasts { OnOk result (Lasts S.settled S.disk S.loss broker.new.store) }
 {
     for _ in 0..TURNS {
         if broker.is_synced() {
@@ -237,7 +272,8 @@ fn turn_on<R: Net, S: Store, L: PartitionLog + Drop>(
     folder: &mut FolderJournal,
 ) -> Result<(), StoreFault>
     requires { edge.old.host.commits.fault ≡ None }
-    ensures turned { (readings : List Reading) × AreTurned S.disk R.Stream.contents R.Stream.remaining readings clock.old clock.new
+    ensures turned { (readings : List Reading) × AreTurned S.disk (lasting S.settled S.disk S.loss edge.new.host.commits)
+        R.Stream.contents R.Stream.remaining readings clock.old clock.new
         (seen edge.old.host edge.old.sockets.items) (seen edge.new.host edge.new.sockets.items)
         × OnOk result (length readings ≡ 2 ^ 63 - 1) }
     ensures refused { IfErr result (λ fault. edge.new.host.commits.fault ≡ Some fault) }
@@ -260,15 +296,17 @@ fn turn_once<R: Net, S: Store, L: PartitionLog + Drop>(
 ) -> Result<(), StoreFault>
     requires { edge.old.host.commits.fault ≡ None }
     ensures clock { (reading : Reading) × (clock.new ≡ clock_after clock.old reading) }
-    ensures turn { IsTurn S.disk R.Stream.contents R.Stream.remaining (clock.new.time / 2000)
-        (seen edge.old.host edge.old.sockets.items) (seen edge.new.host edge.new.sockets.items) }
+    ensures turn { IsTurn S.disk (lasting S.settled S.disk S.loss edge.new.host.commits) R.Stream.contents R.Stream.remaining
+        (clock.new.time / 2000) (seen edge.old.host edge.old.sockets.items) (seen edge.new.host edge.new.sockets.items) }
     ensures refused { IfErr result (λ fault. edge.new.host.commits.fault ≡ Some fault) }
     ensures well { OnOk result (edge.new.host.commits.fault ≡ None) }
 {
     edge.wait();
     begin_turn(rt, monitoring);
-    let tick = clock.next(Reading::of(rt));
+    let reading = Reading::of(rt);
+    let tick = clock.next(reading);
     let turned = edge.turn(rt.alloc(), tick.moment);
+    tell_commit(rt, journal, edge, reading, tick.moment);
     folder.tell(rt, journal.lines(), tick.moment);
     match turned {
         Ok(turn) => {

@@ -10,7 +10,7 @@ use kb_isolation_spec::Login;
 use kb_log::PartitionLog;
 use kb_node::{Edge, ReaderWaits, Store, Turn};
 use kb_operator::{Closed, Journal, RefusalCounts, TenantRefusals, Unread};
-use kb_server_log::{Tick, now};
+use kb_server_log::{Reading, Tick, now};
 use kb_tenants::TenantView;
 use std::net::Net;
 
@@ -118,6 +118,21 @@ pub fn tell_turn<R: Net, S: Store, L: PartitionLog + Drop>(
         slow: turn.slow,
     });
     journal.tell_counts(alloc, now, tick.moment, turn.turned_away, &counts);
+}
+
+/// Tells how long the commit of a turn took that began at a reading of the clocks and at that moment, where it had one that took over a
+/// second. What the turn was asked before the commit is in that time.
+pub fn tell_commit<R: Net, S: Store, L: PartitionLog + Drop>(
+    rt: &HostRuntime,
+    journal: &mut Journal,
+    edge: &Edge<R, S, L>,
+    begun: Reading,
+    moment: u64,
+) {
+    if edge.last_commit() == moment {
+        let micros = Reading::of(rt).steady.saturating_sub(begun.steady);
+        journal.tell_commit(rt.alloc(), now(rt), micros / 1000);
+    }
 }
 
 /// Tells the logins of a turn in a second that were right.

@@ -1,4 +1,4 @@
-//! What an edge waits for beside its sockets, and how many of these there are.
+//! What an edge waits for beside its sockets, where it listens, how many of them there are, and when its last commit was.
 
 ghost use Rattle.std.specs.Prelude.{◌≡◌, ◌<◌, false, vec_len};
 ghost use Rattle.kb_node.specs.Seats.{open_strangers, open_with};
@@ -6,7 +6,7 @@ ghost use Rattle.kb_node.specs.Seats.{open_strangers, open_with};
 use crate::edge::Edge;
 use kb_log::PartitionLog;
 use kb_store::Store;
-use std::net::Net;
+use std::net::{Net, SocketAddr};
 use std::os::fd::RawFd;
 use std::{io, mem};
 
@@ -33,6 +33,16 @@ impl<R: Net, S: Store, L: PartitionLog + Drop> Edge<R, S, L> {
         mem::replace(&mut self.is_beside_ready, false)
     }
 
+    /// The port that is listened on.
+    pub fn port(&self) -> u16 {
+        self.doors.port()
+    }
+
+    /// The addresses that are listened on.
+    pub fn addresses(&self) -> &[SocketAddr] {
+        self.doors.addresses()
+    }
+
     /// How many sockets there are, those that have not logged in among them.
     pub fn sockets_len(&self) -> usize
         ensures { result ≡ vec_len self.now.sockets }
@@ -52,6 +62,13 @@ impl<R: Net, S: Store, L: PartitionLog + Drop> Edge<R, S, L> {
         ensures { result ≡ open_strangers self.now.sockets.items }
     {
         self.shares.strangers()
+    }
+
+    /// The moment of the last commit, in milliseconds: 0 before the first.
+    pub fn last_commit(&self) -> u64
+        ensures { result ≡ self.now.host.commits.last }
+    {
+        self.host.commits().last()
     }
 
     /// How many sockets there are at most at a time.

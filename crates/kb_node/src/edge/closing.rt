@@ -297,6 +297,12 @@ impl<R: Net, S: Store, L: PartitionLog + Drop> Edge<R, S, L> {
             return false;
         };
         let before = socket.unwritten();
+        if before == 0 {
+            return false;
+        }
+        if socket.is_ended() {
+            return false;
+        }
         socket.write_on(turn);
         let after = socket.unwritten();
         if after == before {

@@ -1,7 +1,8 @@
 //! Rounds, in which those are served who have little to be done, or one whose request is long.
 
 ghost use Rattle.std.specs.Prelude.{◌≡◌, ◌≢◌, min, true};
-ghost use Rattle.kb_node.specs.Moves.{Goes};
+ghost use Rattle.kb_node.specs.Known.{hasty};
+ghost use Rattle.kb_node.specs.Moves.{GoesWith};
 ghost use Rattle.kb_node.specs.Cores.{seen};
 ghost use Rattle.kb_node.specs.Commits.{tells_at_once};
 ghost use Rattle.kb_shares.specs.Turns.{after_next};
@@ -30,7 +31,7 @@ impl<R: Net, S: Store, L: PartitionLog + Drop> Edge<R, S, L> {
     pub(super) fn serve_round(&mut self, alloc: Global, turn: &mut Turn)
         requires { tells_at_once self.old.host.commits ≡ true }
         ensures commits { tells_at_once self.new.host.commits ≡ true }
-        ensures goes { Goes S.disk R.Stream.contents R.Stream.remaining (seen self.old.host self.old.sockets.items)
+        ensures goes { GoesWith S.disk hasty R.Stream.contents R.Stream.remaining (seen self.old.host self.old.sockets.items)
             (seen self.new.host self.new.sockets.items) }
     {
         self.serve(alloc, turn);
@@ -88,7 +89,7 @@ impl<R: Net, S: Store, L: PartitionLog + Drop> Edge<R, S, L> {
         requires { tells_at_once self.old.host.commits ≡ true }
         ensures commits { tells_at_once self.new.host.commits ≡ true }
         ensures lanes { self.new.lanes ≡ behind_round self.old.lanes }
-        ensures goes { Goes S.disk R.Stream.contents R.Stream.remaining (seen self.old.host self.old.sockets.items)
+        ensures goes { GoesWith S.disk hasty R.Stream.contents R.Stream.remaining (seen self.old.host self.old.sockets.items)
             (seen self.new.host self.new.sockets.items) }
     {
         if self.lanes.begin_round() {
@@ -104,7 +105,7 @@ impl<R: Net, S: Store, L: PartitionLog + Drop> Edge<R, S, L> {
         requires { tells_at_once self.old.host.commits ≡ true }
         ensures commits { tells_at_once self.new.host.commits ≡ true }
         ensures lanes { self.new.lanes ≡ record self.old.lanes { long = after_next self.old.lanes.long } }
-        ensures goes { Goes S.disk R.Stream.contents R.Stream.remaining (seen self.old.host self.old.sockets.items)
+        ensures goes { GoesWith S.disk hasty R.Stream.contents R.Stream.remaining (seen self.old.host self.old.sockets.items)
             (seen self.new.host self.new.sockets.items) }
     {
         if let Some(number) = self.lanes.next_long() {
@@ -118,7 +119,7 @@ impl<R: Net, S: Store, L: PartitionLog + Drop> Edge<R, S, L> {
         requires { tells_at_once self.old.host.commits ≡ true }
         ensures commits { tells_at_once self.new.host.commits ≡ true }
         ensures lanes { self.new.lanes ≡ record self.old.lanes { short = behind 16 self.old.lanes.short } }
-        ensures goes { Goes S.disk R.Stream.contents R.Stream.remaining (seen self.old.host self.old.sockets.items)
+        ensures goes { GoesWith S.disk hasty R.Stream.contents R.Stream.remaining (seen self.old.host self.old.sockets.items)
             (seen self.new.host self.new.sockets.items) }
     {
         for _ in 0..ROUND {
@@ -135,7 +136,7 @@ impl<R: Net, S: Store, L: PartitionLog + Drop> Edge<R, S, L> {
         requires { tells_at_once self.old.host.commits ≡ true }
         ensures commits { tells_at_once self.new.host.commits ≡ true }
         ensures lanes { self.new.lanes ≡ record self.old.lanes { short = after_next self.old.lanes.short } }
-        ensures goes { Goes S.disk R.Stream.contents R.Stream.remaining (seen self.old.host self.old.sockets.items)
+        ensures goes { GoesWith S.disk hasty R.Stream.contents R.Stream.remaining (seen self.old.host self.old.sockets.items)
             (seen self.new.host self.new.sockets.items) }
     {
         if let Some(number) = self.lanes.next_short() {

@@ -1,7 +1,8 @@
 //! How an edge serves its sockets.
 
 ghost use Rattle.std.specs.Prelude.{◌≡◌, ◌-◌, true, false, None, Some, IfErr, IfSome, OnOk, slice_get, slice_set, vec_len};
-ghost use Rattle.kb_node.specs.Moves.{Goes, GoesTelling};
+ghost use Rattle.kb_node.specs.Known.{hasty, lasting, telling};
+ghost use Rattle.kb_node.specs.Moves.{Goes, GoesTelling, GoesTellingWith, GoesWith};
 ghost use Rattle.kb_node.specs.Cores.{seen};
 ghost use Rattle.kb_node.specs.Commits.{may_tell, tells_at_once};
 ghost use Rattle.kb_shares.specs.Ledger.{set_to};
@@ -70,7 +71,7 @@ impl<R: Net, S: Store, L: PartitionLog + Drop> Edge<R, S, L> {
     pub(super) fn serve_at_once(&mut self, alloc: Global, turn: &mut Turn)
         requires { tells_at_once self.old.host.commits ≡ true }
         ensures commits { tells_at_once self.new.host.commits ≡ true }
-        ensures goes { Goes S.disk R.Stream.contents R.Stream.remaining (seen self.old.host self.old.sockets.items)
+        ensures goes { GoesWith S.disk hasty R.Stream.contents R.Stream.remaining (seen self.old.host self.old.sockets.items)
             (seen self.new.host self.new.sockets.items) }
     {
         self.line_up(alloc, true);
@@ -85,7 +86,7 @@ impl<R: Net, S: Store, L: PartitionLog + Drop> Edge<R, S, L> {
     /// A request of each socket whose turn it is is handed on, one commit makes all of them last, and then what is said goes out.
     ///
     /// An `Err` is the commit's: then nothing goes out.
-    #[tactic(auto, using(crate::proofs::Goes::goes_then, crate::proofs::Goes::goes_none, crate::proofs::Goes::goes_committed))]
+    #[tactic(auto, using(crate::proofs::Goes::goes_then, crate::proofs::Goes::goes_none))]
     pub(super) fn serve_together(
         &mut self,
         alloc: Global,
@@ -93,8 +94,8 @@ impl<R: Net, S: Store, L: PartitionLog + Drop> Edge<R, S, L> {
     ) -> Result<(), StoreFault>
         ensures refused { IfErr result (λ fault. self.new.host.commits.fault ≡ Some fault) }
         ensures well { OnOk result (self.new.host.commits.fault ≡ None) }
-        ensures goes { Goes S.disk R.Stream.contents R.Stream.remaining (seen self.old.host self.old.sockets.items)
-            (seen self.new.host self.new.sockets.items) }
+        ensures goes { GoesWith S.disk (lasting S.settled S.disk S.loss self.new.host.commits) R.Stream.contents R.Stream.remaining
+            (seen self.old.host self.old.sockets.items) (seen self.new.host self.new.sockets.items) }
     {
         self.hand_on(alloc, turn);
         self.hear_speakers();
@@ -112,9 +113,9 @@ impl<R: Net, S: Store, L: PartitionLog + Drop> Edge<R, S, L> {
         ensures lanes { self.new.lanes ≡ self.old.lanes }
         // Nothing is read or handed on where its holder has too much that is unread.
         ensures unasked { has_room (place_of number self.old.shares) 1 self.old.replies.pool ≡ false
-            → GoesTelling S.disk R.Stream.contents R.Stream.remaining (seen self.old.host self.old.sockets.items)
+            → GoesTellingWith S.disk hasty R.Stream.contents R.Stream.remaining (seen self.old.host self.old.sockets.items)
             (seen self.new.host self.new.sockets.items) }
-        ensures goes { Goes S.disk R.Stream.contents R.Stream.remaining (seen self.old.host self.old.sockets.items)
+        ensures goes { GoesWith S.disk hasty R.Stream.contents R.Stream.remaining (seen self.old.host self.old.sockets.items)
             (seen self.new.host self.new.sockets.items) }
     {
         let may_ask = self.may_ask(number);
@@ -299,8 +300,8 @@ impl<R: Net, S: Store, L: PartitionLog + Drop> Edge<R, S, L> {
     fn tell(&mut self, alloc: Global, turn: &mut Turn)
         requires { may_tell self.old.host.commits ≡ true }
         ensures commits { self.new.host.commits ≡ self.old.host.commits }
-        ensures tells { GoesTelling S.disk R.Stream.contents R.Stream.remaining (seen self.old.host self.old.sockets.items)
-            (seen self.new.host self.new.sockets.items) }
+        ensures tells { GoesTellingWith S.disk (telling S.settled S.disk S.loss self.old.host.commits) R.Stream.contents
+            R.Stream.remaining (seen self.old.host self.old.sockets.items) (seen self.new.host self.new.sockets.items) }
     {
         let spare = mem::replace(&mut self.spare, Vec::new(alloc));
         let mut round = mem::replace(&mut self.ready, spare);
@@ -316,8 +317,8 @@ impl<R: Net, S: Store, L: PartitionLog + Drop> Edge<R, S, L> {
     fn tell_asked(&mut self, alloc: Global, turn: &mut Turn)
         requires { may_tell self.old.host.commits ≡ true }
         ensures commits { self.new.host.commits ≡ self.old.host.commits }
-        ensures tells { GoesTelling S.disk R.Stream.contents R.Stream.remaining (seen self.old.host self.old.sockets.items)
-            (seen self.new.host self.new.sockets.items) }
+        ensures tells { GoesTellingWith S.disk (telling S.settled S.disk S.loss self.old.host.commits) R.Stream.contents
+            R.Stream.remaining (seen self.old.host self.old.sockets.items) (seen self.new.host self.new.sockets.items) }
     {
         let mut round = mem::replace(&mut self.asked, Vec::new(alloc));
         for number in &round {
@@ -332,8 +333,8 @@ impl<R: Net, S: Store, L: PartitionLog + Drop> Edge<R, S, L> {
     fn tell_one(&mut self, alloc: Global, number: u64, turn: &mut Turn)
         requires { may_tell self.old.host.commits ≡ true }
         ensures commits { self.new.host.commits ≡ self.old.host.commits }
-        ensures tells { GoesTelling S.disk R.Stream.contents R.Stream.remaining (seen self.old.host self.old.sockets.items)
-            (seen self.new.host self.new.sockets.items) }
+        ensures tells { GoesTellingWith S.disk (telling S.settled S.disk S.loss self.old.host.commits) R.Stream.contents
+            R.Stream.remaining (seen self.old.host self.old.sockets.items) (seen self.new.host self.new.sockets.items) }
     {
         let Some(place) = self.place_of(number) else {
             return;

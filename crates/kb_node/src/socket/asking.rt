@@ -33,7 +33,7 @@ const SIZE: usize = 4;
 
 impl<T: Read + Write + Drop> Socket<T> {
     /// Hands on what is there of the request in front, and reads before that where nothing is: no more than there is room for. It answers
-    /// how much is to be kept free for what is said to that.
+    /// how much is to be kept free for what is said to that. Where some of what was read is lost nothing more is read or handed on.
     ///
     /// No request begins of more than `most` bytes.
     pub(super) fn ask<S: Store, L: PartitionLog + Drop>(
@@ -52,7 +52,8 @@ impl<T: Read + Write + Drop> Socket<T> {
         ensures ended { self.new.is_ended ≡ self.old.is_ended }
         ensures numbers { numbers host.new.broker.state ≡ numbers host.old.broker.state }
         ensures tried { host.new.tried ≡ host.old.tried }
-        ensures at_once { tells_at_once host.old.commits ≡ true → tells_at_once host.new.commits ≡ true }
+        ensures sync { (host.new.commits.sync ≡ host.old.commits.sync)
+            × (tells_at_once host.old.commits ≡ true → tells_at_once host.new.commits ≡ true) }
         ensures fits { turn.new.read ≤ turn.old.read + room_of self.old.connection host.old.broker.state }
         // What is kept of a request that may not begin is not handed on.
         ensures held { may_begin self.old.is_bound most
@@ -60,6 +61,9 @@ impl<T: Read + Write + Drop> Socket<T> {
         // It is noted that a request became whole only where none is begun.
         ensures anew { self.old.is_anew ≡ false → self.new.is_anew ≡ true → self.new.input.progress.left ≡ 0 }
     {
+        if self.is_lost {
+            return 0;
+        }
         let room = host.broker().room(self.connection);
         let is_bare = host.broker().takes_login(self.connection);
         let is_begun = self.input.is_begun();
@@ -130,7 +134,8 @@ impl<T: Read + Write + Drop> Socket<T> {
         ensures ended { self.new.is_ended ≡ self.old.is_ended }
         ensures numbers { numbers host.new.broker.state ≡ numbers host.old.broker.state }
         ensures tried { host.new.tried ≡ host.old.tried }
-        ensures at_once { tells_at_once host.old.commits ≡ true → tells_at_once host.new.commits ≡ true }
+        ensures sync { (host.new.commits.sync ≡ host.old.commits.sync)
+            × (tells_at_once host.old.commits ≡ true → tells_at_once host.new.commits ≡ true) }
         ensures read { turn.new.read ≡ turn.old.read }
         // Nothing is handed on of a request that may not begin.
         ensures held { may_begin self.old.is_bound most (awaited self.old.input.progress.left piece.now) ≡ false → host.new ≡ host.old }
@@ -139,7 +144,9 @@ impl<T: Read + Write + Drop> Socket<T> {
         let is_begun = self.input.is_begun();
         let count = self.pass(piece, room, most, turn);
         let (handed, rest) = piece.split_at(count);
-        self.is_over |= self.input.push(rest).is_err();
+        let is_lost = self.input.push(rest).is_err();
+        self.is_over |= is_lost;
+        self.is_lost |= is_lost;
         if handed.is_empty() {
             return 0;
         }

@@ -5,8 +5,9 @@ ghost use Rattle.std.specs.Io.KnownBytes.{Appends};
 ghost use Rattle.kb_isolation_spec.specs.Broker.{bound_to};
 ghost use Rattle.kb_isolation_spec.specs.Calls.{is_open, login_of, output_of};
 ghost use Rattle.kb_broker.specs.Places.{numbers};
-ghost use Rattle.kb_node.specs.Carries.{Carries, HasToldAll, Tells, TellsInTurn, unhanded_of, unwritten_of};
+ghost use Rattle.kb_node.specs.Carries.{Carries, CarriesWith, HasToldAll, Tells, TellsInTurn, TellsWith, unhanded_of, unwritten_of};
 ghost use Rattle.kb_node.specs.Commits.{may_tell, tells_at_once};
+ghost use Rattle.kb_node.specs.Known.{hasty, telling};
 ghost use Rattle.kb_node.specs.News.{IsAdded};
 ghost use Rattle.kb_node.specs.Seats.{IsReseated, KeepsSeat};
 ghost use Rattle.kb_node.specs.Sockets.{is_denied, is_done, is_held};
@@ -46,14 +47,14 @@ impl<T: Read + Write + Drop> Socket<T> {
     ) -> Next
         requires not_ended { self.now.is_ended ≡ false }
         requires at_once { tells_at_once host.old.commits ≡ true }
-        ensures carries { Carries S.disk T.contents T.remaining self.old self.new host.old.broker host.new.broker }
+        ensures carries { CarriesWith S.disk hasty T.contents T.remaining self.old self.new host.old.broker host.new.broker }
         ensures connection { self.new.connection ≡ self.old.connection }
         ensures seat { IsReseated self.old self.new shares.old shares.new }
         ensures tried { host.new.tried ≡ host.old.tried }
         // Where it may not be asked nothing is read or handed on.
         ensures unasked { may_ask ≡ false
-            → Tells S.disk T.contents T.remaining self.old self.new host.old.broker host.new.broker }
-        ensures at_once { tells_at_once host.new.commits ≡ true }
+            → TellsWith S.disk hasty T.contents T.remaining self.old self.new host.old.broker host.new.broker }
+        ensures sync { (host.new.commits.sync ≡ host.old.commits.sync) × (tells_at_once host.new.commits ≡ true) }
         // Where it has ended the broker was told, and its connection is not open.
         ensures ended { self.new.is_ended ≡ true → is_open self.old.connection host.new.broker.state ≡ false }
         ensures over { result ≡ End → self.new.is_ended ≡ true }
@@ -94,6 +95,7 @@ impl<T: Read + Write + Drop> Socket<T> {
         ensures connection { self.new.connection ≡ self.old.connection }
         ensures seat { IsReseated self.old self.new shares.old shares.new }
         ensures tried { host.new.tried ≡ host.old.tried }
+        ensures sync { host.new.commits.sync ≡ host.old.commits.sync }
         ensures ended { self.new.is_ended ≡ self.old.is_ended }
         ensures numbers { numbers host.new.broker.state ≡ numbers host.old.broker.state }
         // Where it may not be asked the broker is not called, and nothing is read.
@@ -123,7 +125,8 @@ impl<T: Read + Write + Drop> Socket<T> {
     ) -> Next
         requires not_ended { self.now.is_ended ≡ false }
         requires may_tell { may_tell host.old.commits ≡ true }
-        ensures tells { Tells S.disk T.contents T.remaining self.old self.new host.old.broker host.new.broker }
+        ensures tells { TellsWith S.disk (telling S.settled S.disk S.loss host.old.commits) T.contents T.remaining
+            self.old self.new host.old.broker host.new.broker }
         ensures connection { self.new.connection ≡ self.old.connection }
         ensures seat { KeepsSeat self.old self.new }
         ensures tried { host.new.tried ≡ host.old.tried }
@@ -307,7 +310,8 @@ impl<T: Read + Write + Drop> Socket<T> {
     )
         requires not_ended { self.now.is_ended ≡ false }
         requires may_tell { may_tell host.old.commits ≡ true }
-        ensures tells { Tells S.disk T.contents T.remaining self.old self.new host.old.broker host.new.broker }
+        ensures tells { TellsWith S.disk (telling S.settled S.disk S.loss host.old.commits) T.contents T.remaining
+            self.old self.new host.old.broker host.new.broker }
         ensures connection { self.new.connection ≡ self.old.connection }
         ensures seat { KeepsSeat self.old self.new }
         ensures tried { host.new.tried ≡ host.old.tried }
@@ -336,7 +340,8 @@ impl<T: Read + Write + Drop> Socket<T> {
         requires written { self.now.written ≡ vec_len self.now.output }
         requires may_tell { may_tell host.old.commits ≡ true }
         requires may_answer { is_held self.now.may_answer self.now.connection host.now.broker.state ≡ false }
-        ensures tells { Tells S.disk T.contents T.remaining self.old self.new host.old.broker host.new.broker }
+        ensures tells { TellsWith S.disk (telling S.settled S.disk S.loss host.old.commits) T.contents T.remaining
+            self.old self.new host.old.broker host.new.broker }
         ensures connection { self.new.connection ≡ self.old.connection }
         ensures seat { KeepsSeat self.old self.new }
         ensures tried { host.new.tried ≡ host.old.tried }
@@ -356,6 +361,7 @@ impl<T: Read + Write + Drop> Socket<T> {
             × (unwritten_of self.old ≡ put ++ unwritten_of self.new) }
         ensures unhanded { unhanded_of self.new ≡ unhanded_of self.old }
         ensures over { self.old.is_over ≡ true → self.new.is_over ≡ true }
+        ensures lost { self.new.is_lost ≡ self.old.is_lost }
         ensures connection { self.new.connection ≡ self.old.connection }
         ensures seat { KeepsSeat self.old self.new }
         ensures ended { self.new.is_ended ≡ self.old.is_ended }

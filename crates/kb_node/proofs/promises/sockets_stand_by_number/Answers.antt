@@ -5,7 +5,7 @@ pub returns-clause-begun : goal.returns-clause-begun
 returns-clause-begun g c = nobody_in_order
 
 pub returns-clause-moved : goal.returns-clause-moved
-returns-clause-moved g c = goes_keep
+returns-clause-moved g c = λ commits. goes_keep
 
 pub returns-clause-turned : goal.returns-clause-turned
-returns-clause-turned g c = turn_keeps
+returns-clause-turned g c = λ commits. turn_keeps

@@ -1,9 +1,10 @@
 use Rattle.std.proofs.Common.{◌≡◌, ◌∙◌, ℕ, Bool, List, true, false, true≢false, ap, subst, sym}
 use Rattle.kb_broker.specs.Hosts.{OnStore}
+use Rattle.kb_node.specs.Commits.{Lasts}
 use Rattle.kbroker.specs.Shortened.{may_shorten}
 use Rattle.kbroker.proofs.Opened.{AreShortOn, fresh_kept, fresh_same, GivesFreshOn, short_now, short_same}
 use Rattle.kbroker.proofs.serve.open.Goals as goal
-use Rattle.kbroker.proofs.serve.open.Goals.{then-may_shorten, else-may_shorten, else-ne-via-else-ne, else-ne-via-then-ne+in-Ok-1}
+use Rattle.kbroker.proofs.serve.open.Goals.{then-may_shorten, else-may_shorten, else-syncs-via-else-syncs, else-syncs-via-then-syncs+in-Ok-1}
 
 pub returns-2-clause-fresh : goal.returns-2-clause-fresh
 returns-2-clause-fresh g c =
@@ -17,9 +18,9 @@ returns-2-clause-fresh g c =
           subst P (sym (λ i. (w.opened-is i).broker)) (fresh_kept disk first w.shorten_catalogs.new.broker e.count e.honest e.stays c.in_ok-skip_ids.ensures.fresh)
       | else-may_shorten w ↦ subst P (sym (λ i. (w.opened-is i).broker)) c.in_ok-skip_ids.ensures.fresh
     ] in
-    elim c.else-ne.branch [
-      | else-ne-via-else-ne w ↦ subst P (sym (λ i. (w.opened-is i).broker)) shortened
-      | else-ne-via-then-ne+in-Ok-1 w ↦
+    elim c.else-syncs.branch [
+      | else-syncs-via-else-syncs w ↦ subst P (sym (λ i. (w.opened-is i).broker)) shortened
+      | else-syncs-via-then-syncs+in-Ok-1 w ↦
           subst P (sym (λ i. (w.opened-is i).broker)) (fresh_same disk opened w.settle.new.broker w.settle.ensures.stays shortened)
     ]
 
@@ -29,9 +30,9 @@ returns-2-clause-short g c = λ honest may.
     let P : OnStore g.row.S.Denot → Type 0 = AreShortOn disk in
     let first = c.skip_ids.new.broker in
     let opened = c.if-may_shorten.opened.broker in
-    let strays : c.else-ne.opened.strays.items ≡ c.if-may_shorten.opened.strays.items = elim c.else-ne.branch [
-      | else-ne-via-else-ne w ↦ λ i. (w.opened-is i).strays.items
-      | else-ne-via-then-ne+in-Ok-1 w ↦ λ i. (w.opened-is i).strays.items
+    let strays : c.else-syncs.opened.strays.items ≡ c.if-may_shorten.opened.strays.items = elim c.else-syncs.branch [
+      | else-syncs-via-else-syncs w ↦ λ i. (w.opened-is i).strays.items
+      | else-syncs-via-then-syncs+in-Ok-1 w ↦ λ i. (w.opened-is i).strays.items
     ] in
     let allows : List ℕ → Bool = may_shorten c.args.start.consent in
     let allowed : allows c.if-may_shorten.opened.strays.items ≡ true = sym (ap allows strays) ∙ may in
@@ -42,9 +43,25 @@ returns-2-clause-short g c = λ honest may.
           ap allows (λ i. (w.opened-is i).strays.items) ∙ ap allows (sym c.deref-2.ensures.value) ∙ sym c.may_shorten.ensures ∙ w.if-may_shorten.false in
           absurd (true≢false (sym allowed ∙ refused))
     ] in
-    let settled : P c.else-ne.opened.broker = elim c.else-ne.branch [
-      | else-ne-via-else-ne w ↦ subst P (sym (λ i. (w.opened-is i).broker)) shortened
-      | else-ne-via-then-ne+in-Ok-1 w ↦
+    let settled : P c.else-syncs.opened.broker = elim c.else-syncs.branch [
+      | else-syncs-via-else-syncs w ↦ subst P (sym (λ i. (w.opened-is i).broker)) shortened
+      | else-syncs-via-then-syncs+in-Ok-1 w ↦
           subst P (sym (λ i. (w.opened-is i).broker)) (short_same disk opened w.settle.new.broker w.settle.ensures.stays w.settle.ensures.commands shortened)
     ] in
     settled honest
+
+pub returns-2-clause-settled : goal.returns-2-clause-settled
+returns-2-clause-settled g c = λ set.
+    elim c.else-syncs.branch [
+      | else-syncs-via-else-syncs w ↦ absurd (set (c.syncs.ensures.none w.if-syncs.false))
+      | else-syncs-via-then-syncs+in-Ok-1 w ↦
+          subst (λ (b : OnStore g.row.S.Denot). g.S.Store.settled b.store) (sym (λ i. (w.opened-is i).broker)) w.in-Ok-1.ensures.settled
+    ]
+
+pub returns-2-clause-lasts : goal.returns-2-clause-lasts
+returns-2-clause-lasts g c = λ set.
+    elim c.else-syncs.branch [
+      | else-syncs-via-else-syncs w ↦ absurd (set (c.syncs.ensures.none w.if-syncs.false))
+      | else-syncs-via-then-syncs+in-Ok-1 w ↦ subst (λ (b : OnStore g.row.S.Denot). Lasts g.S.Store.settled g.S.Store.disk g.S.Store.loss b.store)
+          (sym (λ i. (w.opened-is i).broker)) w.in-Ok-1.ensures.lasts
+    ]

@@ -10,6 +10,10 @@ pub returns-clause-tried : goal.returns-clause-tried
 returns-clause-tried g c =
     ap (λ x. x.host.tried) (c.hear_all.ensures ∙ c.answer_denied.ensures ∙ c.hear_speakers.ensures) ∙ c.moment.ensures.tried
 
+pub returns-clause-sync : goal.returns-clause-sync
+returns-clause-sync g c =
+    ap (λ x. x.host.commits.sync) (c.hear_all.ensures ∙ c.answer_denied.ensures ∙ c.hear_speakers.ensures) ∙ ap (λ x. x.sync) c.moment.ensures.commits
+
 pub returns-clause-sockets : goal.returns-clause-sockets
 returns-clause-sockets g c = ap (λ x. x.sockets) (c.hear_all.ensures ∙ c.answer_denied.ensures ∙ c.hear_speakers.ensures)
 

@@ -1,5 +1,5 @@
 use Rattle.kb_node.proofs.Seats.{closed}
-use Rattle.std.proofs.Common.{refl, ◌≡◌, ◌∙◌, ap, true, arith}
+use Rattle.std.proofs.Common.{refl, ◌≡◌, ◌∙◌, ap, true, false, arith}
 use Rattle.kb_node.specs.Cores.{seen}
 use Rattle.kb_node.proofs.Cores.{same_at}
 use Rattle.kb_node.proofs.Goes.{goes_carried, goes_still}
@@ -8,8 +8,9 @@ use Rattle.kb_node.proofs.edge.Edge.close.Goals as goal
 use Rattle.kb_node.proofs.edge.Edge.close.Goals.{in_default-via-in-None-1, in_default-via-in-Some+in-None-1, in_default-via-in-Some+in-Some-get_mut+else-not-is_ended}
 
 pub returns-then-not-is_ended-clause-goes : goal.returns-then-not-is_ended-clause-goes
-returns-then-not-is_ended-clause-goes g c = goes_carried _ _ c.args.self.now.sockets c.in-Some.place c.in-Some-get_mut.socket.now c.close.new.self (c.in-Some-get_mut.ensures.variant.0 refl)
-    c.in-Some-get_mut.ensures.value c.close.ensures.connection c.close.ensures.tried c.close.ensures.tells.carries
+returns-then-not-is_ended-clause-goes g c = let unended : c.in-Some-get_mut.socket.now.is_ended ≡ false = grind (arith, c.is_ended.ensures, c.if-not-is_ended.true) in
+    goes_carried _ _ c.args.self.now.sockets c.in-Some.place c.in-Some-get_mut.socket.now c.close.new.self (c.in-Some-get_mut.ensures.variant.0 refl)
+    c.in-Some-get_mut.ensures.value c.close.ensures.connection unended c.close.ensures.tried (ap (λ x. x.sync) c.close.ensures.commits) c.close.ensures.tells.carries
 
 pub invariant_of-self-else-not-is_ended-clause-seated : goal.invariant_of-self-else-not-is_ended-clause-seated
 invariant_of-self-else-not-is_ended-clause-seated g c = let ended : c.in-Some-get_mut.socket.now.is_ended ≡ true = grind (arith, c.is_ended.ensures, c.if-not-is_ended.false) in
@@ -29,8 +30,9 @@ returns-in_default-clause-goes g c = elim c.in_default.branch [
 ]
 
 pub returns-then-not-is_ended-clause-tells : goal.returns-then-not-is_ended-clause-tells
-returns-then-not-is_ended-clause-tells g c = telling_at_place _ _ c.args.self.now.sockets c.in-Some.place c.in-Some-get_mut.socket.now c.close.new.self c.close.new.self refl
-    (c.in-Some-get_mut.ensures.variant.0 refl) c.in-Some-get_mut.ensures.value c.close.ensures.connection c.close.ensures.tried c.close.ensures.tells
+returns-then-not-is_ended-clause-tells g c = let unended : c.in-Some-get_mut.socket.now.is_ended ≡ false = grind (arith, c.is_ended.ensures, c.if-not-is_ended.true) in
+    telling_at_place _ _ c.args.self.now.sockets c.in-Some.place c.in-Some-get_mut.socket.now c.close.new.self c.close.new.self refl
+    (c.in-Some-get_mut.ensures.variant.0 refl) c.in-Some-get_mut.ensures.value c.close.ensures.connection unended c.close.ensures.tried (ap (λ x. x.sync) c.close.ensures.commits) c.close.ensures.tells
 
 pub returns-in_default-clause-tells : goal.returns-in_default-clause-tells
 returns-in_default-clause-tells g c = elim c.in_default.branch [

@@ -10,20 +10,20 @@ returns-then-is_err-clause-goes g c = goes_still (ap (λ xs. seen c.args.self.no
 
 pub returns-then-is_err-2-clause-goes : goal.returns-then-is_err-2-clause-goes
 returns-then-is_err-2-clause-goes g c = goes_then (goes_still (ap (λ xs. seen c.args.self.now.host xs) c.reserve.ensures.items))
-    (goes_opened c.in-Some.ensures.above.0 c.connect.ensures.tried c.connect.ensures.happens refl)
+    (goes_opened c.in-Some.ensures.above.0 c.connect.ensures.tried (ap (λ x. x.sync) c.connect.ensures.commits) c.connect.ensures.happens refl)
 
 pub returns-clause-goes : goal.returns-clause-goes
 returns-clause-goes g c =
-    goes_joined c.in-Some.connection c.args.stream c.in-Some.ensures.above.0 c.connect.ensures.tried c.connect.ensures.happens
+    goes_joined c.in-Some.connection c.args.stream c.in-Some.ensures.above.0 c.connect.ensures.tried (ap (λ x. x.sync) c.connect.ensures.commits) c.connect.ensures.happens
     (joined _ _ _ _ c.push_reserved.ensures.items c.reserve.ensures.items
     c.new-socket.ensures.connection c.new-socket.ensures.stream c.new-socket.ensures.unwritten c.new-socket.ensures.unhanded
-    c.new-socket.ensures.open)
+    c.new-socket.ensures.whole c.new-socket.ensures.open)
 
 pub returns-clause-socket : goal.returns-clause-socket
 returns-clause-socket g c =
     joined _ _ _ _ c.push_reserved.ensures.items c.reserve.ensures.items
     (c.new-socket.ensures.connection ∙ sym c.connect.ensures.tried) c.new-socket.ensures.stream
-    c.new-socket.ensures.unwritten c.new-socket.ensures.unhanded c.new-socket.ensures.open
+    c.new-socket.ensures.unwritten c.new-socket.ensures.unhanded c.new-socket.ensures.whole c.new-socket.ensures.open
 
 pub invariant_of-self-then-is_err-clause-seated : goal.invariant_of-self-then-is_err-clause-seated
 invariant_of-self-then-is_err-clause-seated g c =

@@ -10,9 +10,13 @@ there : (over : Bool) (unwritten n : ℕ) (b : BrokerState) → can_ask over unw
 there true unwritten n b h = absurd (let no : false ≡ true = h in cc)
 there false unwritten n b h = refl
 
+pub returns-then-self-clause-carries : goal.returns-then-self-clause-carries
+returns-then-self-clause-carries g c = stays g.S.Store.disk g.T.Write.contents g.T.Read.remaining c.args.self.now _ _ _ refl refl refl refl (λ is. is) refl
+
 pub returns-then-not-may_begin-clause-carries : goal.returns-then-not-may_begin-clause-carries
 returns-then-not-may_begin-clause-carries g c = let r = c.may_begin.ensures.rest in stays g.S.Store.disk g.T.Write.contents g.T.Read.remaining c.args.self.now _ _ _ refl
     (ap (λ s. s.stream) r) (ap (λ s. drop s.written s.output.items) r) (ap (λ s. drop s.input.handed s.input.bytes.items) r) c.may_begin.ensures.over_stays
+    (ap (λ s. s.is_lost) r)
 
 pub returns-then-not-is_short-clause-carries : goal.returns-then-not-is_short-clause-carries
 returns-then-not-is_short-clause-carries g c =
@@ -27,6 +31,7 @@ returns-then-not-is_short-clause-carries g c =
     ∙ ap (λ x. x ++ drop new.handed new.bytes.items) (sym c.passed-piece.ensures)
     ∙ ap (λ x. c.passed-piece.result.now ++ x) (sym c.tidy.ensures.bytes))
     (there c.args.self.now.is_over (vec_len c.args.self.now.output - c.args.self.now.written) c.args.self.now.connection c.args.host.now.broker.state c.requires)
+    c.if-self.false (ap (λ s. s.is_lost) r)
 
 pub returns-clause-carries : goal.returns-clause-carries
 returns-clause-carries g c =
@@ -35,3 +40,4 @@ returns-clause-carries g c =
     c.read_piece-read.ensures.came c.take_in.ensures.hands_on c.read_piece-read.ensures.connection c.take_in.ensures.stream
     (c.take_in.ensures.unwritten ∙ ap (λ s. drop s.written s.output.items) r) (ap (λ s. drop s.input.handed s.input.bytes.items) r)
     (there c.args.self.now.is_over (vec_len c.args.self.now.output - c.args.self.now.written) c.args.self.now.connection c.args.host.now.broker.state c.requires)
+    c.if-self.false (ap (λ s. s.is_lost) r)

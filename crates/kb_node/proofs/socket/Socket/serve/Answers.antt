@@ -1,5 +1,7 @@
 use Rattle.std.proofs.Common.{◌+◌, ◌-◌, ◌∙◌, ap, inl, refl, sym, ◌≡◌, true, false, vec_len}
-use Rattle.kb_node.proofs.Carries.{StaysOpen, StaysTelling, open_at, open_open, open_then, seated, stays_open, telling_at, telling_on}
+use Rattle.kb_node.specs.Known.{hasty, silent, telling}
+use Rattle.kb_node.proofs.Carries.{StaysOpen, StaysTelling, carries_knowing, open_at, open_open, open_then, seated, stays_open, telling_at, telling_on, tells_knowing}
+use Rattle.kb_node.proofs.Known.{from_silent, telling_hasty}
 use Rattle.kb_node.proofs.ToldAll.{asked_written, over_ends, told_at, told_on}
 use Rattle.kb_node.specs.Carries.{HasToldAll, unwritten_of}
 use Rattle.kb_node.specs.Sockets.{can_ask}
@@ -11,25 +13,32 @@ use Rattle.kb_node.proofs.socket.Socket.serve.Goals.{then-may_ask+then-can_ask+t
 pub returns-clause-carries : goal.returns-clause-carries
 returns-clause-carries g c =
     let disk = g.S.Store.disk in let out = g.T.Write.contents in let in_ = g.T.Read.remaining in
-    let first : StaysOpen disk out in_ c.args.self.now c.write_output.new.self c.args.host.now.broker c.write_output.new.host.broker =
-    record { carries = c.write_output.ensures.tells.carries; connection = c.write_output.ensures.connection; ended = c.write_output.ensures.ended ∙ c.requires.not_ended } in
-    let second : StaysOpen disk out in_ c.write_output.new.self c.if-may_ask.self c.write_output.new.host.broker c.if-may_ask.host.broker =
+    let settled = g.S.Store.settled in let loss = g.S.Store.loss in
+    let first : StaysOpen disk hasty out in_ c.args.self.now c.write_output.new.self c.args.host.now.broker c.write_output.new.host.broker =
+    record {
+      carries = carries_knowing disk (telling settled disk loss c.args.host.now.commits) hasty out in_ (telling_hasty settled disk loss c.args.host.now.commits)
+          c.args.self.now c.write_output.new.self _ _ c.write_output.ensures.tells.carries;
+      connection = c.write_output.ensures.connection;
+      ended = c.write_output.ensures.ended ∙ c.requires.not_ended;
+    } in
+    let second : StaysOpen disk hasty out in_ c.write_output.new.self c.if-may_ask.self c.write_output.new.host.broker c.if-may_ask.host.broker =
     elim c.if-may_ask.branch [
       | then-may_ask+then-can_ask+then-take_seat w ↦ open_at disk out in_ c.write_output.new.self _ _ _ _ _ w.self-is (ap (λ h. h.broker) w.host-is)
-          (let seat = seated disk out in_ c.write_output.new.self w.ask.new.self w.take_seat.new.self c.write_output.new.host.broker w.ask.new.host.broker w.ask.ensures.carries
+          (let seat = seated disk out in_ c.write_output.new.self w.ask.new.self w.take_seat.new.self c.write_output.new.host.broker w.ask.new.host.broker (carries_knowing disk silent hasty out in_ (from_silent hasty) c.write_output.new.self w.ask.new.self _ _ w.ask.ensures.carries)
           w.ask.ensures.connection (w.ask.ensures.ended ∙ first.ended) w.take_seat.ensures.rest w.take_seat.ensures.over in
           open_open disk out in_ c.write_output.new.self w.take_seat.new.self _ _ w.ask.new.host.broker _ seat
           (record {
-            carries = w.write_output-then-take_seat.ensures.tells.carries;
+            carries = carries_knowing disk (telling settled disk loss w.ask.new.host.commits) hasty out in_ (telling_hasty settled disk loss w.ask.new.host.commits)
+                w.take_seat.new.self w.write_output-then-take_seat.new.self _ _ w.write_output-then-take_seat.ensures.tells.carries;
             connection = w.write_output-then-take_seat.ensures.connection;
             ended = w.write_output-then-take_seat.ensures.ended ∙ seat.ended;
           }))
       | then-may_ask+then-can_ask+else-take_seat w ↦ open_at disk out in_ c.write_output.new.self _ _ _ _ _ w.self-is (ap (λ h. h.broker) w.host-is)
-          (seated disk out in_ c.write_output.new.self w.ask.new.self w.take_seat.new.self c.write_output.new.host.broker w.ask.new.host.broker w.ask.ensures.carries
+          (seated disk out in_ c.write_output.new.self w.ask.new.self w.take_seat.new.self c.write_output.new.host.broker w.ask.new.host.broker (carries_knowing disk silent hasty out in_ (from_silent hasty) c.write_output.new.self w.ask.new.self _ _ w.ask.ensures.carries)
           w.ask.ensures.connection (w.ask.ensures.ended ∙ first.ended) w.take_seat.ensures.rest w.take_seat.ensures.over)
       | else-may_ask w ↦ open_at disk out in_ c.write_output.new.self _ _ _ _ _ w.self-is (ap (λ h. h.broker) w.host-is) (stays_open disk out in_ c.write_output.new.self c.write_output.new.host.broker first.ended)
     ] in
-    open_then disk out in_ c.args.self.now c.if-may_ask.self _ _ _ _ (open_open disk out in_ c.args.self.now c.write_output.new.self _ _ c.write_output.new.host.broker _ first second) c.finish.ensures.tells.carries
+    open_then disk out in_ c.args.self.now c.if-may_ask.self _ _ _ _ (open_open disk out in_ c.args.self.now c.write_output.new.self _ _ c.write_output.new.host.broker _ first second) (carries_knowing disk silent hasty out in_ (from_silent hasty) c.if-may_ask.self _ _ _ c.finish.ensures.tells.carries)
 
 pub returns-clause-seat : goal.returns-clause-seat
 returns-clause-seat g c =
@@ -53,15 +62,20 @@ returns-clause-seat g c =
 pub returns-clause-unasked : goal.returns-clause-unasked
 returns-clause-unasked g c = λ off.
     let disk = g.S.Store.disk in let out = g.T.Write.contents in let in_ = g.T.Read.remaining in
-    let first : StaysTelling disk out in_ c.args.self.now c.write_output.new.self c.args.host.now.broker c.write_output.new.host.broker =
-    record { tells = c.write_output.ensures.tells; connection = c.write_output.ensures.connection; ended = c.write_output.ensures.ended ∙ c.requires.not_ended } in
-    let second : StaysTelling disk out in_ c.args.self.now c.if-may_ask.self c.args.host.now.broker c.if-may_ask.host.broker =
+    let first : StaysTelling disk hasty out in_ c.args.self.now c.write_output.new.self c.args.host.now.broker c.write_output.new.host.broker =
+    record {
+      tells = tells_knowing disk (telling g.S.Store.settled disk g.S.Store.loss c.args.host.now.commits) hasty out in_
+          (telling_hasty g.S.Store.settled disk g.S.Store.loss c.args.host.now.commits) c.args.self.now c.write_output.new.self _ _ c.write_output.ensures.tells;
+      connection = c.write_output.ensures.connection;
+      ended = c.write_output.ensures.ended ∙ c.requires.not_ended;
+    } in
+    let second : StaysTelling disk hasty out in_ c.args.self.now c.if-may_ask.self c.args.host.now.broker c.if-may_ask.host.broker =
     elim c.if-may_ask.branch [
       | then-may_ask+then-can_ask+then-take_seat w ↦ absurd (let yes : true ≡ false = sym w.if-may_ask.true ∙ off in cc)
       | then-may_ask+then-can_ask+else-take_seat w ↦ absurd (let yes : true ≡ false = sym w.if-may_ask.true ∙ off in cc)
       | else-may_ask w ↦ telling_at disk out in_ c.args.self.now _ _ _ _ _ w.self-is (ap (λ h. h.broker) w.host-is) first
     ] in
-    telling_on disk out in_ c.args.self.now c.if-may_ask.self _ _ _ _ second c.finish.ensures.tells
+    telling_on disk out in_ c.args.self.now c.if-may_ask.self _ _ _ _ second (tells_knowing disk silent hasty out in_ (from_silent hasty) c.if-may_ask.self _ _ _ c.finish.ensures.tells)
 
 pub returns-clause-told : goal.returns-clause-told
 returns-clause-told g c = λ turn. λ goes_on.

@@ -1,20 +1,24 @@
 use Rattle.std.proofs.Common.{◌-◌, ◌∙◌, ap, inl, vec_len, ⊎_elim, arith}
 use Rattle.kb_node.proofs.ToldAll.{none_unwritten, over_ends, told_at, told_on}
 use Rattle.kb_node.specs.Carries.{HasToldAll}
-use Rattle.kb_node.proofs.Carries.{StaysTelling, stays_telling, telling_at, telling_on}
+use Rattle.kb_node.specs.Known.{silent, telling}
+use Rattle.kb_node.proofs.Carries.{StaysTelling, stays_telling, telling_at, telling_on, tells_knowing}
+use Rattle.kb_node.proofs.Known.{from_silent}
 use Rattle.kb_node.proofs.socket.Socket.tell.Goals as goal
 use Rattle.kb_node.proofs.socket.Socket.tell.Goals.{then-unwritten-eq0+then-not-self, else-unwritten-eq0, else-unwritten-eq0-via-then-unwritten-eq0+else-not-self, else-unwritten-eq0-via-else-unwritten-eq0}
 
 pub returns-clause-tells : goal.returns-clause-tells
 returns-clause-tells g c =
     let disk = g.S.Store.disk in let out = g.T.Write.contents in let in_ = g.T.Read.remaining in
-    let first : StaysTelling disk out in_ c.args.self.now c.if-unwritten-eq0.self c.args.host.now.broker c.if-unwritten-eq0.host.broker =
+    let known = telling g.S.Store.settled disk g.S.Store.loss c.args.host.now.commits in
+    let first : StaysTelling disk known out in_ c.args.self.now c.if-unwritten-eq0.self c.args.host.now.broker c.if-unwritten-eq0.host.broker =
     elim c.if-unwritten-eq0.branch [
       | then-unwritten-eq0+then-not-self w ↦ telling_at disk out in_ c.args.self.now _ _ _ _ _ w.self-is (ap (λ h. h.broker) w.host-is)
           (record { tells = w.write_output.ensures.tells; connection = w.write_output.ensures.connection; ended = w.write_output.ensures.ended ∙ c.requires.not_ended })
       | else-unwritten-eq0 w ↦ telling_at disk out in_ c.args.self.now _ _ _ _ _ w.self-is (ap (λ h. h.broker) w.host-is) (stays_telling disk out in_ c.args.self.now c.args.host.now.broker c.requires.not_ended)
     ] in
-    telling_on disk out in_ c.args.self.now c.if-unwritten-eq0.self _ c.args.host.now.broker c.if-unwritten-eq0.host.broker _ first c.finish.ensures.tells
+    telling_on disk out in_ c.args.self.now c.if-unwritten-eq0.self _ c.args.host.now.broker c.if-unwritten-eq0.host.broker _ first
+    (tells_knowing disk silent known out in_ (from_silent known) c.if-unwritten-eq0.self _ _ _ c.finish.ensures.tells)
 
 pub returns-clause-told : goal.returns-clause-told
 returns-clause-told g c = λ turn. λ goes_on.

@@ -1,6 +1,7 @@
 use Rattle.std.proofs.Common.{◌-◌, ◌∙◌, ap, refl, sym, vec_len, arith}
 use Rattle.kb_isolation_spec.specs.Calls.{output_of}
 use Rattle.kb_node.specs.Carries.{unwritten_of}
+use Rattle.kb_node.specs.Known.{telling}
 use Rattle.kb_node.specs.Sockets.{is_held}
 use Rattle.kb_node.proofs.ToldAll.{none_unwritten, told_at, told_kept, told_taken}
 use Rattle.kb_node.proofs.Carries.{StaysTelling, stays_telling, telling_at, telling_on, writes_told}
@@ -11,14 +12,14 @@ pub returns-clause-tells : goal.returns-clause-tells
 returns-clause-tells g c =
     let put = c.write_on.ensures.written in
     let disk = g.S.Store.disk in let out = g.T.Write.contents in let in_ = g.T.Read.remaining in
-    let first : StaysTelling disk out in_ c.args.self.now c.if-unwritten-eq0.self c.args.host.now.broker c.if-unwritten-eq0.host.broker =
+    let first : StaysTelling disk (telling g.S.Store.settled disk g.S.Store.loss c.args.host.now.commits) out in_ c.args.self.now c.if-unwritten-eq0.self c.args.host.now.broker c.if-unwritten-eq0.host.broker =
     elim c.if-unwritten-eq0.branch [
       | then-unwritten-eq0+then-not-is_held w ↦ telling_at disk out in_ c.args.self.now _ _ _ _ _ w.self-is (ap (λ h. h.broker) w.host-is)
           (record { tells = w.take_output.ensures.tells; connection = w.take_output.ensures.connection; ended = w.take_output.ensures.ended ∙ c.requires.not_ended })
       | else-unwritten-eq0 w ↦ telling_at disk out in_ c.args.self.now _ _ _ _ _ w.self-is (ap (λ h. h.broker) w.host-is) (stays_telling disk out in_ c.args.self.now c.args.host.now.broker c.requires.not_ended)
     ] in
     telling_on disk out in_ c.args.self.now c.if-unwritten-eq0.self _ c.args.host.now.broker c.if-unwritten-eq0.host.broker _ first
-    (writes_told disk out in_ c.if-unwritten-eq0.self _ _ put.0 put.1 put.2 c.write_on.ensures.unhanded c.write_on.ensures.over)
+    (writes_told disk out in_ c.if-unwritten-eq0.self _ _ put.0 put.1 put.2 c.write_on.ensures.unhanded c.write_on.ensures.over c.write_on.ensures.lost)
 
 pub returns-clause-told : goal.returns-clause-told
 returns-clause-told g c = λ turn.

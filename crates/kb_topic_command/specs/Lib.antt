@@ -1,1 +1,7 @@
+pub mod Words
 pub mod Wrong
+pub mod Meaning
+pub mod Faults
+pub mod Printing
+pub mod Exchange
+pub mod Telling

@@ -1,0 +1,4 @@
+pub mod Asked
+pub mod Going
+pub mod Said
+pub mod Spelled

@@ -1,10 +1,10 @@
 -- What a loss of power may leave after one more answer, and what of it is noted.
-use Rattle.std.proofs.Common.{◌≡◌, ◌≢◌, ◌∙◌, ◌≤◌, ℕ, List, [], ◌∷◌, length, take, Bool, true, false, refl, sym, subst, ap, arith, inl, inr, ⊎_elim, Option, Some, None, IsSome}
+use Rattle.std.proofs.Common.{◌≡◌, ◌≢◌, ◌∙◌, ◌≤◌, ℕ, List, [], length, take, Bool, true, false, refl, sym, subst, ap, arith, inl, inr, ⊎_elim, Option, Some, None, IsSome}
 use Rattle.std.specs.Prelude.{is_some, Result, Ok, Err, IfOk, OnOk, OnErr}
 use Rattle.std.specs.BTreeMap.{is_at}
 use Rattle.std.specs.List.{list_any}
 use Rattle.std.specs.Ordering.{nat_cmp}
-use Rattle.std.specs.FinMap.{get, insert, remove, same_map, nat_cmp-IsAntisymmetric}
+use Rattle.std.specs.FinMap.{get, remove, same_map, nat_cmp-IsAntisymmetric}
 use Rattle.std.specs.Cmp.{nat_cmp_total}
 use Rattle.std.proofs.lemmas.Bool.{cases_eq}
 use Rattle.kb_store.specs.Disk.{Files}
@@ -15,7 +15,7 @@ use Rattle.kb_folder.specs.Changed.{AllLasts, NotesOn, NotesBut, HasNoted, HasNo
 use Rattle.kb_folder.specs.Folder.{Contents, Has, IsAsBefore}
 use Rattle.kb_folder.specs.History.{Answer, after, listed, measured, read, wrote, resized, made, removed, synced, named, overlaid, sized, of_file}
 use Rattle.kb_folder.specs.Hosted.{hosted_loss}
-use Rattle.kb_folder.specs.Lasting.{IsKeptOf, HasNameOf, Loses, loss_of, Lasts, NamesLast, AllLast, IsNoted, IsMinded, Looks, Syncs}
+use Rattle.kb_folder.specs.Lasting.{IsKeptOf, HasNameOf, Loses, loss_of, Lasts, NamesLast, AllLast, IsMinded, Looks, Syncs}
 use Rattle.kb_folder.specs.Told.{Seen, contents_of, with}
 use Rattle.kb_folder.specs.declared.changed.Changed.{Changed}
 use Rattle.kb_folder.proofs.Goes.{goes_same}

@@ -3,8 +3,8 @@
 use Rattle.std.specs.Prelude.{◌≡◌, ◌≤◌, ◌⊎◌, ℕ, zero, suc, List, [], ◌∷◌, length, IsSome, true, false, Option, is_some}
 use Rattle.std.specs.FinMap.{get}
 use Rattle.kb_store.specs.Disk.{Files}
-use Rattle.kb_store.specs.Loss.{Loss, Goes, Same, Tears, Makes, Drops, nothing_left}
-use Rattle.kb_folder.specs.Folder.{Contents, IsAsBefore}
+use Rattle.kb_store.specs.Loss.{Loss, Goes, Same, Tears, Makes, Drops}
+use Rattle.kb_folder.specs.Folder.{IsAsBefore}
 use Rattle.kb_folder.specs.History.{Answer, told}
 use Rattle.kb_folder.specs.Told.{Seen, contents_of}
 use Rattle.kb_folder.specs.Changed.{is_noted, are_names_noted}

@@ -1,6 +1,6 @@
 //! A folder of the system.
 
-ghost use Rattle.std.specs.Prelude.{◌≡◌, true, take, IfOk, OnOk, OnErr};
+ghost use Rattle.std.specs.Prelude.{◌≡◌, true, false, take, IfOk, OnOk, OnErr};
 ghost use Rattle.kb_store.specs.Loss.{Only};
 ghost use Rattle.std.specs.Io.{WritesAtMost};
 ghost use Rattle.kb_folder.specs.Folder.{Stays, ReadsWhole, Has, bytes_in};
@@ -58,7 +58,8 @@ impl<R: Files<File = File> + AllocGlobal + Clone + Drop> Model for HostFolder<R>
 impl<R: Files<File = File> + AllocGlobal + Clone + Drop> HostFolder<R> {
     /// The folder at a path. Where there is none it is made, for the process's own user.
     pub fn new(rt: R, path: &str) -> Result<Self, FolderFault>
-        ensures { IfOk result (λ folder. (contents_of folder.history).honest) }
+        ensures honest { IfOk result (λ folder. (contents_of folder.history).honest) }
+        ensures syncs { IfOk result (λ folder. folder.syncs ≡ false) }
     {
         make_folder(&rt, path)?;
         Ok(HostFolder {
@@ -69,7 +70,8 @@ impl<R: Files<File = File> + AllocGlobal + Clone + Drop> HostFolder<R> {
 
     /// The folder at a path, to be read alone: files are not opened for writing, and no folder is made. Calls that write are refused.
     pub fn to_read(rt: R, path: &str) -> Result<Self, FolderFault>
-        ensures { IfOk result (λ folder. (contents_of folder.history).honest) }
+        ensures honest { IfOk result (λ folder. (contents_of folder.history).honest) }
+        ensures syncs { IfOk result (λ folder. folder.syncs ≡ false) }
     {
         Ok(HostFolder {
             host: Host::at(rt, path, false)?,

@@ -1,5 +1,4 @@
 use Rattle.std.proofs.Common.{◌≡◌, sym, subst}
-use Rattle.kb_folder.specs.Changed.{NotesBut}
 use Rattle.kb_folder.specs.Lasting.{Syncs}
 use Rattle.kb_folder.specs.Told.{seen}
 use Rattle.kb_folder.proofs.Synced.{notes_after, notes_weaker, syncs_noted, syncs_synced}

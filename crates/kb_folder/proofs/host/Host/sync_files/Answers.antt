@@ -1,5 +1,4 @@
 use Rattle.std.proofs.Common.{◌≡◌, subst, rules}
-use Rattle.kb_folder.specs.Changed.{NotesOn}
 use Rattle.kb_folder.specs.Lasting.{Syncs}
 use Rattle.kb_folder.specs.Told.{seen}
 use Rattle.kb_folder.proofs.Synced.{notes_same, syncs_noted, syncs_on}

@@ -1,5 +1,4 @@
-use Rattle.std.proofs.Common.{◌≡◌, ◌∙◌, ap, sym, subst}
-use Rattle.kb_folder.specs.Changed.{HasNoted}
+use Rattle.std.proofs.Common.{◌≡◌, ◌∙◌, ap}
 use Rattle.kb_folder.specs.History.{made}
 use Rattle.kb_folder.specs.Told.{seen, with}
 use Rattle.kb_folder.proofs.Synced.{minded_on, minded_as, minded_made}

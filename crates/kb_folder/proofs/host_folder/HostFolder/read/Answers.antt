@@ -1,4 +1,4 @@
-use Rattle.std.proofs.Common.{◌≡◌, sym, subst, rules}
+use Rattle.std.proofs.Common.{◌≡◌, subst, rules}
 use Rattle.kb_folder.specs.Lasting.{Looks}
 use Rattle.kb_folder.specs.Told.{seen}
 use Rattle.kb_folder.proofs.Synced.{looks_none, minded_on, minded_looked}

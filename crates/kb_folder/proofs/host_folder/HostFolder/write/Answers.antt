@@ -1,4 +1,4 @@
-use Rattle.std.proofs.Common.{◌≡◌, ◌∙◌, sym, subst, rules}
+use Rattle.std.proofs.Common.{◌≡◌, subst, rules}
 use Rattle.kb_folder.specs.Folder.{Has}
 use Rattle.kb_folder.specs.Told.{seen, contents_of}
 use Rattle.kb_folder.proofs.Synced.{minded_on, minded_as, minded_written}

@@ -1,12 +1,9 @@
-use Rattle.std.proofs.Common.{◌≡◌, ◌∙◌, refl, sym, subst, rules}
+use Rattle.std.proofs.Common.{◌≡◌, ◌∙◌, sym, subst, rules}
 use Rattle.std.specs.Prelude.{is_some}
-use Rattle.kb_store.specs.Loss.{Goes, Same, Makes, Tears, Drops}
-use Rattle.kb_store.specs.LossLaws.{stays_goes, made_not, torn_not, dropped_not}
-use Rattle.kb_folder.specs.History.{listed, measured, made, wrote, resized, removed}
-use Rattle.kb_folder.specs.Hosted.{hosted_loss}
+use Rattle.kb_store.specs.Loss.{Goes, Same}
 use Rattle.kb_folder.specs.Lasting.{loss_of}
-use Rattle.kb_folder.specs.Told.{seen, contents_of}
-use Rattle.kb_folder.proofs.Synced.{goes_or, hosted_goes}
+use Rattle.kb_folder.specs.Told.{seen}
+use Rattle.kb_folder.proofs.Synced.{hosted_goes}
 use Rattle.kb_folder.proofs.Synced.{on_ok, only_hosted}
 use Rattle.kb_folder.proofs.host_folder.HostFolderFolder.sync.Goals as goal
 

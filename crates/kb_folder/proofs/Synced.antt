@@ -13,16 +13,16 @@ use Rattle.kb_store.specs.LossLaws.{stays_goes, nothing_goes}
 use Rattle.kb_store.proofs.Maps.{get_inserted, get_other, get_removed, get_kept}
 use Rattle.kb_folder.specs.Changed.{AllLasts, NotesOn, NotesBut, HasNoted, HasNotedNames, is_noted, are_names_noted}
 use Rattle.kb_folder.specs.Folder.{Contents, Has, IsAsBefore}
-use Rattle.kb_folder.specs.History.{Answer, after, listed, measured, read, wrote, resized, made, removed, synced, named, overlaid, sized, of_file}
+use Rattle.kb_folder.specs.History.{Answer, after, listed, measured, read, wrote, resized, made, removed, synced, synced_names, overlaid, sized, of_file}
 use Rattle.kb_folder.specs.Hosted.{hosted_loss}
-use Rattle.kb_folder.specs.Lasting.{IsKeptOf, HasNameOf, Loses, loss_of, Lasts, NamesLast, AllLast, IsMinded, Looks, Syncs}
-use Rattle.kb_folder.specs.Told.{Seen, contents_of, with}
+use Rattle.kb_folder.specs.Lasting.{IsKeptOf, HasNameOf, Loses, folder_loss, Lasts, NamesLast, AllLast, IsMinded, Looks, Syncs}
+use Rattle.kb_folder.specs.Told.{Calls, contents_of, with}
 use Rattle.kb_folder.specs.declared.changed.Changed.{Changed}
 use Rattle.kb_folder.proofs.Goes.{goes_same}
 
 -- ---- one more answer
 
-module _ (h : Seen) (a : Answer) where
+module _ (h : Calls) (a : Answer) where
   abbrev pub before_it : Files
   before_it = (contents_of h).files
 
@@ -30,14 +30,14 @@ module _ (h : Seen) (a : Answer) where
   behind_it = after before_it a.0 a.1
 
   -- what a loss may leave changes by the call's step
-  pub goes_answered : (step : Files → Files → Type 0) → ((before found : Files) → Loses before_it a.0 before found → step before found) → Goes step (loss_of h) (loss_of (with h a))
+  pub goes_answered : (step : Files → Files → Type 0) → ((before found : Files) → Loses before_it a.0 before found → step before found) → Goes step (folder_loss h) (folder_loss (with h a))
   goes_answered step by = record {
     later = omega arith;
     now = λ found l. (l.0, l.1, by l.0 found l.2);
     between = λ t found le l.
         ⊎_elim
-        (λ (now : (loss_of (with h a)).leaves found). inr (now.0, now.1, by now.0 found now.2))
-        (λ (earlier : (t ≤ length h.answers) × (loss_of h).left_since t found). inl earlier.1)
+        (λ (now : (folder_loss (with h a)).leaves found). inr (now.0, now.1, by now.0 found now.2))
+        (λ (earlier : (t ≤ length h.answers) × (folder_loss h).left_since t found). inl earlier.1)
         l;
     keeps = λ t found le l. inr (le, l);
   }
@@ -83,7 +83,7 @@ module _ (h : Seen) (a : Answer) where
 
 -- ---- each call
 
-module _ (h : Seen) where
+module _ (h : Calls) where
   abbrev pub files_of : Files
   files_of = (contents_of h).files
 
@@ -138,20 +138,20 @@ module _ (h : Seen) where
     pub names_synced : NamesLast h → NamesLast (with h (synced file))
     names_synced last found l q = subst (λ x. HasNameOf files_of x q) (sym l.2.0) (last l.0 l.1 q)
 
-  pub lasts_named : (q : ℕ) → Lasts q h → Lasts q (with h named)
+  pub lasts_named : (q : ℕ) → Lasts q h → Lasts q (with h synced_names)
   lasts_named q last found l = subst (λ x. IsKeptOf files_of x q) (sym l.2.0) (last l.0 l.1)
 
-  pub names_named : NamesLast (with h named)
+  pub names_named : NamesLast (with h synced_names)
   names_named found l = l.2.1
 
 -- ---- looks, one after another
 
-pub looks_none : (h : Seen) → Looks h h
-looks_none h = record { loss = stays_goes Same (λ c. refl) (loss_of h); files = λ file last. last; names = λ last. last }
+pub looks_none : (h : Calls) → Looks h h
+looks_none h = record { loss = stays_goes Same (λ c. refl) (folder_loss h); files = λ file last. last; names = λ last. last }
 
-pub looks_on : (a b c : Seen) → Looks a b → Looks b c → Looks a c
+pub looks_on : (a b c : Calls) → Looks a b → Looks b c → Looks a c
 looks_on a b c p q = record {
-  loss = goes_same (loss_of a) (loss_of b) (loss_of c) p.loss q.loss;
+  loss = goes_same (folder_loss a) (folder_loss b) (folder_loss c) p.loss q.loss;
   files = λ file last. q.files file (p.files file last);
   names = λ last. q.names (p.names last);
 }
@@ -173,7 +173,7 @@ module _ (gone : ℕ → Type 0) (c c' : Option Changed) (notes : NotesBut gone 
   still_minds e = sym notes.minds ∙ e
 
 -- more may be noted
-pub minded_on : (c c' : Option Changed) (h : Seen) → NotesOn c c' → IsMinded c h → IsMinded c' h
+pub minded_on : (c c' : Option Changed) (h : Calls) → NotesOn c c' → IsMinded c h → IsMinded c' h
 minded_on c c' h notes minded some honest =
     let n = minded (still_minds (λ _. ⊥) c c' notes some) honest in
     record {
@@ -185,12 +185,12 @@ noted_apart : (c : Option Changed) (file q : ℕ) → is_noted c file ≡ true �
 noted_apart c file q noted e same = let t : is_noted c q ≡ true = ap (is_noted c) same ∙ noted in absurd cc
 
 -- after a look
-pub minded_looked : (c : Option Changed) (h h' : Seen) → Looks h h' → ((contents_of h').honest → (contents_of h).honest) → IsMinded c h → IsMinded c h'
+pub minded_looked : (c : Option Changed) (h h' : Calls) → Looks h h' → ((contents_of h').honest → (contents_of h).honest) → IsMinded c h → IsMinded c h'
 minded_looked c h h' looks was minded some honest =
     let n = minded some (was honest) in
     record { files = λ q e. looks.files q (n.files q e); names = λ e. looks.names (n.names e) }
 
-module _ (c : Option Changed) (h : Seen) (file : ℕ) (minded : IsMinded c h) where
+module _ (c : Option Changed) (h : Calls) (file : ℕ) (minded : IsMinded c h) where
   pub minded_wrote : (at : ℕ) (bytes : List ℕ) → Has (contents_of h) file → HasNoted c file → IsMinded c (with h (wrote file at bytes))
   minded_wrote at bytes has noted some honest =
       let n = minded some honest.0 in
@@ -235,7 +235,7 @@ module _ (c : Option Changed) (h : Seen) (file : ℕ) (minded : IsMinded c h) wh
         }
 
 -- the names were synced, and are not noted any longer
-pub minded_named : (c c' : Option Changed) (h : Seen) → is_some c' ≡ is_some c → ((q : ℕ) → is_noted c q ≡ true → is_noted c' q ≡ true) → IsMinded c h → IsMinded c' (with h named)
+pub minded_named : (c c' : Option Changed) (h : Calls) → is_some c' ≡ is_some c → ((q : ℕ) → is_noted c q ≡ true → is_noted c' q ≡ true) → IsMinded c h → IsMinded c' (with h synced_names)
 minded_named c c' h minds same minded some honest =
     let n = minded (sym minds ∙ some) honest.0 in
     record { files = λ q e. lasts_named h q (n.files q (was_false (is_noted c q) (is_noted c' q) (same q) e)); names = λ e. names_named h }
@@ -247,7 +247,7 @@ same_option None None same there back = refl
 same_option {X} None (Some y) same there back = let n : IsSome {T = X} None = back refl in absurd cc
 same_option (Some x) p same there back = same refl (there refl)
 
-pub only_last : (h : Seen) → AllLast h → Only (contents_of h).files (loss_of h)
+pub only_last : (h : Calls) → AllLast h → Only (contents_of h).files (folder_loss h)
 only_last h all found l =
     same_map nat_cmp_total nat_cmp-IsAntisymmetric found (contents_of h).files (λ q.
     same_option (get found q) (get (contents_of h).files q) (all.files q found l) (all.names found l q).only (all.names found l q).all)
@@ -288,29 +288,29 @@ pub as_before_on : (a b c : Contents) → IsAsBefore a b → IsAsBefore b c → 
 as_before_on a b c p q = record { files = q.files ∙ p.files; honest = λ h. p.honest (q.honest h); still = λ h. q.still (p.still h) }
 
 -- .. after a sync was noted
-pub as_before_synced : (h : Seen) (file : ℕ) → IsAsBefore (contents_of h) (contents_of (with h (synced file)))
+pub as_before_synced : (h : Calls) (file : ℕ) → IsAsBefore (contents_of h) (contents_of (with h (synced file)))
 as_before_synced h file = record { files = refl; honest = λ t. t.0; still = λ t. (t, tt) }
 
-pub as_before_named : (h : Seen) → IsAsBefore (contents_of h) (contents_of (with h named))
+pub as_before_named : (h : Calls) → IsAsBefore (contents_of h) (contents_of (with h synced_names))
 as_before_named h = record { files = refl; honest = λ t. t.0; still = λ t. (t, tt) }
 
-pub syncs_noted : (c c' : Option Changed) (h : Seen) → NotesOn c c' → Syncs c h c' h
+pub syncs_noted : (c c' : Option Changed) (h : Calls) → NotesOn c c' → Syncs c h c' h
 syncs_noted c c' h notes = record {
   contents = as_before (contents_of h);
-  loss = stays_goes Same (λ x. refl) (loss_of h);
+  loss = stays_goes Same (λ x. refl) (folder_loss h);
   minds = notes.minds;
   noted = minded_on c c' h notes;
 }
 
-pub syncs_on : (a b c : Option Changed) (h i j : Seen) → Syncs a h b i → Syncs b i c j → Syncs a h c j
+pub syncs_on : (a b c : Option Changed) (h i j : Calls) → Syncs a h b i → Syncs b i c j → Syncs a h c j
 syncs_on a b c h i j p q = record {
   contents = as_before_on (contents_of h) (contents_of i) (contents_of j) p.contents q.contents;
-  loss = goes_same (loss_of h) (loss_of i) (loss_of j) p.loss q.loss;
+  loss = goes_same (folder_loss h) (folder_loss i) (folder_loss j) p.loss q.loss;
   minds = q.minds ∙ p.minds;
   noted = λ m. q.noted (p.noted m);
 }
 
-pub syncs_synced : (c c' : Option Changed) (h : Seen) (file : ℕ) → NotesBut (λ gone. gone ≡ file) c c' → Syncs c h c' (with h (synced file))
+pub syncs_synced : (c c' : Option Changed) (h : Calls) (file : ℕ) → NotesBut (λ gone. gone ≡ file) c c' → Syncs c h c' (with h (synced file))
 syncs_synced c c' h file notes = record {
   contents = as_before_synced h file;
   loss = goes_answered h (synced file) Same (λ before found (l : Same before found × IsKeptOf (contents_of h).files found file). l.0);
@@ -318,10 +318,10 @@ syncs_synced c c' h file notes = record {
   noted = λ m. minded_synced c h file m c' notes;
 }
 
-pub syncs_named : (c c' : Option Changed) (h : Seen) → is_some c' ≡ is_some c → ((q : ℕ) → is_noted c q ≡ true → is_noted c' q ≡ true) → Syncs c h c' (with h named)
+pub syncs_named : (c c' : Option Changed) (h : Calls) → is_some c' ≡ is_some c → ((q : ℕ) → is_noted c q ≡ true → is_noted c' q ≡ true) → Syncs c h c' (with h synced_names)
 syncs_named c c' h minds same = record {
   contents = as_before_named h;
-  loss = goes_answered h named Same (λ before found (l : Same before found × ((file : ℕ) → HasNameOf (contents_of h).files found file)). l.0);
+  loss = goes_answered h synced_names Same (λ before found (l : Same before found × ((file : ℕ) → HasNameOf (contents_of h).files found file)). l.0);
   minds = minds;
   noted = minded_named c c' h minds same;
 }
@@ -333,26 +333,26 @@ pub notes_weaker : (gone : ℕ → Type 0) (a b : Option Changed) → NotesOn a 
 notes_weaker gone a b p = record { minds = p.minds; files = λ file stays e. p.files file (λ x. x) e; names = p.names }
 
 -- a folder that keeps nothing in mind says nothing
-pub no_minds : (c : Option Changed) (h : Seen) → c ≡ None → IsMinded c h
+pub no_minds : (c : Option Changed) (h : Calls) → c ≡ None → IsMinded c h
 no_minds None h e some = let n : false ≡ true = some in absurd cc
 no_minds (Some c) h e some = let n : Some c ≡ None = e in absurd cc
 
-pub minded_as : (c : Option Changed) (h h' : Seen) → h' ≡ h → IsMinded c h → IsMinded c h'
+pub minded_as : (c : Option Changed) (h h' : Calls) → h' ≡ h → IsMinded c h → IsMinded c h'
 minded_as c h h' e m = subst (IsMinded c) (sym e) m
 
-pub minded_or : {T E : Type 0} (r : Result T E) (c : Option Changed) (h h' : Seen) (a : T → Answer) → IfOk r (λ x. h' ≡ with h (a x)) → OnErr r (h' ≡ h) → ((x : T) → IsMinded c (with h (a x)))
+pub minded_or : {T E : Type 0} (r : Result T E) (c : Option Changed) (h h' : Calls) (a : T → Answer) → IfOk r (λ x. h' ≡ with h (a x)) → OnErr r (h' ≡ h) → ((x : T) → IsMinded c (with h (a x)))
     → IsMinded c h → IsMinded c h'
 minded_or (Ok x) c h h' a ok err good m = minded_as c (with h (a x)) h' ok (good x)
 minded_or (Err e) c h h' a ok err good m = minded_as c h h' err m
 
-pub goes_or : {T E : Type 0} (r : Result T E) (step : Files → Files → Type 0) (same : (x : Files) → step x x) (h h' : Seen) (a : T → Answer) → IfOk r (λ x. h' ≡ with h (a x)) → OnErr r (h' ≡ h)
-    → ((x : T) (before found : Files) → Loses (contents_of h).files (a x).0 before found → step before found) → Goes step (loss_of h) (loss_of h')
-goes_or (Ok x) step same h h' a ok err by = subst (λ k. Goes step (loss_of h) (loss_of k)) (sym ok) (goes_answered h (a x) step (by x))
-goes_or (Err e) step same h h' a ok err by = subst (λ k. Goes step (loss_of h) (loss_of k)) (sym err) (stays_goes step same (loss_of h))
+pub goes_or : {T E : Type 0} (r : Result T E) (step : Files → Files → Type 0) (same : (x : Files) → step x x) (h h' : Calls) (a : T → Answer) → IfOk r (λ x. h' ≡ with h (a x)) → OnErr r (h' ≡ h)
+    → ((x : T) (before found : Files) → Loses (contents_of h).files (a x).0 before found → step before found) → Goes step (folder_loss h) (folder_loss h')
+goes_or (Ok x) step same h h' a ok err by = subst (λ k. Goes step (folder_loss h) (folder_loss k)) (sym ok) (goes_answered h (a x) step (by x))
+goes_or (Err e) step same h h' a ok err by = subst (λ k. Goes step (folder_loss h) (folder_loss k)) (sym err) (stays_goes step same (folder_loss h))
 
 -- .. of a folder that syncs, or does not
-pub hosted_goes : (step : Files → Files → Type 0) (s s' : Bool) (h h' : Seen) → s' ≡ s → Goes step (loss_of h) (loss_of h') → Goes step (hosted_loss s h) (hosted_loss s' h')
-hosted_goes step true s' h h' e goes = subst (λ b. Goes step (loss_of h) (hosted_loss b h')) (sym e) goes
+pub hosted_goes : (step : Files → Files → Type 0) (s s' : Bool) (h h' : Calls) → s' ≡ s → Goes step (folder_loss h) (folder_loss h') → Goes step (hosted_loss s h) (hosted_loss s' h')
+hosted_goes step true s' h h' e goes = subst (λ b. Goes step (folder_loss h) (hosted_loss b h')) (sym e) goes
 hosted_goes step false s' h h' e goes = subst (λ b. Goes step nothing_left (hosted_loss b h')) (sym e) (nothing_goes step)
 
 -- ---- all was synced
@@ -365,19 +365,19 @@ lasting_names : (c : Option Changed) → AllLasts c → are_names_noted c ≡ fa
 lasting_names None l = refl
 lasting_names (Some c) l = l.names
 
-pub only_hosted : (c : Option Changed) (h : Seen) → IsMinded c h → AllLasts c → (contents_of h).honest → Only (contents_of h).files (hosted_loss (is_some c) h)
+pub only_hosted : (c : Option Changed) (h : Calls) → IsMinded c h → AllLasts c → (contents_of h).honest → Only (contents_of h).files (hosted_loss (is_some c) h)
 only_hosted None h m l honest = λ found left. absurd left
 only_hosted (Some c) h m l honest =
     let n = m refl honest in
     only_last h (record { files = λ q. n.files q (lasting_noted (Some c) q l); names = n.names (lasting_names (Some c) l) })
 
 -- .. and each file that was found, and the names
-pub minded_last : (c : Option Changed) (h : Seen) → ((contents_of h).honest → AllLast h) → IsMinded c h
+pub minded_last : (c : Option Changed) (h : Calls) → ((contents_of h).honest → AllLast h) → IsMinded c h
 minded_last c h all some honest = record { files = λ q e. (all honest).files q; names = λ e. (all honest).names }
 
 -- ---- the calls of a folder
 
-module _ (c : Option Changed) (h h' : Seen) (file k : ℕ) (same : k ≡ file) (has : Has (contents_of h) file) (noted : HasNoted c file) (minded : IsMinded c h) where
+module _ (c : Option Changed) (h h' : Calls) (file k : ℕ) (same : k ≡ file) (has : Has (contents_of h) file) (noted : HasNoted c file) (minded : IsMinded c h) where
   has_k : Has (contents_of h) k
   has_k = subst (Has (contents_of h)) (sym same) has
 
@@ -391,7 +391,7 @@ module _ (c : Option Changed) (h h' : Seen) (file k : ℕ) (same : k ≡ file) (
   pub minded_cut : {E : Type 0} (r : Result (Unit {0}) E) (len : ℕ) → OnOk r (h' ≡ with h (resized k len)) → OnErr r (h' ≡ h) → IsMinded c h'
   minded_cut r len ok err = minded_or r c h h' (λ _. resized k len) ok err (λ _. minded_resized c h k minded len has_k noted_k) minded
 
-pub looks_or : {E : Type 0} (r : Result ℕ E) (h h' : Seen) (file at : ℕ) (bytes : List ℕ) → IfOk r (λ n. h' ≡ with h (read file at (take n bytes))) → OnErr r (h' ≡ h) → Looks h h'
+pub looks_or : {E : Type 0} (r : Result ℕ E) (h h' : Calls) (file at : ℕ) (bytes : List ℕ) → IfOk r (λ n. h' ≡ with h (read file at (take n bytes))) → OnErr r (h' ≡ h) → Looks h h'
 looks_or (Ok n) h h' file at bytes ok err = subst (Looks h) (sym ok) (looks_read h file at (take n bytes))
 looks_or (Err e) h h' file at bytes ok err = subst (Looks h) (sym err) (looks_none h)
 

@@ -41,8 +41,8 @@ abbrev pub synced : ℕ → Answer
 synced file = (7 ∷ file ∷ [], [])
 
 -- the folder's names were made to last
-abbrev pub named : Answer
-named = (8 ∷ [], [])
+abbrev pub synced_names : Answer
+synced_names = (8 ∷ [], [])
 
 -- ---- what is true of files, and what becomes of them
 

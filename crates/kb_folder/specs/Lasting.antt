@@ -6,7 +6,7 @@ use Rattle.kb_store.specs.Disk.{Files}
 use Rattle.kb_store.specs.Loss.{Loss, Goes, Same, Tears, Makes, Drops}
 use Rattle.kb_folder.specs.Folder.{IsAsBefore}
 use Rattle.kb_folder.specs.History.{Answer, told}
-use Rattle.kb_folder.specs.Told.{Seen, contents_of}
+use Rattle.kb_folder.specs.Told.{Calls, contents_of}
 use Rattle.kb_folder.specs.Changed.{is_noted, are_names_noted}
 use Rattle.kb_folder.specs.declared.changed.Changed.{Changed}
 
@@ -41,42 +41,42 @@ left_since start [] t found = Unit {0}
 left_since start (a ∷ earlier) t found =
     leaves start (a ∷ earlier) found ⊎ ((t ≤ length earlier) × left_since start earlier t found)
 
-abbrev pub loss_of : Seen → Loss
-loss_of h = record { leaves = leaves h.start h.answers; moment = length h.answers; left_since = left_since h.start h.answers }
+abbrev pub folder_loss : Calls → Loss
+folder_loss h = record { leaves = leaves h.start h.answers; moment = length h.answers; left_since = left_since h.start h.answers }
 
 -- ---- what lasts
 
 -- A loss leaves the file as it is, or its name is lost.
-abbrev pub Lasts : ℕ → Seen → Type 0
-Lasts file h = (found : Files) → (loss_of h).leaves found → IsKeptOf (contents_of h).files found file
+abbrev pub Lasts : ℕ → Calls → Type 0
+Lasts file h = (found : Files) → (folder_loss h).leaves found → IsKeptOf (contents_of h).files found file
 
 -- A loss leaves the names that there are.
-abbrev pub NamesLast : Seen → Type 0
-NamesLast h = (found : Files) → (loss_of h).leaves found → (file : ℕ) → HasNameOf (contents_of h).files found file
+abbrev pub NamesLast : Calls → Type 0
+NamesLast h = (found : Files) → (folder_loss h).leaves found → (file : ℕ) → HasNameOf (contents_of h).files found file
 
 -- All files last, and the names.
-pub record AllLast (h : Seen) : Type 0 where
+pub record AllLast (h : Calls) : Type 0 where
   pub files : (file : ℕ) → Lasts file h
   pub names : NamesLast h
 
 -- What is not noted as changed lasts.
-pub record IsNoted (changed : Option Changed) (h : Seen) : Type 0 where
+pub record IsNoted (changed : Option Changed) (h : Calls) : Type 0 where
   pub files : (file : ℕ) → is_noted changed file ≡ false → Lasts file h
   pub names : are_names_noted changed ≡ false → NamesLast h
 
 -- So it is in a folder that keeps in mind what it has changed, as long as the system's answers are true.
-abbrev pub IsMinded : Option Changed → Seen → Type 0
+abbrev pub IsMinded : Option Changed → Calls → Type 0
 IsMinded changed h = is_some changed ≡ true → (contents_of h).honest → IsNoted changed h
 
 -- The folder is looked at alone: a loss leaves no more, and what lasted lasts.
-pub record Looks (h h' : Seen) : Type 0 where
-  pub loss : Goes Same (loss_of h) (loss_of h')
+pub record Looks (h h' : Calls) : Type 0 where
+  pub loss : Goes Same (folder_loss h) (folder_loss h')
   pub files : (file : ℕ) → Lasts file h → Lasts file h'
   pub names : NamesLast h → NamesLast h'
 
 -- Syncs change nothing that the folder has, nor leave more to a loss. What may not last is noted still.
-pub record Syncs (changed : Option Changed) (h : Seen) (changed' : Option Changed) (h' : Seen) : Type 0 where
+pub record Syncs (changed : Option Changed) (h : Calls) (changed' : Option Changed) (h' : Calls) : Type 0 where
   pub contents : IsAsBefore (contents_of h) (contents_of h')
-  pub loss : Goes Same (loss_of h) (loss_of h')
+  pub loss : Goes Same (folder_loss h) (folder_loss h')
   pub minds : is_some changed' ≡ is_some changed
   pub noted : IsMinded changed h → IsMinded changed' h'

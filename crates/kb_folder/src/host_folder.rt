@@ -5,9 +5,9 @@ ghost use Rattle.kb_store.specs.Loss.{Only};
 ghost use Rattle.std.specs.Io.{WritesAtMost};
 ghost use Rattle.kb_folder.specs.Folder.{Stays, ReadsWhole, Has, bytes_in};
 ghost use Rattle.kb_folder.specs.History.{resized, removed, made, measured, wrote};
-ghost use Rattle.kb_folder.specs.Lasting.{Looks, loss_of};
+ghost use Rattle.kb_folder.specs.Lasting.{Looks, folder_loss};
 ghost use Rattle.kb_folder.specs.Reserve.{is_catalogs};
-ghost use Rattle.kb_folder.specs.Told.{seen, contents_of, with};
+ghost use Rattle.kb_folder.specs.Told.{calls_of, contents_of, with};
 
 use crate::changed::Changed;
 use crate::history::{Handle, History};
@@ -44,15 +44,15 @@ impl<R: Files<File = File> + AllocGlobal + Clone + Drop> Model for HostFolder<R>
     ghost use Rattle.std.specs.Prelude.{is_some};
     ghost use Rattle.kb_folder.specs.Hosted.{Hosted, hosted_code};
     ghost use Rattle.kb_folder.specs.Lasting.{IsMinded};
-    ghost use Rattle.kb_folder.specs.Told.{seen};
+    ghost use Rattle.kb_folder.specs.Told.{calls_of};
 
     ghost Value = { Hosted };
 
     ghost coded = { hosted_code };
 
-    ghost view = { λ f. record { history = seen f.history; syncs = is_some f.host.changed } };
+    ghost view = { λ f. record { history = calls_of f.history; syncs = is_some f.host.changed } };
 
-    ghost invariant = { λ f. IsMinded f.host.changed (seen f.history) };
+    ghost invariant = { λ f. IsMinded f.host.changed (calls_of f.history) };
 }
 
 impl<R: Files<File = File> + AllocGlobal + Clone + Drop> HostFolder<R> {
@@ -113,7 +113,7 @@ impl<R: Files<File = File> + AllocGlobal + Clone + Drop> HostFolder<R> {
         ensures syncs { IfOk result (λ folder. folder.syncs ≡ true) }
         ensures unchanged { IfOk result (λ folder. Stays (contents_of self.history) (contents_of folder.history)) }
         ensures lasts { IfOk result (λ folder. (contents_of folder.history).honest
-            → Only (contents_of folder.history).files (loss_of folder.history)) }
+            → Only (contents_of folder.history).files (folder_loss folder.history)) }
     {
         self.host.sync_found(&mut self.history)?;
         self.host.changed = Some(Changed::new(self.host.rt.alloc()));
@@ -240,8 +240,8 @@ impl<R: Files<File = File> + AllocGlobal + Clone + Drop> HostFolder<R> {
 /// Writes bytes at a place of a file. A call that a signal interrupts is made again.
 fn write_at(history: &mut History, file: &Handle, at: u64, bytes: &[u8]) -> io::Result<usize>
     ensures bound { WritesAtMost result bytes.now }
-    ensures wrote { IfOk result (λ n. seen history.new ≡ with (seen history.old) (wrote file.now.number at (take n bytes.now))) }
-    ensures refused { OnErr result (seen history.new ≡ seen history.old) }
+    ensures wrote { IfOk result (λ n. calls_of history.new ≡ with (calls_of history.old) (wrote file.now.number at (take n bytes.now))) }
+    ensures refused { OnErr result (calls_of history.new ≡ calls_of history.old) }
 {
     for _ in 0..u64::MAX {
         match history.write(file, at, bytes) {
@@ -254,10 +254,10 @@ fn write_at(history: &mut History, file: &Handle, at: u64, bytes: &[u8]) -> io::
 
 /// Reads bytes of a file from a place on, up to the end of the buffer or of the file, and answers how many.
 fn read_whole(history: &mut History, file: &Handle, at: u64, buffer: &mut [u8]) -> io::Result<usize>
-    ensures bytes { IfOk result (λ n. (contents_of (seen history.new)).honest
-        → ReadsWhole (bytes_in (contents_of (seen history.old)) file.now.number) at buffer.old n buffer.new) }
-    ensures unchanged { Stays (contents_of (seen history.old)) (contents_of (seen history.new)) }
-    ensures looks { Looks (seen history.old) (seen history.new) }
+    ensures bytes { IfOk result (λ n. (contents_of (calls_of history.new)).honest
+        → ReadsWhole (bytes_in (contents_of (calls_of history.old)) file.now.number) at buffer.old n buffer.new) }
+    ensures unchanged { Stays (contents_of (calls_of history.old)) (contents_of (calls_of history.new)) }
+    ensures looks { Looks (calls_of history.old) (calls_of history.new) }
 {
     let mut read = 0;
     for _ in 0..u64::MAX {

@@ -3,9 +3,9 @@
 ghost use Rattle.std.specs.Prelude.{◌≡◌, ℕ, true, false, IfOk, IsErr, IsSome, OnOk, OnErr, Contains};
 ghost use Rattle.kb_folder.specs.Changed.{AllLasts, refused_in, is_noted, NotesOn, NotesBut, HasNoted, HasNotedNames};
 ghost use Rattle.kb_folder.specs.Folder.{Stays, IsAsBefore};
-ghost use Rattle.kb_folder.specs.History.{synced, named};
+ghost use Rattle.kb_folder.specs.History.{synced, synced_names};
 ghost use Rattle.kb_folder.specs.Lasting.{AllLast, Lasts, Syncs};
-ghost use Rattle.kb_folder.specs.Told.{seen, contents_of, with};
+ghost use Rattle.kb_folder.specs.Told.{calls_of, contents_of, with};
 
 use crate::FolderFault;
 use crate::history::{Handle, History};
@@ -21,8 +21,8 @@ impl<R: Files<File = File> + AllocGlobal + Clone + Drop> Host<R> {
     /// Syncs every file that has a number, and the names, and asks the system to forget what it has in memory of each file. It syncs the
     /// names of the folders above, too.
     pub(crate) fn sync_found(&mut self, history: &mut History) -> Result<(), FolderFault>
-        ensures unchanged { Stays (contents_of (seen history.old)) (contents_of (seen history.new)) }
-        ensures last { OnOk result ((contents_of (seen history.new)).honest → AllLast (seen history.new)) }
+        ensures unchanged { Stays (contents_of (calls_of history.old)) (contents_of (calls_of history.new)) }
+        ensures last { OnOk result ((contents_of (calls_of history.new)).honest → AllLast (calls_of history.new)) }
     {
         let listed = history.names(&self.rt, self.path.as_str(), self.rt.alloc());
         let names = self.answer(FolderCall::List, None, listed)?;
@@ -112,7 +112,7 @@ impl<R: Files<File = File> + AllocGlobal + Clone + Drop> Host<R> {
     /// Makes what has changed last: catalogs behind all other files. What a catalog tells of a partition, as a start or an offset that a
     /// group is at, is to last only where the partition's records do.
     pub(crate) fn sync_changed(&mut self, history: &mut History) -> Result<(), FolderFault>
-        ensures syncs { Syncs self.old.changed (seen history.old) self.new.changed (seen history.new) }
+        ensures syncs { Syncs self.old.changed (calls_of history.old) self.new.changed (calls_of history.new) }
         ensures lasting { OnOk result (AllLasts self.new.changed) }
         ensures refused { IsSome (refused_in self.old.changed) → IsErr result }
     {
@@ -141,7 +141,7 @@ impl<R: Files<File = File> + AllocGlobal + Clone + Drop> Host<R> {
 
     /// Makes what has changed last but for catalogs.
     fn sync_partitions(&mut self, history: &mut History) -> Result<(), FolderFault>
-        ensures { Syncs self.old.changed (seen history.old) self.new.changed (seen history.new) }
+        ensures { Syncs self.old.changed (calls_of history.old) self.new.changed (calls_of history.new) }
     {
         let mut least = 0;
         for _ in 0..self.files_changed() {
@@ -158,7 +158,7 @@ impl<R: Files<File = File> + AllocGlobal + Clone + Drop> Host<R> {
 
     /// Makes all files that have changed last.
     fn sync_files(&mut self, history: &mut History) -> Result<(), FolderFault>
-        ensures { Syncs self.old.changed (seen history.old) self.new.changed (seen history.new) }
+        ensures { Syncs self.old.changed (calls_of history.old) self.new.changed (calls_of history.new) }
     {
         for _ in 0..self.files_changed() {
             if let Some(file) = self.first_changed(0) {
@@ -170,7 +170,7 @@ impl<R: Files<File = File> + AllocGlobal + Clone + Drop> Host<R> {
 
     /// Makes a file last.
     fn sync_file(&mut self, history: &mut History, file: u64) -> Result<(), FolderFault>
-        ensures { Syncs self.old.changed (seen history.old) self.new.changed (seen history.new) }
+        ensures { Syncs self.old.changed (calls_of history.old) self.new.changed (calls_of history.new) }
     {
         if let Err(error) = self.sync_bytes(history, file) {
             return Err(self.not_synced(Some(file), error));
@@ -182,8 +182,8 @@ impl<R: Files<File = File> + AllocGlobal + Clone + Drop> Host<R> {
     /// Makes a file's bytes last.
     fn sync_bytes(&mut self, history: &mut History, file: u64) -> io::Result<()>
         ensures on { NotesOn self.old.changed self.new.changed }
-        ensures synced { OnOk result (seen history.new ≡ with (seen history.old) (synced file)) }
-        ensures refused { OnErr result (seen history.new ≡ seen history.old) }
+        ensures synced { OnOk result (calls_of history.new ≡ with (calls_of history.old) (synced file)) }
+        ensures refused { OnErr result (calls_of history.new ≡ calls_of history.old) }
     {
         self.open_one(file)?;
         history.sync(self.opened(file)?)
@@ -191,7 +191,7 @@ impl<R: Files<File = File> + AllocGlobal + Clone + Drop> Host<R> {
 
     /// Makes the names last where one has changed.
     fn sync_names(&mut self, history: &mut History) -> Result<(), FolderFault>
-        ensures { Syncs self.old.changed (seen history.old) self.new.changed (seen history.new) }
+        ensures { Syncs self.old.changed (calls_of history.old) self.new.changed (calls_of history.new) }
     {
         let has_changed = match &self.changed {
             Some(changed) => changed.names(),
@@ -256,8 +256,8 @@ impl<R: Files<File = File> + AllocGlobal + Clone + Drop> Host<R> {
     /// Makes the folder's names last.
     fn settle_names(&mut self, history: &mut History) -> Result<(), FolderFault>
         ensures on { NotesOn self.old.changed self.new.changed }
-        ensures synced { OnOk result (seen history.new ≡ with (seen history.old) named) }
-        ensures refused { OnErr result (seen history.new ≡ seen history.old) }
+        ensures synced { OnOk result (calls_of history.new ≡ with (calls_of history.old) synced_names) }
+        ensures refused { OnErr result (calls_of history.new ≡ calls_of history.old) }
     {
         let synced = match self.open_folder() {
             Ok(folder) => history.sync_names(&folder),
@@ -297,8 +297,8 @@ impl<R: Files<File = File> + AllocGlobal + Clone + Drop> Host<R> {
 
     /// Settles the files of these numbers.
     fn settle_all(&mut self, history: &mut History, numbers: &[u64]) -> Result<(), FolderFault>
-        ensures unchanged { IsAsBefore (contents_of (seen history.old)) (contents_of (seen history.new)) }
-        ensures last { OnOk result ((file : ℕ) → Contains numbers.now file → Lasts file (seen history.new)) }
+        ensures unchanged { IsAsBefore (contents_of (calls_of history.old)) (contents_of (calls_of history.new)) }
+        ensures last { OnOk result ((file : ℕ) → Contains numbers.now file → Lasts file (calls_of history.new)) }
     {
         for file in numbers {
             self.settle(history, *file)?;
@@ -308,8 +308,8 @@ impl<R: Files<File = File> + AllocGlobal + Clone + Drop> Host<R> {
 
     /// Syncs a file that was found, and drops what the system has in memory of it. What is no file has no bytes.
     fn settle(&mut self, history: &mut History, file: u64) -> Result<(), FolderFault>
-        ensures synced { OnOk result (seen history.new ≡ with (seen history.old) (synced file)) }
-        ensures refused { OnErr result (seen history.new ≡ seen history.old) }
+        ensures synced { OnOk result (calls_of history.new ≡ with (calls_of history.old) (synced file)) }
+        ensures refused { OnErr result (calls_of history.new ≡ calls_of history.old) }
     {
         match self.settle_bytes(history, file) {
             Ok(()) => Ok(()),
@@ -323,8 +323,8 @@ impl<R: Files<File = File> + AllocGlobal + Clone + Drop> Host<R> {
 
     /// Syncs the file that was found.
     fn settle_bytes(&mut self, history: &mut History, file: u64) -> io::Result<()>
-        ensures synced { OnOk result (seen history.new ≡ with (seen history.old) (synced file)) }
-        ensures refused { OnErr result (seen history.new ≡ seen history.old) }
+        ensures synced { OnOk result (calls_of history.new ≡ with (calls_of history.old) (synced file)) }
+        ensures refused { OnErr result (calls_of history.new ≡ calls_of history.old) }
     {
         self.open_one(file)?;
         history.settle(self.opened(file)?)

@@ -5,9 +5,9 @@
 
 ghost use Rattle.std.specs.Prelude.{◌≡◌, take, IfOk, OnOk, OnErr};
 ghost use Rattle.std.specs.Io.{ReadsAtMost, WritesAtMost};
-ghost use Rattle.kb_folder.specs.History.{listed, measured, read, wrote, resized, made, removed, synced, named};
+ghost use Rattle.kb_folder.specs.History.{listed, measured, read, wrote, resized, made, removed, synced, synced_names};
 ghost use Rattle.kb_folder.specs.Names.{IsPathOf, numbers_named};
-ghost use Rattle.kb_folder.specs.Told.{seen, with};
+ghost use Rattle.kb_folder.specs.Told.{calls_of, with};
 
 use super::History;
 use crate::name::numbers_of;
@@ -81,8 +81,8 @@ impl History {
         folder: &str,
         alloc: Global,
     ) -> io::Result<Vec<String>>
-        ensures listed { IfOk result (λ names. seen self.new ≡ with (seen self.old) (listed (numbers_named names.items))) }
-        ensures refused { OnErr result (seen self.new ≡ seen self.old) }
+        ensures listed { IfOk result (λ names. calls_of self.new ≡ with (calls_of self.old) (listed (numbers_named names.items))) }
+        ensures refused { OnErr result (calls_of self.new ≡ calls_of self.old) }
     {
         let names = names_in(rt, folder, alloc)?;
         let mut numbers = numbers_of(alloc, &names)?;
@@ -93,8 +93,8 @@ impl History {
 
     /// The length of a file. A folder has none.
     pub(crate) fn length(&mut self, file: &Handle) -> io::Result<u64>
-        ensures measured { IfOk result (λ len. seen self.new ≡ with (seen self.old) (measured file.now.number len)) }
-        ensures refused { OnErr result (seen self.new ≡ seen self.old) }
+        ensures measured { IfOk result (λ len. calls_of self.new ≡ with (calls_of self.old) (measured file.now.number len)) }
+        ensures refused { OnErr result (calls_of self.new ≡ calls_of self.old) }
     {
         let found = file.file.metadata()?;
         if found.is_dir() {
@@ -108,8 +108,8 @@ impl History {
     /// The length of what is at a path. A folder is as a file without bytes.
     pub(crate) fn length_at<R: Files>(&mut self, rt: &R, path: &str, file: u64) -> io::Result<u64>
         requires { IsPathOf path.now file }
-        ensures measured { IfOk result (λ len. seen self.new ≡ with (seen self.old) (measured file len)) }
-        ensures refused { OnErr result (seen self.new ≡ seen self.old) }
+        ensures measured { IfOk result (λ len. calls_of self.new ≡ with (calls_of self.old) (measured file len)) }
+        ensures refused { OnErr result (calls_of self.new ≡ calls_of self.old) }
     {
         let found = fs::metadata(rt, path)?;
         let len = if found.is_dir() { 0 } else { found.len() };
@@ -120,8 +120,8 @@ impl History {
     /// Reads bytes of a file from a place on, as many as the system gives.
     pub(crate) fn read(&mut self, file: &Handle, at: u64, buffer: &mut [u8]) -> io::Result<usize>
         ensures bound { ReadsAtMost result buffer.new }
-        ensures read { IfOk result (λ n. seen self.new ≡ with (seen self.old) (read file.now.number at (take n buffer.new))) }
-        ensures refused { OnErr result (seen self.new ≡ seen self.old) }
+        ensures read { IfOk result (λ n. calls_of self.new ≡ with (calls_of self.old) (read file.now.number at (take n buffer.new))) }
+        ensures refused { OnErr result (calls_of self.new ≡ calls_of self.old) }
     {
         let given = file.file.read_at(buffer, at)?;
         self.note(&[READ, file.number, at], &buffer[..given]);
@@ -131,8 +131,8 @@ impl History {
     /// Writes bytes at a place of a file, as many as the system takes.
     pub(crate) fn write(&mut self, file: &Handle, at: u64, bytes: &[u8]) -> io::Result<usize>
         ensures bound { WritesAtMost result bytes.now }
-        ensures wrote { IfOk result (λ n. seen self.new ≡ with (seen self.old) (wrote file.now.number at (take n bytes.now))) }
-        ensures refused { OnErr result (seen self.new ≡ seen self.old) }
+        ensures wrote { IfOk result (λ n. calls_of self.new ≡ with (calls_of self.old) (wrote file.now.number at (take n bytes.now))) }
+        ensures refused { OnErr result (calls_of self.new ≡ calls_of self.old) }
     {
         let taken = file.file.write_at(bytes, at)?;
         self.note(&[WROTE, file.number, at], &bytes[..taken]);
@@ -141,8 +141,8 @@ impl History {
 
     /// Gives a file a length.
     pub(crate) fn resize(&mut self, file: &Handle, len: u64) -> io::Result<()>
-        ensures resized { OnOk result (seen self.new ≡ with (seen self.old) (resized file.now.number len)) }
-        ensures refused { OnErr result (seen self.new ≡ seen self.old) }
+        ensures resized { OnOk result (calls_of self.new ≡ with (calls_of self.old) (resized file.now.number len)) }
+        ensures refused { OnErr result (calls_of self.new ≡ calls_of self.old) }
     {
         file.file.set_len(len)?;
         self.note(&[RESIZED, file.number, len], &[]);
@@ -151,15 +151,15 @@ impl History {
 
     /// Notes that a file was made, which the system opened so.
     pub(crate) fn made(&mut self, file: &Handle)
-        ensures { seen self.new ≡ with (seen self.old) (made file.now.number) }
+        ensures { calls_of self.new ≡ with (calls_of self.old) (made file.now.number) }
     {
         self.note(&[MADE, file.number], &[]);
     }
 
     /// Makes a file's bytes last.
     pub(crate) fn sync(&mut self, file: &Handle) -> io::Result<()>
-        ensures synced { OnOk result (seen self.new ≡ with (seen self.old) (synced file.now.number)) }
-        ensures refused { OnErr result (seen self.new ≡ seen self.old) }
+        ensures synced { OnOk result (calls_of self.new ≡ with (calls_of self.old) (synced file.now.number)) }
+        ensures refused { OnErr result (calls_of self.new ≡ calls_of self.old) }
     {
         file.file.sync_data()?;
         self.note(&[SYNCED, file.number], &[]);
@@ -168,8 +168,8 @@ impl History {
 
     /// Makes a file last, and drops what the system has in memory of it.
     pub(crate) fn settle(&mut self, file: &Handle) -> io::Result<()>
-        ensures synced { OnOk result (seen self.new ≡ with (seen self.old) (synced file.now.number)) }
-        ensures refused { OnErr result (seen self.new ≡ seen self.old) }
+        ensures synced { OnOk result (calls_of self.new ≡ with (calls_of self.old) (synced file.now.number)) }
+        ensures refused { OnErr result (calls_of self.new ≡ calls_of self.old) }
     {
         file.file.sync_all()?;
         let fd = file.file.as_raw_fd();
@@ -183,15 +183,15 @@ impl History {
 
     /// Notes that a folder with a file's name lasts: it has no bytes.
     pub(crate) fn settle_folder(&mut self, file: u64)
-        ensures { seen self.new ≡ with (seen self.old) (synced file) }
+        ensures { calls_of self.new ≡ with (calls_of self.old) (synced file) }
     {
         self.note(&[SYNCED, file], &[]);
     }
 
     /// Makes the names last of the folder that was opened.
     pub(crate) fn sync_names(&mut self, folder: &File) -> io::Result<()>
-        ensures synced { OnOk result (seen self.new ≡ with (seen self.old) named) }
-        ensures refused { OnErr result (seen self.new ≡ seen self.old) }
+        ensures synced { OnOk result (calls_of self.new ≡ with (calls_of self.old) synced_names) }
+        ensures refused { OnErr result (calls_of self.new ≡ calls_of self.old) }
     {
         folder.sync_all()?;
         self.note(&[NAMED], &[]);
@@ -201,8 +201,8 @@ impl History {
     /// Removes the file at a path.
     pub(crate) fn remove<R: Files>(&mut self, rt: &R, path: &str, file: u64) -> io::Result<()>
         requires { IsPathOf path.now file }
-        ensures removed { OnOk result (seen self.new ≡ with (seen self.old) (removed file)) }
-        ensures refused { OnErr result (seen self.new ≡ seen self.old) }
+        ensures removed { OnOk result (calls_of self.new ≡ with (calls_of self.old) (removed file)) }
+        ensures refused { OnErr result (calls_of self.new ≡ calls_of self.old) }
     {
         fs::remove_file(rt, path)?;
         self.note(&[REMOVED, file], &[]);

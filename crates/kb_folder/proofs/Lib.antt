@@ -4,5 +4,6 @@ pub mod Lens
 pub mod Listing
 pub mod Names
 pub mod Held
+pub mod Synced
 pub mod Told
 pub mod Reading

@@ -4,8 +4,7 @@ use Rattle.std.proofs.lemmas.List.{length-take-le, take-append-le, take_at, drop
 use Rattle.std.proofs.Math.Seq.{take-add}
 use Rattle.kb_folder.specs.Folder.{Contents, Stays, bytes_in}
 use Rattle.kb_folder.specs.History.{IsPart, read}
-use Rattle.kb_folder.specs.Told.{contents_of, with}
-use Rattle.kb_folder.specs.declared.history.History.{History}
+use Rattle.kb_folder.specs.Told.{Calls, contents_of, with}
 use Rattle.kb_folder.proofs.Told.{stays_read}
 
 -- one more call
@@ -17,11 +16,11 @@ read_more whole front sub rest at place n k e long fits is part =
     ∙ ap (λ x. front ++ take n x) (drop_at front (sub ++ rest) k long) ∙ ap (λ x. front ++ x) (take-append-le n sub rest fits)
     ∙ ap (λ x. x ++ take n sub) is ∙ ap (λ x. take k (drop at whole) ++ x) given ∙ sym (take-add k n (drop at whole))
 
-module _ (h h' : History) (file : ℕ) where
+module _ (h h' : Calls) (file : ℕ) where
   -- what was given is the file's as it was at first
   pub is_part : (c : Contents) (at : ℕ) (bytes : List ℕ) → Stays c (contents_of h) → h' ≡ with h (read file at bytes) → (contents_of h').honest → IsPart (bytes_in c file) at bytes
   is_part c at bytes stays e t =
-      let both = subst (λ (x : History). (contents_of x).honest) e t in
+      let both = subst (λ (x : Calls). (contents_of x).honest) e t in
       subst (λ files. IsPart (bytes_in (record { files = files; honest = c.honest }) file) at bytes) (stays.files both.0) both.1
 
   pub still_stays : (c : Contents) (at : ℕ) (bytes : List ℕ) → Stays c (contents_of h) → h' ≡ with h (read file at bytes) → Stays c (contents_of h')

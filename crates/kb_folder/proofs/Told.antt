@@ -5,8 +5,7 @@ use Rattle.std.specs.FinMap.{insert}
 use Rattle.std.proofs.lemmas.List.{append-nil, take_all, take-append-le, drop_all}
 use Rattle.kb_folder.specs.Folder.{Turns, Stays, HasLength, bytes_in}
 use Rattle.kb_folder.specs.History.{sized, overlaid, read, wrote, resized}
-use Rattle.kb_folder.specs.Told.{contents_of, with}
-use Rattle.kb_folder.specs.declared.history.History.{History}
+use Rattle.kb_folder.specs.Told.{Calls, contents_of, with}
 
 sized_within : (bytes : List ℕ) (len : ℕ) → len ≤ length bytes → sized bytes len ≡ take len bytes
 unfolding sized
@@ -20,11 +19,11 @@ overlaid_end old new at e =
     ∙ ap (λ x. old ++ new ++ x) (drop_all (at + length new) old (omega (arith, e)))
     ∙ append-nil (old ++ new)
 
-module _ (h h' : History) (file : ℕ) where
+module _ (h h' : Calls) (file : ℕ) where
   pub turns_wrote : (at : ℕ) (bytes : List ℕ) → HasLength (contents_of h) file at → h' ≡ with h (wrote file at bytes)
       → Turns (contents_of h) (insert (contents_of h).files file (bytes_in (contents_of h) file ++ bytes)) (contents_of h')
   turns_wrote at bytes has e =
-      subst (λ (x : History). Turns (contents_of h) (insert (contents_of h).files file (bytes_in (contents_of h) file ++ bytes)) (contents_of x)) (sym e)
+      subst (λ (x : Calls). Turns (contents_of h) (insert (contents_of h).files file (bytes_in (contents_of h) file ++ bytes)) (contents_of x)) (sym e)
       (record {
         honest = λ t. t.0;
         files = λ t. ap (insert (contents_of h).files file) (overlaid_end (bytes_in (contents_of h) file) bytes at (has t.0).1);
@@ -33,7 +32,7 @@ module _ (h h' : History) (file : ℕ) where
   pub turns_cut : (len : ℕ) → ((contents_of h).honest → len ≤ length (bytes_in (contents_of h) file)) → h' ≡ with h (resized file len)
       → Turns (contents_of h) (insert (contents_of h).files file (take len (bytes_in (contents_of h) file))) (contents_of h')
   turns_cut len within e =
-      subst (λ (x : History). Turns (contents_of h) (insert (contents_of h).files file (take len (bytes_in (contents_of h) file))) (contents_of x)) (sym e)
+      subst (λ (x : Calls). Turns (contents_of h) (insert (contents_of h).files file (take len (bytes_in (contents_of h) file))) (contents_of x)) (sym e)
       (record {
         honest = λ t. t.0;
         files = λ t. ap (insert (contents_of h).files file) (sized_within (bytes_in (contents_of h) file) len (within t.0));
@@ -47,4 +46,4 @@ module _ (h h' : History) (file : ℕ) where
   turns_told at bytes done (Err e) has is told = tt
 
   pub stays_read : (at : ℕ) (bytes : List ℕ) → h' ≡ with h (read file at bytes) → Stays (contents_of h) (contents_of h')
-  stays_read at bytes e = subst (λ (x : History). Stays (contents_of h) (contents_of x)) (sym e) (record { honest = λ t. t.0; files = λ t. refl })
+  stays_read at bytes e = subst (λ (x : Calls). Stays (contents_of h) (contents_of x)) (sym e) (record { honest = λ t. t.0; files = λ t. refl })

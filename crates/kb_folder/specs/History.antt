@@ -36,6 +36,14 @@ made file = (5 ∷ file ∷ [], [])
 abbrev pub removed : ℕ → Answer
 removed file = (6 ∷ file ∷ [], [])
 
+-- a file's bytes were made to last
+abbrev pub synced : ℕ → Answer
+synced file = (7 ∷ file ∷ [], [])
+
+-- the folder's names were made to last
+abbrev pub synced_names : Answer
+synced_names = (8 ∷ [], [])
+
 -- ---- what is true of files, and what becomes of them
 
 abbrev pub of_file : Files → ℕ → List ℕ

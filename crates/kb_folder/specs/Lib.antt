@@ -1,6 +1,9 @@
 pub mod Changed
 pub mod Folder
 pub mod History
+pub mod Hosted
+pub mod Lasting
+pub mod LastingLaws
 pub mod Memory
 pub mod Names
 pub mod Reserve

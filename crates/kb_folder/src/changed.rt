@@ -1,6 +1,6 @@
 //! What of a folder has changed since it was made to last.
 
-ghost use Rattle.std.specs.Prelude.{◌≡◌, [], false, true, not, None, slice_get, option_copied, IfOk, OnOk, OnErr};
+ghost use Rattle.std.specs.Prelude.{◌≡◌, ℕ, [], false, true, not, cond, None, slice_get, option_copied, IfOk, OnOk, OnErr};
 ghost use Rattle.std.specs.BTreeMap.{is_at};
 ghost use Rattle.std.specs.BTreeSet.{contains, insert_key, keys_between};
 ghost use Rattle.std.specs.declared.ops.Bound.TheVariants.{Included, Unbounded};
@@ -37,6 +37,8 @@ impl Changed {
     /// Notes a file as changed, and answers whether it was not before. A refusal changes nothing.
     pub(crate) fn note(&mut self, file: u64) -> Result<bool, AllocError>
         ensures noted { OnOk result (self.new.files.keys ≡ insert_key nat_cmp self.old.files.keys file) }
+        ensures has { OnOk result ((q : ℕ) → contains nat_cmp self.new.files q
+            ≡ cond (is_at (nat_cmp file) q) true (contains nat_cmp self.old.files q)) }
         ensures first { IfOk result (λ first. first ≡ not (contains nat_cmp self.old.files file)) }
         ensures refused { OnErr result (self.new.files.keys ≡ self.old.files.keys) }
         ensures names { self.new.names ≡ self.old.names }
@@ -51,6 +53,8 @@ impl Changed {
     /// Forgets a file, which lasts now or is gone.
     pub(crate) fn forget(&mut self, file: u64)
         ensures files { self.new.files.keys ≡ remove_key (is_at (nat_cmp file)) self.old.files.keys }
+        ensures has { (q : ℕ) → contains nat_cmp self.new.files q
+            ≡ cond (is_at (nat_cmp file) q) false (contains nat_cmp self.old.files q) }
         ensures names { self.new.names ≡ self.old.names }
         ensures before { self.new.refused ≡ self.old.refused }
     {

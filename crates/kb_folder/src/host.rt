@@ -1,6 +1,7 @@
 //! What is kept open of a folder of the system, and in mind.
 
-ghost use Rattle.std.specs.Prelude.{◌≡◌, ◌++◌, ◌∷◌, true, Ok, IfOk, OnErr, IsErr, string_bytes};
+ghost use Rattle.std.specs.Prelude.{◌≡◌, ◌++◌, ◌∷◌, true, None, Ok, IfOk, OnOk, OnErr, IsErr, string_bytes};
+ghost use Rattle.kb_folder.specs.Changed.{NotesOn, NotesBut, HasNoted, HasNotedNames};
 ghost use Rattle.kb_folder.specs.Names.{IsPathOf};
 ghost use Rattle.kb_folder.specs.Reserve.{is_catalogs};
 
@@ -59,7 +60,9 @@ impl From<io::Error> for FolderFault {
 
 impl<R: Files<File = File> + AllocGlobal + Clone + Drop> Host<R> {
     /// The folder at a path, with no file open.
-    pub(crate) fn at(rt: R, path: &str, writes: bool) -> Result<Self, FolderFault> {
+    pub(crate) fn at(rt: R, path: &str, writes: bool) -> Result<Self, FolderFault>
+        ensures { IfOk result (λ host. host.changed ≡ None) }
+    {
         let alloc = rt.alloc();
         let most = NonZeroUsize::new(MOST_OPEN).unwrap_or(NonZeroUsize::MIN);
         Ok(Host {
@@ -91,16 +94,10 @@ impl<R: Files<File = File> + AllocGlobal + Clone + Drop> Host<R> {
         Ok(path)
     }
 
-    /// A file, opened.
-    pub(crate) fn file(&mut self, file: u64) -> io::Result<&Handle>
-        ensures { IfOk result (λ opened. opened.now.number ≡ file) }
-    {
-        self.open_one(file)?;
-        self.opened(file)
-    }
-
     /// Opens a file, where it is not open. It is the one that was used last then.
-    pub(crate) fn open_one(&mut self, file: u64) -> io::Result<()> {
+    pub(crate) fn open_one(&mut self, file: u64) -> io::Result<()>
+        ensures { NotesOn self.old.changed self.new.changed }
+    {
         if self.opened(file).is_ok() || self.open.promote(&file) {
             return Ok(());
         }
@@ -122,7 +119,9 @@ impl<R: Files<File = File> + AllocGlobal + Clone + Drop> Host<R> {
     }
 
     /// Opens a file. While the system has no descriptor for it the file that was used least lately is closed, and it is tried again.
-    pub(crate) fn open_with(&mut self, options: &OpenOptions, path: &str) -> io::Result<File> {
+    pub(crate) fn open_with(&mut self, options: &OpenOptions, path: &str) -> io::Result<File>
+        ensures { NotesOn self.old.changed self.new.changed }
+    {
         for _ in 0..MOST_OPEN {
             match options.open(&self.rt, path) {
                 Err(error) if wants_descriptor(&error) => {
@@ -175,9 +174,11 @@ impl<R: Files<File = File> + AllocGlobal + Clone + Drop> Host<R> {
         }
     }
 
-    /// A file, made and opened.
+    /// A file, made and opened. It is noted, and so are the names.
     pub(crate) fn make(&mut self, file: u64) -> io::Result<Handle>
-        ensures { IfOk result (λ made. made.number ≡ file) }
+        ensures made { IfOk result (λ made. made.number ≡ file) }
+        ensures on { NotesOn self.old.changed self.new.changed }
+        ensures noted { OnOk result (HasNoted self.new.changed file × HasNotedNames self.new.changed) }
     {
         self.to_write()?;
         let path = self.path(file)?;
@@ -197,15 +198,20 @@ impl<R: Files<File = File> + AllocGlobal + Clone + Drop> Host<R> {
     }
 
     /// The first bytes of a file of a length, with new ones behind it.
-    pub(crate) fn front(&mut self, file: u64, len: u64, bytes: &[u8]) -> io::Result<Vec<u8>> {
+    pub(crate) fn front(&mut self, file: u64, len: u64, bytes: &[u8]) -> io::Result<Vec<u8>>
+        ensures { NotesOn self.old.changed self.new.changed }
+    {
         let mut kept = [0u8; FRONT];
         let size = len.min(FRONT as u64) as usize;
-        self.file(file)?.front(&mut kept[..size])?;
+        self.open_one(file)?;
+        self.opened(file)?.front(&mut kept[..size])?;
         Ok(front_of(self.rt.alloc(), &kept[..size], bytes)?)
     }
 
     /// Whether a file is a catalog's, by the bytes that it begins with. One that cannot be read is none.
-    pub(crate) fn is_catalogs(&mut self, file: u64) -> bool {
+    pub(crate) fn is_catalogs(&mut self, file: u64) -> bool
+        ensures { NotesOn self.old.changed self.new.changed }
+    {
         match self.front(file, FRONT as u64, &[]) {
             Ok(front) => may_take_reserve(&front),
             Err(_) => false,
@@ -215,6 +221,7 @@ impl<R: Files<File = File> + AllocGlobal + Clone + Drop> Host<R> {
     /// Gives so many bytes of the reserve up for a file that begins with a front, or all that it has.
     pub(crate) fn give_up(&mut self, size: u64, _front: &[u8]) -> io::Result<()>
         requires { is_catalogs _front.now ≡ true }
+        ensures { NotesOn self.old.changed self.new.changed }
     {
         let left = self.reserve.unwrap_or(0).saturating_sub(size);
         self.open_reserve()?.set_len(left)?;
@@ -223,7 +230,9 @@ impl<R: Files<File = File> + AllocGlobal + Clone + Drop> Host<R> {
     }
 
     /// Fills the reserve again where some of it is missing and there is room.
-    pub(crate) fn restore_reserve(&mut self) {
+    pub(crate) fn restore_reserve(&mut self)
+        ensures { NotesOn self.old.changed self.new.changed }
+    {
         let Some(len) = self.reserve else {
             return;
         };
@@ -236,7 +245,9 @@ impl<R: Files<File = File> + AllocGlobal + Clone + Drop> Host<R> {
     }
 
     /// The file of the reserve, which is made where it is missing.
-    pub(crate) fn open_reserve(&mut self) -> io::Result<File> {
+    pub(crate) fn open_reserve(&mut self) -> io::Result<File>
+        ensures { NotesOn self.old.changed self.new.changed }
+    {
         let path = self.path_of(reserve::NAME)?;
         let mut options = OpenOptions::new();
         options.write(true).create(true).mode(0o600);
@@ -244,7 +255,9 @@ impl<R: Files<File = File> + AllocGlobal + Clone + Drop> Host<R> {
     }
 
     /// Closes a file, and forgets what it has changed.
-    pub(crate) fn let_go(&mut self, file: u64) {
+    pub(crate) fn let_go(&mut self, file: u64)
+        ensures { NotesBut (λ gone. gone ≡ file) self.old.changed self.new.changed }
+    {
         self.open.pop(&file);
         self.forget(file);
     }

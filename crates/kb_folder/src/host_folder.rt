@@ -1,11 +1,13 @@
 //! A folder of the system.
 
-ghost use Rattle.std.specs.Prelude.{◌≡◌, true, take, IfOk, OnOk, OnErr};
+ghost use Rattle.std.specs.Prelude.{◌≡◌, true, false, take, IfOk, OnOk, OnErr};
+ghost use Rattle.kb_store.specs.Loss.{Only};
 ghost use Rattle.std.specs.Io.{WritesAtMost};
-ghost use Rattle.kb_folder.specs.Folder.{Stays, ReadsWhole, bytes_in};
+ghost use Rattle.kb_folder.specs.Folder.{Stays, ReadsWhole, Has, bytes_in};
 ghost use Rattle.kb_folder.specs.History.{resized, removed, made, measured, wrote};
+ghost use Rattle.kb_folder.specs.Lasting.{Looks, folder_loss};
 ghost use Rattle.kb_folder.specs.Reserve.{is_catalogs};
-ghost use Rattle.kb_folder.specs.Told.{contents_of, with};
+ghost use Rattle.kb_folder.specs.Told.{calls_of, contents_of, with};
 
 use crate::changed::Changed;
 use crate::history::{Handle, History};
@@ -17,6 +19,7 @@ use std::alloc::Global;
 use std::fs::File;
 use std::io;
 use std::io::ErrorKind;
+use std::marker::Model;
 use std::rt::Files;
 
 /// Of which powers of two so many bytes are taken from the reserve, one after another, while they are too few.
@@ -28,18 +31,35 @@ const MOST_POWER: u32 = 23;
 /// is honest as long as the system's answers are those of these contents.
 ///
 /// The files that were used last stay open, at most 256 of them, and fewer where the system has no descriptor for a further one. No
-/// call asks the system to write its own buffers out, unless the folder is [`HostFolder::syncing`]. Files that it makes are for the
-/// process's own user. A folder in it that has a file's name is as a file without bytes, and is noted as a refusal.
+/// call asks the system to write its own buffers out, unless the folder is [`HostFolder::syncing`]. Then what it has not noted as changed
+/// lasts through a loss of power, by the system's answers to its syncs. Files that it makes are for the process's own user. A folder in
+/// it that has a file's name is as a file without bytes, and is noted as a refusal.
 #[derive(Drop)]
 pub struct HostFolder<R: Files<File = File> + AllocGlobal + Clone + Drop> {
     host: Host<R>,
     history: History,
 }
 
+impl<R: Files<File = File> + AllocGlobal + Clone + Drop> Model for HostFolder<R> {
+    ghost use Rattle.std.specs.Prelude.{is_some};
+    ghost use Rattle.kb_folder.specs.Hosted.{Hosted, hosted_code};
+    ghost use Rattle.kb_folder.specs.Lasting.{IsMinded};
+    ghost use Rattle.kb_folder.specs.Told.{calls_of};
+
+    ghost Value = { Hosted };
+
+    ghost coded = { hosted_code };
+
+    ghost view = { λ f. record { history = calls_of f.history; syncs = is_some f.host.changed } };
+
+    ghost invariant = { λ f. IsMinded f.host.changed (calls_of f.history) };
+}
+
 impl<R: Files<File = File> + AllocGlobal + Clone + Drop> HostFolder<R> {
     /// The folder at a path. Where there is none it is made, for the process's own user.
     pub fn new(rt: R, path: &str) -> Result<Self, FolderFault>
-        ensures { IfOk result (λ folder. (contents_of folder.history).honest) }
+        ensures honest { IfOk result (λ folder. (contents_of folder.history).honest) }
+        ensures syncs { IfOk result (λ folder. folder.syncs ≡ false) }
     {
         make_folder(&rt, path)?;
         Ok(HostFolder {
@@ -50,7 +70,8 @@ impl<R: Files<File = File> + AllocGlobal + Clone + Drop> HostFolder<R> {
 
     /// The folder at a path, to be read alone: files are not opened for writing, and no folder is made. Calls that write are refused.
     pub fn to_read(rt: R, path: &str) -> Result<Self, FolderFault>
-        ensures { IfOk result (λ folder. (contents_of folder.history).honest) }
+        ensures honest { IfOk result (λ folder. (contents_of folder.history).honest) }
+        ensures syncs { IfOk result (λ folder. folder.syncs ≡ false) }
     {
         Ok(HostFolder {
             host: Host::at(rt, path, false)?,
@@ -60,7 +81,7 @@ impl<R: Files<File = File> + AllocGlobal + Clone + Drop> HostFolder<R> {
 
     /// The same folder, whose refusals are noted.
     pub fn noting(mut self, refusals: Refusals) -> Self
-        ensures { result.history ≡ self.history }
+        ensures { result ≡ self }
     {
         self.host.refusals = Some(refusals);
         self
@@ -69,7 +90,7 @@ impl<R: Files<File = File> + AllocGlobal + Clone + Drop> HostFolder<R> {
     /// The same folder, with a file `reserve` of 4,194,304 bytes where there is room for it. On a full disk an append to a catalog takes
     /// room from it, so that what takes files away can be written. It is filled again after a removal or a cut that leaves room.
     pub fn with_reserve(mut self) -> Self
-        ensures { result.history ≡ self.history }
+        ensures { result ≡ self }
     {
         let len = match self.host.open_reserve() {
             Ok(file) => file.metadata().map_or(0, |found| found.len()),
@@ -80,37 +101,38 @@ impl<R: Files<File = File> + AllocGlobal + Clone + Drop> HostFolder<R> {
         self
     }
 
-    /// The same folder, which keeps in mind what it has changed, so that `sync` can make it last. Without this a sync does nothing.
+    /// The same folder, which keeps in mind what it changes, so that `sync` can make it last. Without this a sync does nothing.
     ///
-    /// A file that has changed is synced before it is closed. Once a sync was refused every later one is: the system may take for
-    /// written what it could not write.
-    pub fn syncing(mut self) -> Self
-        ensures { result.history ≡ self.history }
+    /// First it syncs every file that has a number, and the names, and asks the system to forget what it has in memory of each file: what
+    /// a process that was killed left unsynced is to be believed only where it lasts. It syncs the names of the folders above, too, so
+    /// that the folder's own lasts. So it is for an opening, before anything is read.
+    ///
+    /// The system writes a file that has changed out before it is closed. Once a sync was refused every later one is: the system may take
+    /// for written what it could not write.
+    pub fn syncing(mut self) -> Result<Self, FolderFault>
+        ensures syncs { IfOk result (λ folder. folder.syncs ≡ true) }
+        ensures unchanged { IfOk result (λ folder. Stays (contents_of self.history) (contents_of folder.history)) }
+        ensures lasts { IfOk result (λ folder. (contents_of folder.history).honest
+            → Only (contents_of folder.history).files (folder_loss folder.history)) }
     {
+        self.host.sync_found(&mut self.history)?;
         self.host.changed = Some(Changed::new(self.host.rt.alloc()));
-        self
-    }
-
-    /// Syncs every file that has a number, and the names, and asks the system to forget what it has in memory of each file: what a
-    /// process that was killed left unsynced is to be believed only where it lasts. It syncs the names of the folders above, too, so that
-    /// the folder's own lasts. It is for an opening, before anything is read.
-    pub fn sync_found(&mut self) -> Result<(), FolderFault>
-        ensures { self.new.history ≡ self.old.history }
-    {
-        self.host.sync_found()
+        Ok(self)
     }
 
     /// The length of a file. A folder is none.
     fn length(&mut self, file: u64) -> io::Result<u64>
+        ensures syncs { self.new.syncs ≡ self.old.syncs }
         ensures measured { IfOk result (λ len. self.new.history ≡ with self.old.history (measured file len)) }
         ensures refused { OnErr result (self.new.history ≡ self.old.history) }
     {
-        let opened = self.host.file(file)?;
-        self.history.length(opened)
+        self.host.open_one(file)?;
+        self.history.length(self.host.opened(file)?)
     }
 
     /// The length of a folder that has a file's name: it has no bytes.
     fn length_of_folder(&mut self, file: u64) -> io::Result<u64>
+        ensures syncs { self.new.syncs ≡ self.old.syncs }
         ensures measured { IfOk result (λ len. self.new.history ≡ with self.old.history (measured file len)) }
         ensures refused { OnErr result (self.new.history ≡ self.old.history) }
     {
@@ -120,6 +142,7 @@ impl<R: Files<File = File> + AllocGlobal + Clone + Drop> HostFolder<R> {
 
     /// Makes a file. Where there is no room for the handle it is opened again when it is used.
     fn make(&mut self, file: u64) -> io::Result<()>
+        ensures syncs { self.new.syncs ≡ self.old.syncs }
         ensures made { OnOk result (self.new.history ≡ with self.old.history (made file)) }
         ensures refused { OnErr result (self.new.history ≡ self.old.history) }
     {
@@ -131,11 +154,14 @@ impl<R: Files<File = File> + AllocGlobal + Clone + Drop> HostFolder<R> {
 
     /// Writes at a place. On a full disk a catalog may take room from the reserve.
     fn write(&mut self, file: u64, at: u64, bytes: &[u8]) -> io::Result<usize>
+        requires { Has (contents_of self.old.history) file }
+        ensures syncs { self.new.syncs ≡ self.old.syncs }
         ensures bound { WritesAtMost result bytes.now }
         ensures wrote { IfOk result (λ n. self.new.history ≡ with self.old.history (wrote file at (take n bytes.now))) }
         ensures refused { OnErr result (self.new.history ≡ self.old.history) }
     {
-        match write_at(&mut self.history, self.host.to_change(file)?, at, bytes) {
+        self.host.open_to_change(file)?;
+        match write_at(&mut self.history, self.host.opened(file)?, at, bytes) {
             Err(error) if is_full(&error) && self.host.reserve.unwrap_or(0) > 0 => {
                 let front = self.host.front(file, at, bytes)?;
                 if !may_take_reserve(&front) {
@@ -155,14 +181,17 @@ impl<R: Files<File = File> + AllocGlobal + Clone + Drop> HostFolder<R> {
         bytes: &[u8],
         front: &[u8],
     ) -> io::Result<usize>
-        requires { is_catalogs front.now ≡ true }
+        requires catalog { is_catalogs front.now ≡ true }
+        requires there { Has (contents_of self.old.history) file }
+        ensures syncs { self.new.syncs ≡ self.old.syncs }
         ensures bound { WritesAtMost result bytes.now }
         ensures wrote { IfOk result (λ n. self.new.history ≡ with self.old.history (wrote file at (take n bytes.now))) }
         ensures refused { OnErr result (self.new.history ≡ self.old.history) }
     {
         for power in LEAST_POWER..MOST_POWER {
             self.host.give_up(1 << power, front)?;
-            match write_at(&mut self.history, self.host.to_change(file)?, at, bytes) {
+            self.host.open_to_change(file)?;
+            match write_at(&mut self.history, self.host.opened(file)?, at, bytes) {
                 Err(error) if is_full(&error) => {}
                 written => return written,
             }
@@ -172,15 +201,18 @@ impl<R: Files<File = File> + AllocGlobal + Clone + Drop> HostFolder<R> {
 
     /// Cuts a file, or lengthens it.
     fn resize(&mut self, file: u64, len: u64) -> io::Result<()>
+        requires { Has (contents_of self.old.history) file }
+        ensures syncs { self.new.syncs ≡ self.old.syncs }
         ensures resized { OnOk result (self.new.history ≡ with self.old.history (resized file len)) }
         ensures refused { OnErr result (self.new.history ≡ self.old.history) }
     {
-        let opened = self.host.to_change(file)?;
-        self.history.resize(opened, len)
+        self.host.open_to_change(file)?;
+        self.history.resize(self.host.opened(file)?, len)
     }
 
     /// Removes a file, and closes it.
     fn take_away(&mut self, file: u64) -> io::Result<()>
+        ensures syncs { self.new.syncs ≡ self.old.syncs }
         ensures removed { OnOk result (self.new.history ≡ with self.old.history (removed file)) }
         ensures refused { OnErr result (self.new.history ≡ self.old.history) }
     {
@@ -194,20 +226,22 @@ impl<R: Files<File = File> + AllocGlobal + Clone + Drop> HostFolder<R> {
 
     /// Reads bytes of a file from a place on, up to the end of the buffer or of the file, and answers how many.
     fn read(&mut self, file: u64, at: u64, buffer: &mut [u8]) -> io::Result<usize>
+        ensures syncs { self.new.syncs ≡ self.old.syncs }
         ensures bytes { IfOk result (λ n. (contents_of self.new.history).honest
             → ReadsWhole (bytes_in (contents_of self.old.history) file) at buffer.old n buffer.new) }
         ensures unchanged { Stays (contents_of self.old.history) (contents_of self.new.history) }
+        ensures looks { Looks self.old.history self.new.history }
     {
-        let opened = self.host.file(file)?;
-        read_whole(&mut self.history, opened, at, buffer)
+        self.host.open_one(file)?;
+        read_whole(&mut self.history, self.host.opened(file)?, at, buffer)
     }
 }
 
 /// Writes bytes at a place of a file. A call that a signal interrupts is made again.
 fn write_at(history: &mut History, file: &Handle, at: u64, bytes: &[u8]) -> io::Result<usize>
     ensures bound { WritesAtMost result bytes.now }
-    ensures wrote { IfOk result (λ n. history.new ≡ with history.old (wrote file.now.number at (take n bytes.now))) }
-    ensures refused { OnErr result (history.new ≡ history.old) }
+    ensures wrote { IfOk result (λ n. calls_of history.new ≡ with (calls_of history.old) (wrote file.now.number at (take n bytes.now))) }
+    ensures refused { OnErr result (calls_of history.new ≡ calls_of history.old) }
 {
     for _ in 0..u64::MAX {
         match history.write(file, at, bytes) {
@@ -220,9 +254,10 @@ fn write_at(history: &mut History, file: &Handle, at: u64, bytes: &[u8]) -> io::
 
 /// Reads bytes of a file from a place on, up to the end of the buffer or of the file, and answers how many.
 fn read_whole(history: &mut History, file: &Handle, at: u64, buffer: &mut [u8]) -> io::Result<usize>
-    ensures bytes { IfOk result (λ n. (contents_of history.new).honest
-        → ReadsWhole (bytes_in (contents_of history.old) file.now.number) at buffer.old n buffer.new) }
-    ensures unchanged { Stays (contents_of history.old) (contents_of history.new) }
+    ensures bytes { IfOk result (λ n. (contents_of (calls_of history.new)).honest
+        → ReadsWhole (bytes_in (contents_of (calls_of history.old)) file.now.number) at buffer.old n buffer.new) }
+    ensures unchanged { Stays (contents_of (calls_of history.old)) (contents_of (calls_of history.new)) }
+    ensures looks { Looks (calls_of history.old) (calls_of history.new) }
 {
     let mut read = 0;
     for _ in 0..u64::MAX {
@@ -243,15 +278,15 @@ fn read_whole(history: &mut History, file: &Handle, at: u64, buffer: &mut [u8]) 
 }
 
 impl<R: Files<File = File> + AllocGlobal + Clone + Drop> Folder for HostFolder<R> {
-    ghost use Rattle.kb_store.specs.Loss.{nothing_left};
-    ghost use Rattle.kb_store.specs.LossLaws.{nothing_timely};
+    ghost use Rattle.kb_folder.specs.Hosted.{hosted_loss};
+    ghost use Rattle.kb_folder.specs.LastingLaws.{hosted_timely};
     ghost use Rattle.kb_folder.specs.Told.{contents_of};
 
     ghost contents = { λ f. contents_of f.history };
 
-    ghost loss = { λ _. nothing_left };
+    ghost loss = { λ f. hosted_loss f.syncs f.history };
 
-    ghost timely = { λ _. nothing_timely };
+    ghost timely = { λ f. hosted_timely f.syncs f.history };
 
     fn names(&mut self, alloc: Global) -> Result<Vec<String>, FolderFault> {
         let listed = self
@@ -305,6 +340,6 @@ impl<R: Files<File = File> + AllocGlobal + Clone + Drop> Folder for HostFolder<R
     }
 
     fn sync(&mut self) -> Result<(), FolderFault> {
-        self.host.sync_changed()
+        self.host.sync_changed(&mut self.history)
     }
 }

@@ -1,8 +1,10 @@
 //! The data folder.
 
+ghost use Rattle.std.specs.Prelude.{◌≡◌, IfOk};
+
 use crate::fault::OperatorFault;
 use crate::refused::FolderJournal;
-use kb_folder::{FolderFault, FolderStore, HostFolder, is_full, make_folder};
+use kb_folder::{FolderFault, FolderStore, HostFolder, Refusals, is_full, make_folder};
 use std::alloc::AllocError;
 use std::fs::{File, OpenOptions, TryLockError};
 use std::io::Write;
@@ -166,18 +168,25 @@ pub fn store_to_serve(
     journal: &FolderJournal,
     syncs: bool,
 ) -> Result<DataStore, OperatorFault> {
-    let folder = match HostFolder::new(*rt, journal.folder()) {
-        Ok(folder) => folder.with_reserve(),
-        Err(fault) => return Err(journal.of_folder(rt.alloc(), fault)),
-    };
-    if !syncs {
-        return store_of(rt, journal, Ok(folder));
-    }
-    let mut folder = folder.noting(journal.refusals().share()?).syncing();
-    match folder.sync_found() {
-        Ok(()) => store_of(rt, journal, Ok(folder)),
-        Err(fault) => Err(journal.of_folder(rt.alloc(), fault)),
-    }
+    let refusals = journal.refusals().share()?;
+    store_of(
+        rt,
+        journal,
+        folder_to_serve(rt, journal.folder(), refusals, syncs),
+    )
+}
+
+/// A folder of the system that keeps a reserve, and makes what it changes last where it is to.
+fn folder_to_serve(
+    rt: &HostRuntime,
+    path: &str,
+    refusals: Refusals,
+    syncs: bool,
+) -> Result<HostFolder<HostRuntime>, FolderFault>
+    ensures { IfOk result (λ folder. folder.syncs ≡ syncs) }
+{
+    let folder = HostFolder::new(*rt, path)?.with_reserve().noting(refusals);
+    if syncs { folder.syncing() } else { Ok(folder) }
 }
 
 /// The store of the files in a folder. What the system refuses to it is noted in the journal.

@@ -236,9 +236,7 @@ impl Watched {
 
     /// One to write in that keeps in mind what it changes, and has synced what it found.
     fn to_sync(files: &HostRuntime, path: &str) -> Result<Watched, Fail> {
-        let mut folder = HostFolder::new(*files, path)?.syncing();
-        folder.sync_found()?;
-        Watched::over(files.alloc(), folder)
+        Watched::over(files.alloc(), HostFolder::new(*files, path)?.syncing()?)
     }
 
     /// A file is made, written, synced and removed again.

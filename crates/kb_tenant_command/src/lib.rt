@@ -183,10 +183,9 @@ fn filled(
     journal: &FolderJournal,
 ) -> Result<DataStore, FolderFault> {
     let noted = journal.refusals().share()?;
-    let mut folder = HostFolder::new(*rt, journal.folder())?
+    let folder = HostFolder::new(*rt, journal.folder())?
         .noting(noted)
-        .syncing();
-    folder.sync_found()?;
+        .syncing()?;
     FolderStore::new(alloc, folder)
 }
 

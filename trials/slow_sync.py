@@ -3,10 +3,10 @@
 
     trials/slow_sync.py KBROKER
 
-It runs under strace (Debian: strace), which holds up each fdatasync by 1.3 seconds, or by none, with `sync = "always"`, `"interval"` and
+It runs under strace, which holds up each fdatasync by 1.3 seconds, or by none, with `sync = "always"`, `"interval"` and
 `"never"`. A topic is made in it, and a batch is produced. With a slow disk, and a `sync` that is not `"never"`, the log has a line
-`a commit took N ms` of over a second for each commit, and no more lines than seconds went by. Else it has none. It prints how many of the six runs went
-otherwise.
+`a commit took N ms` of over a second, and no more lines than seconds went by. Else it has none. It prints how many of the six runs went
+otherwise. It needs Debian's strace, and takes half a minute.
 """
 
 import re

@@ -7,7 +7,7 @@ use crate::moves::{Deed, Move, play};
 use Deed::{Asks, Closed, Ends, Hears, Sends, Stays};
 use Move::{At, By, Join, Leave, Turns};
 use kb_node::Limits;
-use std::alloc::Global;
+use std::alloc::{AllocError, Global};
 use std::net::Net;
 use std::test::Fail;
 
@@ -191,9 +191,14 @@ fn plays<R: Net>(
 }
 
 /// The same in memory, where each write is read whole.
-fn plays_in_memory(alloc: Global, moves: &[Move<'_>]) -> Result<usize, Fail> {
+fn plays_in_memory(
+    alloc: Global,
+    host: Host,
+    sockets: u32,
+    moves: &[Move<'_>],
+) -> Result<usize, Fail> {
     let hall = Hall::new(alloc, CLIENTS, Pieces::Whole, usize::MAX)?;
-    plays(&hall.room(), alloc, Host::new(alloc)?, 1024, moves)
+    plays(&hall.room(), alloc, host, sockets, moves)
 }
 
 #[test]
@@ -208,10 +213,8 @@ fn scenes_are_played(rt: HostRuntime) -> Result<(), Fail> {
 #[test]
 fn scenes_are_played_in_memory(rt: HostRuntime) -> Result<(), Fail> {
     for (name, moves) in &SCENES {
-        assert!(rt;
-            plays_in_memory(rt.alloc(), moves)? == moves.len(),
-            "{name}"
-        );
+        let done = plays_in_memory(rt.alloc(), Host::new(rt.alloc())?, 1024, moves)?;
+        assert!(rt; done == moves.len(), "{name}");
     }
     Ok(())
 }
@@ -220,6 +223,8 @@ fn scenes_are_played_in_memory(rt: HostRuntime) -> Result<(), Fail> {
 fn a_client_that_logged_in_makes_no_room(rt: HostRuntime) -> Result<(), Fail> {
     let host = Host::new(rt.alloc())?;
     assert!(rt; plays(&rt, rt.alloc(), host, 1, &ONE_AT_A_TIME)? == ONE_AT_A_TIME.len());
+    let host = Host::new(rt.alloc())?;
+    assert!(rt; plays_in_memory(rt.alloc(), host, 1, &ONE_AT_A_TIME)? == ONE_AT_A_TIME.len());
     Ok(())
 }
 
@@ -232,10 +237,16 @@ const LAST: [Move<'static>; 5] = [
     By(1, Closed),
 ];
 
+/// A broker that has one number left for a connection.
+fn nearly_full(alloc: Global) -> Result<Host, AllocError> {
+    let mut host = Host::new(alloc)?;
+    host.open(u64::MAX - 1)?;
+    Ok(host)
+}
+
 #[test]
 fn the_last_number_is_given_once(rt: HostRuntime) -> Result<(), Fail> {
-    let mut host = Host::new(rt.alloc())?;
-    host.open(u64::MAX - 1)?;
-    assert!(rt; plays(&rt, rt.alloc(), host, 1024, &LAST)? == LAST.len());
+    assert!(rt; plays(&rt, rt.alloc(), nearly_full(rt.alloc())?, 1024, &LAST)? == LAST.len());
+    assert!(rt; plays_in_memory(rt.alloc(), nearly_full(rt.alloc())?, 1024, &LAST)? == LAST.len());
     Ok(())
 }

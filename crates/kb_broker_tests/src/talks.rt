@@ -1,10 +1,11 @@
 //! Clients that say all that they have to say, over a network in memory that carries any number of bytes at a time. What they are told is
-//! what a broker says that is given the same bytes, each client's at once.
+//! what a run of a broker gives that gets the same bytes, each client's at once.
 
 use crate::edge::{Client, Node, Server};
 use crate::hall::{Hall, Pieces};
 use crate::host::Host;
 use crate::words::bytes_of;
+use kb_broker::Written;
 use kb_node::{Limits, Sync};
 use std::alloc::{AllocError, Global};
 use std::io;
@@ -12,12 +13,25 @@ use std::net::Net;
 use std::ops::Range;
 use std::test::Fail;
 
-/// What is said on each connection: by a client of each tenant, by one that does not log in, and by one whose login fails.
-const TALKS: [&str; 4] = [
-    "handshake ann create append hi append hi metadata fetch",
-    "handshake bob create metadata append yo fetch",
-    "versions gssapi versions",
-    "handshake ann-wrong versions",
+/// What is said on each connection, what it is told, and whether it is shut: by a client of each tenant, by one that does not log in, and
+/// by one whose login fails.
+const TALKS: [(&str, &str, bool); 4] = [
+    (
+        "handshake ann create append hi fetch append hi metadata",
+        "offered welcome created appended-0 fetched hi appended-1 described",
+        false,
+    ),
+    (
+        "handshake bob create metadata append yo fetch 00000007",
+        "offered welcome created described appended-0 fetched yo",
+        true,
+    ),
+    (
+        "versions gssapi versions",
+        "served gssapi-refused served",
+        false,
+    ),
+    ("handshake ann-wrong versions", "offered denied", true),
 ];
 
 /// How many turns a talk has at most. A client that does not log in has ten seconds.
@@ -69,16 +83,16 @@ impl<R: Net> Talker<R> {
         self.client.look()
     }
 
-    /// Whether it was told just this.
-    fn was_told(&self, bytes: &[u8]) -> bool {
-        self.client.got.as_slice() == bytes
+    /// Whether it was told just this, and is over if it was shut.
+    fn was_told(&self, written: &Written) -> bool {
+        self.client.got == written.bytes && self.client.is_over == written.shut
     }
 }
 
 /// A client for each talk.
 fn join_all<R: Net>(net: &R, alloc: Global, port: u16) -> io::Result<Vec<Talker<R>>> {
     let mut talkers = Vec::new(alloc);
-    for words in &TALKS {
+    for (words, _, _) in &TALKS {
         talkers.push(Talker::join(net, alloc, port, words)?)?;
     }
     Ok(talkers)
@@ -92,23 +106,25 @@ fn go_on_all<R: Net>(talkers: &mut [Talker<R>]) -> io::Result<()> {
     Ok(())
 }
 
-/// What a broker says to each of them, to one talk after another.
-fn told(alloc: Global) -> Result<Vec<Vec<u8>>, AllocError> {
+/// What a run of a broker gives each of them.
+fn run(alloc: Global) -> Result<Vec<Written>, AllocError> {
     let mut host = Host::new(alloc)?;
-    let mut all = Vec::new(alloc);
-    for (place, words) in TALKS.iter().enumerate() {
-        let number = (place as u64).saturating_add(1);
+    for number in 1..5 {
         host.open(number)?;
-        all.push(host.ask(number, &bytes_of(alloc, words)?))?;
     }
-    Ok(all)
+    let [first, second, third, fourth] = &TALKS;
+    let first = bytes_of(alloc, first.0)?;
+    let second = bytes_of(alloc, second.0)?;
+    let third = bytes_of(alloc, third.0)?;
+    let fourth = bytes_of(alloc, fourth.0)?;
+    host.run(first, second, third, fourth)
 }
 
-/// How many of the first clients were told what a broker says.
-fn count_told<R: Net>(talkers: &[Talker<R>], told: &[Vec<u8>]) -> usize {
+/// How many of the first clients were told what the run gives.
+fn count_told<R: Net>(talkers: &[Talker<R>], told: &[Written]) -> usize {
     let mut count = 0usize;
-    for (talker, bytes) in talkers.iter().zip(told) {
-        if !talker.was_told(bytes) {
+    for (talker, written) in talkers.iter().zip(told) {
+        if !talker.was_told(written) {
             break;
         }
         count = count.saturating_add(1);
@@ -122,7 +138,7 @@ fn talk<R: Net, E: Server>(
     alloc: Global,
     edge: &mut E,
     talkers: &mut [Talker<R>],
-    told: &[Vec<u8>],
+    told: &[Written],
     moments: Range<u32>,
 ) -> io::Result<(usize, u64)> {
     let (mut left, mut closed) = (MORE, 0u64);
@@ -144,7 +160,7 @@ fn hear_later<R: Net, E: Server>(
     alloc: Global,
     edge: &mut E,
     talkers: &mut [Talker<R>],
-    told: &[Vec<u8>],
+    told: &[Written],
 ) -> io::Result<(usize, u64)> {
     set_deaf(talkers, true);
     talk(alloc, edge, talkers, told, 0..DEAF)?;
@@ -180,7 +196,7 @@ fn go_after<R: Net, E: Server>(
     alloc: Global,
     edge: &mut E,
     talkers: &mut Vec<Talker<R>>,
-    told: &[Vec<u8>],
+    told: &[Written],
     turns: u32,
 ) -> io::Result<(usize, u64)> {
     for now in 0..turns {
@@ -202,12 +218,12 @@ enum Course {
     GoAfter(u32),
 }
 
-/// Clients do so: how many are told what a broker says, and how many sockets are closed in the end.
+/// Clients do so: how many are told what the run gives, and how many sockets are closed in the end.
 fn take_course<R: Net, E: Server>(
     net: &R,
     alloc: Global,
     edge: &mut E,
-    told: &[Vec<u8>],
+    told: &[Written],
     course: Course,
 ) -> io::Result<(usize, u64)> {
     let mut talkers = join_all(net, alloc, edge.port())?;
@@ -218,11 +234,23 @@ fn take_course<R: Net, E: Server>(
     }
 }
 
-/// The same of clients of a new broker over a network in memory, where bytes go so.
+/// The same of clients of a new broker on a network.
+fn serves<R: Net>(
+    net: &R,
+    alloc: Global,
+    limits: Limits,
+    told: &[Written],
+    course: Course,
+) -> Result<(usize, u64), Fail> {
+    let mut edge = Node::bind(net, alloc, Host::new(alloc)?, limits)?;
+    Ok(take_course(net, alloc, &mut edge, told, course)?)
+}
+
+/// The same over a network in memory, where bytes go so.
 fn takes_course(
     alloc: Global,
     way: (u32, usize, Sync),
-    told: &[Vec<u8>],
+    told: &[Written],
     course: Course,
 ) -> Result<(usize, u64), Fail> {
     let (most, room, sync) = way;
@@ -231,23 +259,33 @@ fn takes_course(
         sync,
         ..Limits::default()
     };
-    let mut edge = Node::bind(&hall.room(), alloc, Host::new(alloc)?, limits)?;
-    Ok(take_course(&hall.room(), alloc, &mut edge, told, course)?)
+    serves(&hall.room(), alloc, limits, told, course)
+}
+
+#[test]
+fn a_run_tells_what_each_connection_got(rt: HostRuntime) -> Result<(), Fail> {
+    let told = run(rt.alloc())?;
+    assert!(rt; told.len() == TALKS.len());
+    for (written, (_, reply, is_shut)) in told.iter().zip(&TALKS) {
+        assert!(rt; written.bytes == bytes_of(rt.alloc(), reply)?);
+        assert!(rt; written.shut == *is_shut);
+    }
+    Ok(())
 }
 
 #[test]
 fn bytes_may_go_in_any_pieces(rt: HostRuntime) -> Result<(), Fail> {
-    let told = told(rt.alloc())?;
+    let told = run(rt.alloc())?;
     for way in &WAYS {
         let done = takes_course(rt.alloc(), *way, &told, Course::All)?;
-        assert!(rt; done == (TALKS.len(), 1), "up to {} bytes", way.0);
+        assert!(rt; done == (TALKS.len(), 2), "up to {} bytes", way.0);
     }
     Ok(())
 }
 
 #[test]
 fn a_client_that_reads_later_loses_nothing(rt: HostRuntime) -> Result<(), Fail> {
-    let told = told(rt.alloc())?;
+    let told = run(rt.alloc())?;
     let way = (40, 24, Sync::Interval);
     assert!(rt; takes_course(rt.alloc(), way, &told, Course::HearLater)? == (TALKS.len(), 0));
     Ok(())
@@ -255,7 +293,7 @@ fn a_client_that_reads_later_loses_nothing(rt: HostRuntime) -> Result<(), Fail> 
 
 #[test]
 fn clients_that_go_change_nothing(rt: HostRuntime) -> Result<(), Fail> {
-    let told = told(rt.alloc())?;
+    let told = run(rt.alloc())?;
     for turns in [1, 5, 9, 20] {
         let way = (20, 64, Sync::Interval);
         let done = takes_course(rt.alloc(), way, &told, Course::GoAfter(turns))?;

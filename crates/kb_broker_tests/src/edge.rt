@@ -1,4 +1,4 @@
-//! An edge on the loopback, and a client on the other side.
+//! An edge on a network, and a client on the other side.
 
 use crate::host::Host;
 use kb_node::{BindFault, Edge, Limits};
@@ -7,7 +7,7 @@ use kb_store::MemoryStore;
 use std::alloc::Global;
 use std::io;
 use std::io::{ErrorKind, Read, Write};
-use std::net::{Shutdown, TcpStream};
+use std::net::{Net, OpenStream, Shutdown, TcpStream};
 
 /// What the clients see of an edge. What drives it takes any, which keeps its proofs short.
 pub(crate) trait Server {
@@ -19,32 +19,28 @@ pub(crate) trait Server {
     fn turn(&mut self, alloc: Global, now: u32) -> [u64; 6];
 }
 
-/// An edge on the loopback.
+/// An edge on a network.
 #[derive(Drop)]
-pub(crate) struct Loopback {
-    edge: Edge<HostRuntime, MemoryStore, SegmentLog>,
+pub(crate) struct Node<R: Net> {
+    edge: Edge<R, MemoryStore, SegmentLog>,
 }
 
-impl Loopback {
-    /// An edge for a broker, with at most so many sockets, on a port of the system's choice.
+impl<R: Net> Node<R> {
+    /// An edge for a broker, with those limits, on a port of the network's choice.
     pub(crate) fn bind(
-        net: &HostRuntime,
+        net: &R,
         alloc: Global,
         host: Host,
-        sockets: u32,
-    ) -> Result<Loopback, BindFault> {
-        let limits = Limits {
-            sockets,
-            ..Limits::default()
-        };
+        limits: Limits,
+    ) -> Result<Node<R>, BindFault> {
         match Edge::bind(net, alloc, host.into_broker(), "127.0.0.1:0", limits) {
-            Ok(edge) => Ok(Loopback { edge }),
+            Ok(edge) => Ok(Node { edge }),
             Err(refused) => Err(refused.fault),
         }
     }
 }
 
-impl Server for Loopback {
+impl<R: Net> Server for Node<R> {
     fn port(&self) -> u16 {
         self.edge.port()
     }
@@ -65,14 +61,14 @@ impl Server for Loopback {
 
 /// A client on the other side, and what it got since it began to listen.
 #[derive(Drop)]
-pub(crate) struct Client {
-    stream: TcpStream,
+pub(crate) struct Client<R: Net> {
+    stream: R::Stream,
     pub(crate) got: Vec<u8>,
     pub(crate) is_over: bool,
 }
 
-impl Client {
-    pub(crate) fn connect(net: &HostRuntime, alloc: Global, port: u16) -> io::Result<Client> {
+impl<R: Net> Client<R> {
+    pub(crate) fn connect(net: &R, alloc: Global, port: u16) -> io::Result<Client<R>> {
         let stream = TcpStream::connect(net, ("127.0.0.1", port))?;
         stream.set_nonblocking(true)?;
         stream.set_nodelay(true)?;
@@ -98,6 +94,11 @@ impl Client {
     /// Sends bytes.
     pub(crate) fn send(&mut self, bytes: &[u8]) -> io::Result<()> {
         self.stream.write_all(bytes)
+    }
+
+    /// Sends the first of some bytes, as many as are taken now: how many those are.
+    pub(crate) fn send_some(&mut self, bytes: &[u8]) -> usize {
+        self.stream.write(bytes).unwrap_or(0)
     }
 
     /// Sends no more.

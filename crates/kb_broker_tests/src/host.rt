@@ -74,18 +74,19 @@ impl Host {
         self.broker.next_deadline()
     }
 
-    /// Bytes come on connection 1, 2 and 1, which closes then: what each got.
+    /// Bytes come on connections 1 to 4: what each got.
     pub(crate) fn run(
         &mut self,
         first: Vec<u8>,
         second: Vec<u8>,
         third: Vec<u8>,
+        fourth: Vec<u8>,
     ) -> Result<Vec<Written>, AllocError> {
         let events = [
             Event::In(1, first),
             Event::In(2, second),
-            Event::In(1, third),
-            Event::Close(1),
+            Event::In(3, third),
+            Event::In(4, fourth),
         ];
         self.broker.run(self.alloc, &events)
     }

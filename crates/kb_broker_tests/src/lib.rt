@@ -1,5 +1,5 @@
 //! What no clause and no exchange says of brokers: how early there is something to do, that a run and an opening do not give up, the
-//! texts of faults, and what an edge does with sockets over the loopback.
+//! texts of faults, and what an edge does with sockets, over the loopback and over a network in memory.
 //!
 //! There is nothing here but tests. The bytes are those of the Kafka protocol guide's layouts, written down beforehand; the
 //! checksums of the record batches are CRC-32C by another program. Exchanges that need nothing of this stand as data in
@@ -11,6 +11,8 @@ mod edge;
 #[cfg(test)]
 mod faults;
 #[cfg(test)]
+mod hall;
+#[cfg(test)]
 mod host;
 #[cfg(test)]
 mod moves;
@@ -18,5 +20,7 @@ mod moves;
 mod scenes;
 #[cfg(test)]
 mod steps;
+#[cfg(test)]
+mod talks;
 #[cfg(test)]
 mod words;

@@ -4,6 +4,7 @@ use crate::edge::{Client, Server};
 use crate::words::bytes_of;
 use std::alloc::Global;
 use std::io;
+use std::net::Net;
 
 /// How often a client looks for an answer.
 const LOOKS: usize = 10_000;
@@ -44,8 +45,8 @@ pub(crate) enum Deed<'a> {
 }
 
 /// How many of some moves go as they say, before the first that does not.
-pub(crate) fn play<E: Server>(
-    net: &HostRuntime,
+pub(crate) fn play<R: Net, E: Server>(
+    net: &R,
     alloc: Global,
     edge: &mut E,
     moves: &[Move<'_>],
@@ -55,11 +56,11 @@ pub(crate) fn play<E: Server>(
 }
 
 /// The same among clients that are there.
-fn play_among<E: Server>(
-    net: &HostRuntime,
+fn play_among<R: Net, E: Server>(
+    net: &R,
     alloc: Global,
     edge: &mut E,
-    clients: &mut Vec<Client>,
+    clients: &mut Vec<Client<R>>,
     moves: &[Move<'_>],
 ) -> io::Result<usize> {
     let mut now = 0u32;
@@ -77,11 +78,11 @@ fn play_among<E: Server>(
 }
 
 /// Whether a move goes as it says.
-fn goes<E: Server>(
-    net: &HostRuntime,
+fn goes<R: Net, E: Server>(
+    net: &R,
     alloc: Global,
     edge: &mut E,
-    clients: &mut Vec<Client>,
+    clients: &mut Vec<Client<R>>,
     now: u32,
     next: Move<'_>,
 ) -> io::Result<bool> {
@@ -100,10 +101,10 @@ fn turns<E: Server>(alloc: Global, edge: &mut E, now: u32, counts: [u64; 6]) -> 
 }
 
 /// Whether what happens to the client at a place goes as it says.
-fn is_done_at<E: Server>(
+fn is_done_at<R: Net, E: Server>(
     alloc: Global,
     edge: &mut E,
-    clients: &mut [Client],
+    clients: &mut [Client<R>],
     now: u32,
     place: usize,
     deed: Deed<'_>,
@@ -115,11 +116,11 @@ fn is_done_at<E: Server>(
 }
 
 /// A client connects.
-fn join(
-    net: &HostRuntime,
+fn join<R: Net>(
+    net: &R,
     alloc: Global,
     port: u16,
-    clients: &mut Vec<Client>,
+    clients: &mut Vec<Client<R>>,
 ) -> io::Result<bool> {
     let client = Client::connect(net, alloc, port)?;
     clients.push(client)?;
@@ -127,7 +128,12 @@ fn join(
 }
 
 /// The last client goes: whether just one socket is closed in the turns that follow.
-fn leaves<E: Server>(alloc: Global, edge: &mut E, clients: &mut Vec<Client>, now: u32) -> bool {
+fn leaves<R: Net, E: Server>(
+    alloc: Global,
+    edge: &mut E,
+    clients: &mut Vec<Client<R>>,
+    now: u32,
+) -> bool {
     drop(clients.pop());
     count_closed(alloc, edge, now) == 1
 }
@@ -142,10 +148,10 @@ fn count_closed<E: Server>(alloc: Global, edge: &mut E, now: u32) -> u64 {
 }
 
 /// Whether what happens to a client goes as it says.
-fn is_done<E: Server>(
+fn is_done<R: Net, E: Server>(
     alloc: Global,
     edge: &mut E,
-    client: &mut Client,
+    client: &mut Client<R>,
     now: u32,
     deed: Deed<'_>,
 ) -> io::Result<bool> {
@@ -169,10 +175,10 @@ fn is_done<E: Server>(
 }
 
 /// A client sends bytes, so many at a time, and the edge turns after each.
-fn sends<E: Server>(
+fn sends<R: Net, E: Server>(
     alloc: Global,
     edge: &mut E,
-    client: &mut Client,
+    client: &mut Client<R>,
     now: u32,
     bytes: &str,
     size: usize,
@@ -186,10 +192,10 @@ fn sends<E: Server>(
 }
 
 /// Whether a client is told bytes.
-fn hears<E: Server>(
+fn hears<R: Net, E: Server>(
     alloc: Global,
     edge: &mut E,
-    client: &mut Client,
+    client: &mut Client<R>,
     now: u32,
     reply: &str,
 ) -> io::Result<bool> {
@@ -199,10 +205,10 @@ fn hears<E: Server>(
 }
 
 /// Turns the edge until that many bytes have come to a client, or its connection is over.
-fn listen<E: Server>(
+fn listen<R: Net, E: Server>(
     alloc: Global,
     edge: &mut E,
-    client: &mut Client,
+    client: &mut Client<R>,
     now: u32,
     count: usize,
 ) -> io::Result<()> {

@@ -1,11 +1,14 @@
-//! Edges on the loopback.
+//! Edges on the loopback, and on a network in memory.
 
-use crate::edge::Loopback;
+use crate::edge::Node;
+use crate::hall::{Hall, Pieces};
 use crate::host::Host;
 use crate::moves::{Deed, Move, play};
 use Deed::{Asks, Closed, Ends, Hears, Sends, Stays};
 use Move::{At, By, Join, Leave, Turns};
-use std::alloc::Global;
+use kb_node::Limits;
+use std::alloc::{AllocError, Global};
+use std::net::Net;
 use std::test::Fail;
 
 /// Nothing happens in a turn.
@@ -139,6 +142,9 @@ const ONE_AT_A_TIME: [Move<'static>; 8] = [
     Turns([1, 0, 0, 1, 1, 0]),
 ];
 
+/// The most clients of a scene.
+const CLIENTS: usize = 4;
+
 /// What happens to an edge of the standard settings, under its name.
 type Scene = (&'static str, &'static [Move<'static>]);
 
@@ -169,15 +175,30 @@ const SCENES: [Scene; 11] = [
 ];
 
 /// How many moves of a scene go as they say, on an edge for a broker with at most so many sockets.
-fn plays(
-    net: &HostRuntime,
+fn plays<R: Net>(
+    net: &R,
     alloc: Global,
     host: Host,
     sockets: u32,
     moves: &[Move<'_>],
 ) -> Result<usize, Fail> {
-    let mut edge = Loopback::bind(net, alloc, host, sockets)?;
+    let limits = Limits {
+        sockets,
+        ..Limits::default()
+    };
+    let mut edge = Node::bind(net, alloc, host, limits)?;
     Ok(play(net, alloc, &mut edge, moves)?)
+}
+
+/// The same in memory, where each write is read whole.
+fn plays_in_memory(
+    alloc: Global,
+    host: Host,
+    sockets: u32,
+    moves: &[Move<'_>],
+) -> Result<usize, Fail> {
+    let hall = Hall::new(alloc, CLIENTS, Pieces::Whole, usize::MAX)?;
+    plays(&hall.room(), alloc, host, sockets, moves)
 }
 
 #[test]
@@ -190,9 +211,20 @@ fn scenes_are_played(rt: HostRuntime) -> Result<(), Fail> {
 }
 
 #[test]
+fn scenes_are_played_in_memory(rt: HostRuntime) -> Result<(), Fail> {
+    for (name, moves) in &SCENES {
+        let done = plays_in_memory(rt.alloc(), Host::new(rt.alloc())?, 1024, moves)?;
+        assert!(rt; done == moves.len(), "{name}");
+    }
+    Ok(())
+}
+
+#[test]
 fn a_client_that_logged_in_makes_no_room(rt: HostRuntime) -> Result<(), Fail> {
     let host = Host::new(rt.alloc())?;
     assert!(rt; plays(&rt, rt.alloc(), host, 1, &ONE_AT_A_TIME)? == ONE_AT_A_TIME.len());
+    let host = Host::new(rt.alloc())?;
+    assert!(rt; plays_in_memory(rt.alloc(), host, 1, &ONE_AT_A_TIME)? == ONE_AT_A_TIME.len());
     Ok(())
 }
 
@@ -205,10 +237,16 @@ const LAST: [Move<'static>; 5] = [
     By(1, Closed),
 ];
 
+/// A broker that has one number left for a connection.
+fn nearly_full(alloc: Global) -> Result<Host, AllocError> {
+    let mut host = Host::new(alloc)?;
+    host.open(u64::MAX - 1)?;
+    Ok(host)
+}
+
 #[test]
 fn the_last_number_is_given_once(rt: HostRuntime) -> Result<(), Fail> {
-    let mut host = Host::new(rt.alloc())?;
-    host.open(u64::MAX - 1)?;
-    assert!(rt; plays(&rt, rt.alloc(), host, 1024, &LAST)? == LAST.len());
+    assert!(rt; plays(&rt, rt.alloc(), nearly_full(rt.alloc())?, 1024, &LAST)? == LAST.len());
+    assert!(rt; plays_in_memory(rt.alloc(), nearly_full(rt.alloc())?, 1024, &LAST)? == LAST.len());
     Ok(())
 }

@@ -3,7 +3,6 @@
 use crate::host::Host;
 use crate::words::bytes_of;
 use Step::{Asks, Due, Opens, Passes};
-use kb_broker::Written;
 use std::alloc::{AllocError, Global};
 use std::test::Fail;
 
@@ -150,33 +149,5 @@ fn nothing_is_due_too_early(rt: HostRuntime) -> Result<(), Fail> {
 fn a_broker_that_opens_again_goes_on(rt: HostRuntime) -> Result<(), Fail> {
     let host = after(rt.alloc(), Host::new(rt.alloc())?, &BEFORE)?;
     after(rt.alloc(), host.again()?, &AFTER)?;
-    Ok(())
-}
-
-/// What the connections of two tenants get in a run.
-const WRITTEN: [(u64, &str, bool); 2] = [
-    (1, "offered welcome created appended-0 fetched hi", false),
-    (2, "offered welcome created described appended-0", true),
-];
-
-/// What those connections get.
-fn run(alloc: Global) -> Result<Vec<Written>, AllocError> {
-    let mut host = Host::new(alloc)?;
-    host.open(1)?;
-    host.open(2)?;
-    let first = bytes_of(alloc, "handshake ann create append hi")?;
-    let second = bytes_of(alloc, "handshake bob create metadata append yo 00000007")?;
-    let third = bytes_of(alloc, "fetch")?;
-    host.run(first, second, third)
-}
-
-#[test]
-fn a_run_tells_what_each_connection_got(rt: HostRuntime) -> Result<(), Fail> {
-    let written = run(rt.alloc())?;
-    assert!(rt; written.len() == WRITTEN.len());
-    for (got, (number, reply, is_shut)) in written.iter().zip(&WRITTEN) {
-        assert!(rt; got.conn == *number && got.shut == *is_shut);
-        assert!(rt; got.bytes == bytes_of(rt.alloc(), reply)?);
-    }
     Ok(())
 }

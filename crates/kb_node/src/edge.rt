@@ -1,11 +1,12 @@
 //! A broker on a network. A turn waits for no peer.
 
-ghost use Rattle.std.specs.Prelude.{◌≡◌, ◌≤◌, ◌<◌, ◌*◌, ◌^◌, [], Err, None, Some, IfOk, IfErr, IfSome, OnErr, OnOk};
+ghost use Rattle.std.specs.Prelude.{◌≡◌, ◌≤◌, ◌<◌, ◌⊎◌, ◌*◌, ◌^◌, [], Err, None, Some, IfOk, IfErr, IfSome, OnErr, OnOk};
 ghost use Rattle.std.specs.Prelude.{option_map, replicate, slice_get, vec_len};
+ghost use Rattle.kb_isolation_spec.specs.Calls.{IsRefused};
 ghost use Rattle.kb_isolation_spec.specs.Machine.{Moment};
 ghost use Rattle.kb_node.specs.Cores.{cores, seen};
 ghost use Rattle.kb_node.specs.Known.{lasting};
-ghost use Rattle.kb_node.specs.Moves.{Goes, GoesWith, IsJoined, IsRunOf, IsTurn};
+ghost use Rattle.kb_node.specs.Moves.{Goes, GoesWith, IsAdmitted, IsRunOf, IsTakenIn, IsTurn};
 ghost use Rattle.kb_node.specs.Numbers.{IsInOrder, socket_of};
 ghost use Rattle.kb_node.specs.Seats.{AreSeated, AreSeated-prop};
 ghost use Rattle.kb_node.specs.SocketShares.{IsGiven};
@@ -507,7 +508,9 @@ impl<R: Net, S: Store, L: PartitionLog + Drop> Edge<R, S, L> {
 
     /// Takes in a socket where there is room for it. Else it is closed.
     fn admit(&mut self, alloc: Global, stream: R::Stream, peer: SocketAddr, turn: &mut Turn)
-        ensures { Goes S.disk R.Stream.contents R.Stream.remaining (seen self.old.host self.old.sockets.items)
+        ensures goes { Goes S.disk R.Stream.contents R.Stream.remaining (seen self.old.host self.old.sockets.items)
+            (seen self.new.host self.new.sockets.items) }
+        ensures admitted { IsAdmitted S.disk R.Stream.contents R.Stream.remaining stream (seen self.old.host self.old.sockets.items)
             (seen self.new.host self.new.sockets.items) }
     {
         turn.count_accepted();
@@ -527,9 +530,13 @@ impl<R: Net, S: Store, L: PartitionLog + Drop> Edge<R, S, L> {
         requires { vec_len self.now.sockets < self.now.limit }
         ensures goes { Goes S.disk R.Stream.contents R.Stream.remaining (seen self.old.host self.old.sockets.items)
             (seen self.new.host self.new.sockets.items) }
-        // It carries that stream for the connection that was opened now, and the others stay.
-        ensures socket { OnOk result (IsJoined stream self.new.host.tried (cores self.old.sockets.items) (cores self.new.sockets.items)) }
+        // It carries that stream for the connection that the broker opened now, of a number above all before, and the others stay.
+        ensures socket { OnOk result ((self.old.host.tried < self.new.host.tried) × IsTakenIn stream self.new.host.tried
+            (seen self.old.host self.old.sockets.items) (seen self.new.host self.new.sockets.items)) }
         ensures others { OnErr result (self.new.sockets.items ≡ self.old.sockets.items) }
+        // No connection opens without a socket.
+        ensures unopened { OnErr result ((self.new.host ≡ self.old.host)
+            ⊎ IsRefused self.old.host.broker.state self.new.host.broker.state) }
     {
         let Some(connection) = self.host.next_number() else {
             return Err(io::Error::from(ErrorKind::QuotaExceeded));

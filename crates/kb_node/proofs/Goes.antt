@@ -380,6 +380,7 @@ run_of {S} {T} {disk} {known} {contents} {remaining} {now} {from} {to} turn =
     record {
       begun = turn.begun.host.broker;
       moment = turn.moment;
+      sync = turn_sync turn;
       deeds = all.deeds;
       timeless = all.timeless;
       done = all.done;

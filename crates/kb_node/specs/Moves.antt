@@ -129,6 +129,7 @@ pub record IsTurn {S T : Type 0} (disk : S → Disk) (known : Deed → S → Typ
 pub record IsRunOf {S : Type 0} (disk : S → Disk) (known : Deed → S → Type 0) (now : ℕ) (from to : Host S) : Type 0 where
   pub begun : OnStore S
   pub moment : Happens disk (Moment now) from.broker begun
+  pub sync : to.commits.sync ≡ from.commits.sync
   pub deeds : List Deed
   pub timeless : AllByRecursion (λ d. is_moment d ≡ false) deeds
   pub done : AreDone disk known deeds begun to.broker

@@ -1,5 +1,5 @@
 -- What a socket carries goes on.
-use Rattle.std.proofs.Common.{◌≡◌, List, length, take, ◌+◌, ◌-◌, ◌==◌, ◌≢◌, arith, [], ◌∷◌, ◌++◌, Option, ℕ, Result, Ok, Err, OnOk, Bool, true, false, ◌||◌, Some, drop, sym, refl, subst, ap, ◌∙◌, append_assoc, append-nil, ⊎_elim, inl, inr, ◌⊎◌}
+use Rattle.std.proofs.Common.{◌≡◌, List, length, take, ◌+◌, ◌-◌, ◌==◌, ◌≢◌, arith, [], ◌∷◌, ◌++◌, Option, ℕ, Result, Ok, Err, OnErr, OnOk, Bool, true, false, ◌||◌, Some, drop, sym, refl, subst, ap, ◌∙◌, append_assoc, append-nil, ⊎_elim, inl, inr, ◌⊎◌}
 use Rattle.std.proofs.lemmas.Grind.{flat_map-append}
 use Rattle.std.proofs.lemmas.List.{take-append-drop, drop-drop}
 use Rattle.std.proofs.lemmas.Bool.Decides.{nat_tests}
@@ -72,6 +72,10 @@ cut h n h' xs is =
 pub on_ok : {A E : Type 0} {P : Type 0} (r : Result A E) → OnOk r P → is_err r ≡ false → P
 on_ok (Ok x) h is = h
 on_ok (Err e) h is = absurd (let no : true ≡ false = is in cc)
+
+pub on_err : {A E : Type 0} {P : Type 0} (r : Result A E) → OnErr r P → is_err r ≡ true → P
+on_err (Err e) h is = h
+on_err (Ok x) h is = absurd (let no : false ≡ true = is in cc)
 
 module _ {S T : Type 0} (disk : S → Disk) (contents remaining : T → Option (List ℕ)) where
   -- a piece was read, and it was handed on or kept

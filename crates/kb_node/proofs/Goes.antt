@@ -15,7 +15,7 @@ use Rattle.kb_node.specs.Carries.{CarriesWith, unhanded_of, unwritten_of}
 use Rattle.kb_node.specs.Commits.{Host}
 use Rattle.kb_node.specs.Cores.{Core, Seen, core, cores, open_ones, seen}
 use Rattle.kb_node.specs.Known.{silent}
-use Rattle.kb_node.specs.Moves.{Carry, Goes, GoesWith, HasCarried, HasOpened, HasSettled, IsJoined, IsMoved, IsRunOf, IsRunThrough, IsTurn, Leave, LeaveAt, Move, Open, Settle}
+use Rattle.kb_node.specs.Moves.{Carry, Goes, GoesWith, HasCarried, HasOpened, HasSettled, IsJoined, IsLeftOut, IsMoved, IsRunOf, IsRunThrough, IsTakenIn, IsTurn, Leave, LeaveAt, Move, Open, Settle}
 use Rattle.kb_node.proofs.Cores.{held_at, held_in, removed, set_at}
 use Rattle.kb_node.proofs.Carries.{carries_knowing, writes}
 use Rattle.kb_node.proofs.Known.{from_silent}
@@ -107,16 +107,16 @@ module _ {S T : Type 0} {disk : S → Disk} {known : Deed → S → Type 0} {con
   -- a connection opens, and could not be kept
   pub goes_opened : {from to : Seen S T} {n : ℕ} → from.host.tried < n → to.host.tried ≡ n → to.host.commits.sync ≡ from.host.commits.sync
       → Happens disk (Opens n) from.host.broker to.host.broker
-      → to.sockets ≡ from.sockets → GoesWith disk known contents remaining from to
-  goes_opened {from} {to} {n} rises is sync c sockets =
-      record { moves = Open n ∷ []; done = (to, record { rises = rises; tried = is; sync = sync; opens = c; sockets = inl sockets }, refl) }
+      → IsLeftOut from to → GoesWith disk known contents remaining from to
+  goes_opened {from} {to} {n} rises is sync c left =
+      record { moves = Open n ∷ []; done = (to, record { rises = rises; tried = is; sync = sync; opens = c; sockets = inl left }, refl) }
 
   -- or its socket joins the others
   pub goes_joined : {from to : Seen S T} (n : ℕ) (stream : T) → from.host.tried < n → to.host.tried ≡ n
       → to.host.commits.sync ≡ from.host.commits.sync
-      → Happens disk (Opens n) from.host.broker to.host.broker → IsJoined stream n from.sockets to.sockets → GoesWith disk known contents remaining from to
-  goes_joined {from} {to} n stream rises is sync c joined =
-      record { moves = Open n ∷ []; done = (to, record { rises = rises; tried = is; sync = sync; opens = c; sockets = inr (stream, joined) }, refl) }
+      → Happens disk (Opens n) from.host.broker to.host.broker → IsTakenIn stream n from to → GoesWith disk known contents remaining from to
+  goes_joined {from} {to} n stream rises is sync c taken =
+      record { moves = Open n ∷ []; done = (to, record { rises = rises; tried = is; sync = sync; opens = c; sockets = inr (stream, taken) }, refl) }
 
   -- the socket at a place wrote some of its output
   pub goes_written : (h : Host S) (v : Vec (Socket T) Global) (p : ℕ) (s t : Socket T) → p < vec_len v → s ≡ slice_index_or v.items p s
@@ -380,6 +380,7 @@ run_of {S} {T} {disk} {known} {contents} {remaining} {now} {from} {to} turn =
     record {
       begun = turn.begun.host.broker;
       moment = turn.moment;
+      sync = turn_sync turn;
       deeds = all.deeds;
       timeless = all.timeless;
       done = all.done;

@@ -18,3 +18,4 @@ pub mod Isolated
 pub mod Sent
 pub mod Seats
 pub mod Many
+pub mod Ready

@@ -257,8 +257,8 @@ moved {S} {T} x tried cs is same r = subst (λ k. Rise 0 k (map (λ c. c.connect
 module _ {S T : Type 0} (disk : S → Disk) (known : Deed → S → Type 0) (contents remaining : T → Option (List ℕ)) where
   pub move_keeps : (m : Move) (from to : Seen S T) → IsMoved disk known contents remaining m from to → IsInOrder from → IsInOrder to
   move_keeps (Open n) from to h r = ⊎_elim
-      (λ same. moved to n from.sockets h.tried same (rise_up 0 from.host.tried n (map (λ c. c.connection) from.sockets) (omega (arith, h.rises)) r))
-      (λ joined. moved to n _ h.tried joined.1.behind (rise_append (λ c. c.connection) 0 from.host.tried from.sockets _ r h.rises))
+      (λ none. moved to n from.sockets h.tried none.sockets (rise_up 0 from.host.tried n (map (λ c. c.connection) from.sockets) (omega (arith, h.rises)) r))
+      (λ kept. moved to n _ h.tried kept.1.joined.behind (rise_append (λ c. c.connection) 0 from.host.tried from.sockets _ r h.rises))
       h.sockets
   move_keeps (Carry n) from to h r = moved to from.host.tried (slice_set from.sockets h.place (core h.new)) h.tried h.after
       (rise_set (λ c. c.connection) 0 from.host.tried from.sockets h.place (core h.old) (core h.new) r h.before (h.same ∙ sym h.number))

@@ -429,8 +429,8 @@ module _ {S T : Type 0} (disk : S → Disk) (known : Deed → S → Type 0) (con
       → IsCarriedIn contents remaining n (of_move disk known contents remaining m from to h).deeds from to
   unfolding of_move
   one_move (Open k) from to h r n = ⊎_elim
-      (λ same. stays_in n (Event (Opens k) ∷ []) from to (ap (λ xs. core_of n xs) same) refl refl)
-      (λ joined. joined_in k n joined.0 from to h.rises joined.1.behind r)
+      (λ none. stays_in n (Event (Opens k) ∷ []) from to (ap (λ xs. core_of n xs) none.sockets) refl refl)
+      (λ kept. joined_in k n kept.0 from to h.rises kept.1.joined.behind r)
       h.sockets
   one_move (Carry k) from to h r n =
       let s = h.old in let t = h.new in let c = h.carries in

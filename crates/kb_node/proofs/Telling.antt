@@ -24,6 +24,12 @@ carried_by : {S T : Type 0} (disk : S → Disk) (known : Deed → S → Type 0) 
 carried_by disk known contents remaining [] from to h = h
 carried_by disk known contents remaining (n ∷ ns) from to h = (h.0, h.1.carried, carried_by disk known contents remaining ns h.0 to h.2)
 
+-- and opened no connection
+tried_along : {S T : Type 0} (disk : S → Disk) (known : Deed → S → Type 0) (contents remaining : T → Option (List ℕ)) (ns : List ℕ) (from to : Seen S T)
+    → Along (HasTold disk known contents remaining) ns from to → to.host.tried ≡ from.host.tried
+tried_along disk known contents remaining [] from to h = ap (λ x. x.host.tried) h
+tried_along disk known contents remaining (n ∷ ns) from to h = tried_along disk known contents remaining ns h.0 to h.2 ∙ h.1.carried.tried
+
 module _ {S T : Type 0} {disk : S → Disk} {known : Deed → S → Type 0} {contents remaining : T → Option (List ℕ)} where
   pub telling_none : (x : Seen S T) → GoesTellingWith disk known contents remaining x x
   telling_none x = record { numbers = []; done = refl; store = refl }
@@ -72,6 +78,10 @@ module _ {S T : Type 0} {disk : S → Disk} {known : Deed → S → Type 0} {con
     );
     store = told.told.store;
   }
+
+  -- and no connection opens meanwhile
+  pub telling_tried : {from to : Seen S T} → GoesTellingWith disk known contents remaining from to → to.host.tried ≡ from.host.tried
+  telling_tried {from} {to} tells = tried_along disk known contents remaining tells.numbers from to tells.done
 
   pub goes_telling : {from to : Seen S T} → GoesTellingWith disk known contents remaining from to → GoesWith disk known contents remaining from to
   goes_telling {from} {to} h = record { moves = moves_by h.numbers; done = carried_by disk known contents remaining h.numbers from to h.done }

@@ -1,14 +1,14 @@
 -- A socket has told all that there was to say.
-use Rattle.std.proofs.Common.{◌≡◌, ◌≤◌, ◌-◌, ◌∙◌, ◌++◌, ◌&&◌, ◌==◌, ℕ, List, [], ◌∷◌, Bool, true, false, not, drop, length, length-drop, vec_len, inl, inr, ⊎_elim, ap, refl, subst, sym, arith}
+use Rattle.std.proofs.Common.{◌≡◌, ◌≢◌, ◌≤◌, ◌-◌, ◌∙◌, ◌++◌, ◌&&◌, ◌==◌, ℕ, List, [], ◌∷◌, Bool, true, false, not, drop, length, length-drop, vec_len, inl, inr, ⊎_elim, ap, refl, subst, sym, arith}
 use Rattle.std.proofs.Math.Seq.{drop-length}
 use Rattle.kb_isolation_spec.specs.Broker.{BrokerState}
 use Rattle.kb_isolation_spec.specs.Calls.{is_shut, output_of}
 use Rattle.kb_node.specs.declared.socket.Socket.{Socket}
-use Rattle.kb_node.specs.Carries.{HasToldAll, TellsInTurn, unwritten_of}
+use Rattle.kb_node.specs.Carries.{HasHeard, HasToldAll, TellsInTurn, unwritten_of}
 use Rattle.kb_node.specs.Sockets.{can_ask, is_done, is_held, is_waiting}
 use Rattle.kb_node.proofs.Carries.{zero_of}
 
-none_after : (xs ys : List ℕ) → [] ≡ xs ++ ys → ys ≡ []
+pub none_after : (xs ys : List ℕ) → [] ≡ xs ++ ys → ys ≡ []
 none_after [] ys h = sym h
 none_after (x ∷ xs) ys h = absurd (let no : [] ≡ x ∷ (xs ++ ys) = h in cc)
 
@@ -57,6 +57,21 @@ module _ {T : Type 0} where
 
   pub told_at : (s t : Socket T) (b c : BrokerState) → t ≡ s → c ≡ b → HasToldAll s b → HasToldAll t c
   told_at s t b c same host told = subst (λ u. HasToldAll u c) (sym same) (subst (λ d. HasToldAll s d) (sym host) told)
+
+  -- all was told that there was to say
+  pub heard_all : (s : Socket T) (b : BrokerState) → HasToldAll s b → HasHeard s b
+  heard_all s b told = ⊎_elim (λ none. inl none) (λ held. inr (inr held.1)) told
+
+  -- or some of it is still to be written
+  pub heard_later : (s : Socket T) (b : BrokerState) → vec_len s.output - s.written ≢ 0 → HasHeard s b
+  heard_later s b some = inr (inl (λ all. some (none_unwritten s all)))
+
+  pub heard_at : (s t : Socket T) (b c : BrokerState) → t ≡ s → c ≡ b → HasHeard s b → HasHeard t c
+  heard_at s t b c same host heard = subst (λ u. HasHeard u c) (sym same) (subst (λ d. HasHeard s d) (sym host) heard)
+
+  pub heard_on : (s t : Socket T) (b c : BrokerState) → c ≡ b → t ≡ record s { is_known = t.is_known; is_denied = t.is_denied }
+      → HasHeard s b → HasHeard t c
+  heard_on s t b c host is heard = subst (λ u. HasHeard u c) (sym is) (subst (λ d. HasHeard s d) (sym host) heard)
 
   -- it was noted on it that it has logged in, and that a login failed
   pub both_noted : (s m t : Socket T) → m ≡ record s { is_known = m.is_known } → t ≡ record m { is_denied = t.is_denied }

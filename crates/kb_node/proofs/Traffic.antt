@@ -1,5 +1,6 @@
 -- What is done goes on, one list after another.
-use Rattle.std.proofs.Common.{◌≡◌, ◌<◌, List, [], ◌∷◌, ◌++◌, Option, None, Some, Result, Ok, Err, OnOk, OnErr, ℕ, inl, inr, sym, refl, subst, append-nil}
+use Rattle.std.proofs.Common.{◌≡◌, ◌<◌, ◌+◌, List, [], ◌∷◌, ◌++◌, Option, None, Some, IfSome, Result, Ok, Err, OnOk, OnErr, ℕ, zero, suc, take, length, slice_get, slice_index_or, ◌≤◌, inl, inr, sym, refl, subst, append-nil, add-one, arith}
+use Rattle.std.proofs.lemmas.Option.{slice_get-get_or}
 use Rattle.std.specs.List.{AllByRecursion}
 use Rattle.std.specs.Io.KnownBytes.{Appends, Consumes}
 use Rattle.kb_store.specs.Disk.{Disk}
@@ -12,6 +13,32 @@ use Rattle.kb_node.specs.Traffic.{Along, AreDone, Commit, Deed, Event, Fail, Hap
 pub along_then : {D X : Type 0} (Does : D → X → X → Type 0) (ds es : List D) (a b c : X) → Along Does ds a b → Along Does es b c → Along Does (ds ++ es) a c
 along_then Does [] es a b c h k = subst (λ x. Along Does es x c) h k
 along_then Does (d ∷ ds) es a b c h k = (h.0, h.1, along_then Does ds es h.0 b c h.2 k)
+
+-- and one thing more
+next_done : {D X : Type 0} (Does : D → X → X → Type 0) (ds : List D) (i : ℕ) (a b c : X) → i < length ds → Along Does (take i ds) a b
+    → IfSome (slice_get ds i) (λ d. Does d b c) → Along Does (take (suc i) ds) a c
+next_done Does [] i a b c lt h k = absurd (omega (arith, lt))
+next_done Does (d ∷ ds) zero a b c lt h k = (c, subst (λ x. Does d x c) h k, refl)
+next_done Does (d ∷ ds) (suc i) a b c lt h k = (h.0, h.1, next_done Does ds i h.0 b c (omega (arith, lt)) h.2 k)
+
+pub along_next : {D X : Type 0} (Does : D → X → X → Type 0) (ds : List D) (i : ℕ) (a b c : X) → i < length ds → Along Does (take i ds) a b
+    → IfSome (slice_get ds i) (λ d. Does d b c) → Along Does (take (i + 1) ds) a c
+along_next Does ds i a b c lt h k = subst (λ n. Along Does (take n ds) a c) (sym (add-one i)) (next_done Does ds i a b c lt h k)
+
+-- the same, where it is found in a list that is that
+pub along_found : {D X : Type 0} (Does : D → X → X → Type 0) (ds es : List D) (i : ℕ) (d : D) (a b c : X) → ds ≡ es → i < length ds
+    → Along Does (take i es) a b → Does (slice_index_or ds i d) b c → Along Does (take (i + 1) es) a c
+along_found Does ds es i d a b c same lt h k = subst (λ xs. Along Does (take (i + 1) xs) a c) same
+    (along_next Does ds i a b c lt (subst (λ xs. Along Does (take i xs) a b) (sym same) h)
+    (subst (λ o. IfSome o (λ x. Does x b c)) (sym (slice_get-get_or ds i d lt)) k))
+
+-- and behind the last of them all are
+pub along_all : {D X : Type 0} (Does : D → X → X → Type 0) (ds : List D) (i : ℕ) (a b : X) → length ds ≤ i → Along Does (take i ds) a b
+    → Along Does ds a b
+along_all Does [] zero a b le h = h
+along_all Does [] (suc i) a b le h = h
+along_all Does (d ∷ ds) zero a b le h = absurd (omega (arith, le))
+along_all Does (d ∷ ds) (suc i) a b le h = (h.0, h.1, along_all Does ds i h.0 b (omega (arith, le)) h.2)
 
 pub all_then : {X : Type 0} (P : X → Type 0) (xs ys : List X) → AllByRecursion P xs → AllByRecursion P ys → AllByRecursion P (xs ++ ys)
 all_then P [] ys h k = k

@@ -1,5 +1,5 @@
 -- What a socket carries between its stream and its connection.
-use Rattle.std.specs.Prelude.{◌≡◌, ◌⊎◌, ℕ, List, ◌++◌, drop, true, false, ◌||◌, [], Option}
+use Rattle.std.specs.Prelude.{◌≡◌, ◌≢◌, ◌⊎◌, ℕ, List, ◌++◌, drop, true, false, ◌||◌, [], Option}
 use Rattle.std.specs.List.{AllByRecursion, flat_map}
 use Rattle.kb_store.specs.Disk.{Disk}
 use Rattle.kb_isolation_spec.specs.Broker.{BrokerState}
@@ -82,3 +82,13 @@ TellsInTurn s b = (unwritten_of s ≡ []) ⊎ (output_of s.connection b ≡ [])
 -- The broker has nothing more to say to it. Or all that was said is written, and a failed login waits until it may be answered.
 abbrev pub HasToldAll : {T : Type 0} → Socket T → BrokerState → Type 0
 HasToldAll s b = (output_of s.connection b ≡ []) ⊎ ((unwritten_of s ≡ []) × (is_held s.may_answer s.connection b ≡ true))
+
+-- Nobody waits for nothing: the broker has nothing more to say to it, or it has still to write what was said before, or a failed login on it
+-- waits until it may be answered.
+abbrev pub HasHeard : {T : Type 0} → Socket T → BrokerState → Type 0
+HasHeard s b = (output_of s.connection b ≡ []) ⊎ ((unwritten_of s ≢ []) ⊎ (is_held s.may_answer s.connection b ≡ true))
+
+-- What is so of a socket that goes on behind a call. Where all was written before that was said, or nothing was left to say, all is told.
+pub record HasBeenTold {T : Type 0} (old new : Socket T) (from to : BrokerState) : Type 0 where
+  pub all : TellsInTurn old from → HasToldAll new to
+  pub heard : HasHeard new to

@@ -4,6 +4,7 @@ use Rattle.std.specs.List.{AllByRecursion, remove}
 use Rattle.kb_store.specs.Disk.{Disk}
 use Rattle.kb_isolation_spec.specs.Machine.{Opens, Moment}
 use Rattle.kb_isolation_spec.specs.Broker.{IsRun}
+use Rattle.kb_isolation_spec.specs.Calls.{IsRefused, opened}
 use Rattle.kb_broker.specs.Hosts.{OnStore}
 use Rattle.kb_node.specs.Commits.{Host}
 use Rattle.kb_node.specs.declared.socket.Socket.{Socket}
@@ -25,13 +26,24 @@ pub data Move : Type 0 where
 pub record IsJoined {T : Type 0} (stream : T) (n : ℕ) (old new : List (Core T)) : Type 0 where
   pub behind : new ≡ old ++ record { connection = n; stream = stream; unwritten = []; unhanded = []; is_lost = false; is_ended = false } ∷ []
 
--- A connection opens, of a number above all that were tried before. Its socket joins the others, or it could not be kept.
+-- The broker keeps the connection of that number, and one more socket is there, which carries that stream for it.
+pub record IsTakenIn {S T : Type 0} (stream : T) (n : ℕ) (from to : Seen S T) : Type 0 where
+  pub opened : to.host.broker.state ≡ opened from.host.broker.state n
+  pub joined : IsJoined stream n from.sockets to.sockets
+
+-- The broker could not keep a connection, and no socket is there for it.
+pub record IsLeftOut {S T : Type 0} (from to : Seen S T) : Type 0 where
+  pub refused : IsRefused from.host.broker.state to.host.broker.state
+  pub sockets : to.sockets ≡ from.sockets
+
+-- A connection opens, of a number above all that were tried before. Its socket joins the others, and carries that connection and no other; or
+-- it could not be kept.
 pub record HasOpened {S T : Type 0} (disk : S → Disk) (n : ℕ) (from to : Seen S T) : Type 0 where
   pub rises : from.host.tried < n
   pub tried : to.host.tried ≡ n
   pub sync : to.host.commits.sync ≡ from.host.commits.sync
   pub opens : Happens disk (Opens n) from.host.broker to.host.broker
-  pub sockets : (to.sockets ≡ from.sockets) ⊎ ((stream : T) × IsJoined stream n from.sockets to.sockets)
+  pub sockets : IsLeftOut from to ⊎ ((stream : T) × IsTakenIn stream n from to)
 
 -- The socket at a place, of the connection of that number, which was not closed, carried between its stream and that connection. It did
 -- nothing else to the broker, and the other sockets stay.
@@ -77,6 +89,14 @@ pub record GoesWith {S T : Type 0} (disk : S → Disk) (known : Deed → S → T
 abbrev pub Goes : {S T : Type 0} → (S → Disk) → (T → Option (List ℕ)) → (T → Option (List ℕ)) → Seen S T → Seen S T → Type 0
 Goes disk contents remaining from to = GoesWith disk silent contents remaining from to
 
+-- A stream that was accepted is let in. Some may be closed before to make room for it, and meanwhile no connection opens. Then its own opens,
+-- of a number above all that were tried before, and its socket joins the others; or it is closed, and no connection is open for it.
+pub record IsAdmitted {S T : Type 0} (disk : S → Disk) (contents remaining : T → Option (List ℕ)) (stream : T) (from to : Seen S T) : Type 0 where
+  pub room : Seen S T
+  pub goes : Goes disk contents remaining from room
+  pub tried : room.host.tried ≡ from.host.tried
+  pub admitted : ((room.host.tried < to.host.tried) × IsTakenIn stream to.host.tried room to) ⊎ (IsLeftOut room to ⊎ (to ≡ room))
+
 -- the socket of the connection of that number told what there was to say, and carried nothing else
 pub record HasTold {S T : Type 0} (disk : S → Disk) (known : Deed → S → Type 0) (contents remaining : T → Option (List ℕ)) (n : ℕ)
     (from to : Seen S T) : Type 0 where
@@ -109,6 +129,7 @@ pub record IsTurn {S T : Type 0} (disk : S → Disk) (known : Deed → S → Typ
 pub record IsRunOf {S : Type 0} (disk : S → Disk) (known : Deed → S → Type 0) (now : ℕ) (from to : Host S) : Type 0 where
   pub begun : OnStore S
   pub moment : Happens disk (Moment now) from.broker begun
+  pub sync : to.commits.sync ≡ from.commits.sync
   pub deeds : List Deed
   pub timeless : AllByRecursion (λ d. is_moment d ≡ false) deeds
   pub done : AreDone disk known deeds begun to.broker

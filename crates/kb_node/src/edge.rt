@@ -1,12 +1,16 @@
 //! A broker on a network. A turn waits for no peer.
 
-ghost use Rattle.std.specs.Prelude.{◌≡◌, ◌≤◌, ◌<◌, ◌*◌, ◌^◌, [], Err, None, Some, IfOk, IfErr, IfSome, OnErr, OnOk};
-ghost use Rattle.std.specs.Prelude.{option_map, replicate, slice_get, vec_len};
+ghost use Rattle.std.specs.Prelude.{◌≡◌, ◌≤◌, ◌<◌, ◌⊎◌, ◌*◌, ◌^◌, [], Err, None, Some, IfOk, IfErr, IfSome, OnErr, OnOk};
+ghost use Rattle.std.specs.Prelude.{◌≢◌, length, option_map, replicate, slice_get, vec_len};
+ghost use Rattle.std.specs.Vec.{vec_capacity};
+ghost use Rattle.kb_isolation_spec.specs.Calls.{IsRefused};
 ghost use Rattle.kb_isolation_spec.specs.Machine.{Moment};
+ghost use Rattle.kb_broker.specs.Speakers.{speakers};
 ghost use Rattle.kb_node.specs.Cores.{cores, seen};
 ghost use Rattle.kb_node.specs.Known.{lasting};
-ghost use Rattle.kb_node.specs.Moves.{Goes, GoesWith, IsJoined, IsRunOf, IsTurn};
+ghost use Rattle.kb_node.specs.Moves.{Goes, GoesWith, IsAdmitted, IsRunOf, IsTakenIn, IsTurn};
 ghost use Rattle.kb_node.specs.Numbers.{IsInOrder, socket_of};
+ghost use Rattle.kb_node.specs.Ready.{AreCalled};
 ghost use Rattle.kb_node.specs.Seats.{AreSeated, AreSeated-prop};
 ghost use Rattle.kb_node.specs.SocketShares.{IsGiven};
 ghost use Rattle.kb_node.specs.Traffic.{Happens};
@@ -14,6 +18,7 @@ ghost use Rattle.kb_node.specs.Waiting.{socket_at};
 
 mod beside;
 mod closing;
+mod hearing;
 mod rounds;
 mod serving;
 mod waiting;
@@ -360,6 +365,10 @@ impl<R: Net, S: Store, L: PartitionLog + Drop> Edge<R, S, L> {
             (seen self.new.host self.new.sockets.items) }
         ensures run { self.old.host.commits.fault ≡ None → IsRunOf S.disk
             (lasting S.settled S.disk S.loss self.new.host.commits) now self.old.host self.new.host }
+        // Nobody waits for nothing: who has something to hear from the broker cannot hear it yet, or can go on. But where as many failed
+        // logins wait, or as many can go on as there is room for.
+        ensures called { OnOk result (length (speakers self.new.host.broker.state.lines) ≢ length self.new.delays.moments.moments.keys
+            → vec_len self.new.ready < vec_capacity self.new.ready → AreCalled self.new.host.broker.state self.new.sockets.items) }
     {
         if let Some(fault) = self.host.commits().fault() {
             return Err(fault);
@@ -370,6 +379,7 @@ impl<R: Net, S: Store, L: PartitionLog + Drop> Edge<R, S, L> {
         self.accept(alloc, &mut turn);
         self.answer(alloc, now, &mut turn)?;
         self.close_late(alloc, &mut turn);
+        self.hear_speakers();
         Ok(turn)
     }
 
@@ -432,30 +442,6 @@ impl<R: Net, S: Store, L: PartitionLog + Drop> Edge<R, S, L> {
         Ok(())
     }
 
-    /// Without a watch every socket may be ready.
-    fn hear_all(&mut self)
-        ensures { seen self.new.host self.new.sockets.items ≡ seen self.old.host self.old.sockets.items }
-    {
-        if self.watch.is_some() {
-            return;
-        }
-        self.accepts = Accepts::Ready;
-        for place in 0..self.sockets.len() {
-            self.hear_at(place);
-        }
-    }
-
-    /// The socket at a place may be ready.
-    fn hear_at(&mut self, place: usize)
-        ensures { seen self.new.host self.new.sockets.items ≡ seen self.old.host self.old.sockets.items }
-    {
-        let Some(socket) = self.sockets.get_mut(place) else {
-            return;
-        };
-        socket.hear_any();
-        self.queue(place);
-    }
-
     /// Accepts the sockets that wait, at most as many as there may be.
     #[tactic(auto, using(crate::proofs::Goes::goes_then, crate::proofs::Goes::goes_none))]
     fn accept(&mut self, alloc: Global, turn: &mut Turn)
@@ -507,7 +493,9 @@ impl<R: Net, S: Store, L: PartitionLog + Drop> Edge<R, S, L> {
 
     /// Takes in a socket where there is room for it. Else it is closed.
     fn admit(&mut self, alloc: Global, stream: R::Stream, peer: SocketAddr, turn: &mut Turn)
-        ensures { Goes S.disk R.Stream.contents R.Stream.remaining (seen self.old.host self.old.sockets.items)
+        ensures goes { Goes S.disk R.Stream.contents R.Stream.remaining (seen self.old.host self.old.sockets.items)
+            (seen self.new.host self.new.sockets.items) }
+        ensures admitted { IsAdmitted S.disk R.Stream.contents R.Stream.remaining stream (seen self.old.host self.old.sockets.items)
             (seen self.new.host self.new.sockets.items) }
     {
         turn.count_accepted();
@@ -527,9 +515,13 @@ impl<R: Net, S: Store, L: PartitionLog + Drop> Edge<R, S, L> {
         requires { vec_len self.now.sockets < self.now.limit }
         ensures goes { Goes S.disk R.Stream.contents R.Stream.remaining (seen self.old.host self.old.sockets.items)
             (seen self.new.host self.new.sockets.items) }
-        // It carries that stream for the connection that was opened now, and the others stay.
-        ensures socket { OnOk result (IsJoined stream self.new.host.tried (cores self.old.sockets.items) (cores self.new.sockets.items)) }
+        // It carries that stream for the connection that the broker opened now, of a number above all before, and the others stay.
+        ensures socket { OnOk result ((self.old.host.tried < self.new.host.tried) × IsTakenIn stream self.new.host.tried
+            (seen self.old.host self.old.sockets.items) (seen self.new.host self.new.sockets.items)) }
         ensures others { OnErr result (self.new.sockets.items ≡ self.old.sockets.items) }
+        // No connection opens without a socket.
+        ensures unopened { OnErr result ((self.new.host ≡ self.old.host)
+            ⊎ IsRefused self.old.host.broker.state self.new.host.broker.state) }
     {
         let Some(connection) = self.host.next_number() else {
             return Err(io::Error::from(ErrorKind::QuotaExceeded));
@@ -571,41 +563,6 @@ impl<R: Net, S: Store, L: PartitionLog + Drop> Edge<R, S, L> {
             → option_map (λ s. s.now) result ≡ socket_of number self.now.sockets.items }
     {
         self.sockets.get(self.place_of(number)?)
-    }
-
-    /// The socket at a place can go on.
-    fn queue(&mut self, place: usize)
-        ensures seen { seen self.new.host self.new.sockets.items ≡ seen self.old.host self.old.sockets.items }
-        ensures lanes { self.new.lanes ≡ self.old.lanes }
-    {
-        let Some(socket) = self.sockets.get_mut(place) else {
-            return;
-        };
-        // there is room for each socket once
-        if !socket.is_queued && self.ready.push(socket.connection()).is_ok() {
-            socket.is_queued = true;
-        }
-    }
-
-    /// The connections that the broker told something can go on, whoever asked for it. One that has still to be written what it was
-    /// told before waits for that, and a failed login for its time: those are not gone through where nobody else has something to say.
-    fn hear_speakers(&mut self)
-        ensures { seen self.new.host self.new.sockets.items ≡ seen self.old.host self.old.sockets.items }
-    {
-        // each failed login that waits is one of them, since its connection is shut
-        if self.host.broker().speakers().len() == self.delays.len() {
-            return;
-        }
-        for at in 0..self.host.broker().speakers().len() {
-            if let Some(number) = self.host.broker().speakers().get(at)
-                && let Some(place) = self.place_of(*number)
-                && let Some(socket) = self.sockets.get(place)
-                && socket.unwritten() == 0
-                && socket.held.is_none()
-            {
-                self.queue(place);
-            }
-        }
     }
 }
 

@@ -95,6 +95,7 @@ pub struct Socket<T> {
 }
 
 impl<T: Read + Write + Drop> Socket<T> {
+    ghost use Rattle.kb_node.specs.Ready.{can_hear};
     ghost use Rattle.kb_node.specs.Seats.{IsReseated};
 
     /// A socket whose connection is open.
@@ -248,6 +249,20 @@ impl<T: Read + Write + Drop> Socket<T> {
         ensures { result ≡ vec_len self.now.output - self.now.written }
     {
         self.output.len() - self.written
+    }
+
+    /// Whether all that was said to it before is written, and no failed login on it waits.
+    pub fn can_hear(&self) -> bool
+        ensures { result ≡ can_hear self.now }
+    {
+        self.unwritten() == 0 && self.held.is_none()
+    }
+
+    /// Its turn is to come.
+    pub fn note_queued(&mut self)
+        ensures { self.new ≡ record self.old { is_queued = true } }
+    {
+        self.is_queued = true;
     }
 
     /// A read may find something.

@@ -421,6 +421,8 @@ impl<R: Net, S: Store, L: PartitionLog + Drop> Edge<R, S, L> {
     pub(super) fn make_room(&mut self, alloc: Global, turn: &mut Turn) -> bool
         ensures sockets { OnTrue result (vec_len self.new.sockets < self.new.limit) }
         ensures strangers { OnTrue result (count_of self.new.shares.tenants self.new.shares.sockets < self.new.stranger_limit) }
+        // No connection opens.
+        ensures tried { self.new.host.tried ≡ self.old.host.tried }
         ensures goes { Goes S.disk R.Stream.contents R.Stream.remaining (seen self.old.host self.old.sockets.items)
             (seen self.new.host self.new.sockets.items) }
     {
@@ -439,7 +441,8 @@ impl<R: Net, S: Store, L: PartitionLog + Drop> Edge<R, S, L> {
     /// The socket of a connection is kept no longer, where its connection is closed.
     #[tactic(auto, using(crate::proofs::Goes::goes_then, crate::proofs::Goes::goes_none))]
     fn remove(&mut self, number: u64)
-        ensures { Goes S.disk R.Stream.contents R.Stream.remaining (seen self.old.host self.old.sockets.items)
+        ensures host { self.new.host ≡ self.old.host }
+        ensures goes { Goes S.disk R.Stream.contents R.Stream.remaining (seen self.old.host self.old.sockets.items)
             (seen self.new.host self.new.sockets.items) }
     {
         let Some(place) = self.place_of(number) else {

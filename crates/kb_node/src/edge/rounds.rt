@@ -1,13 +1,15 @@
 //! Rounds, in which those are served who have little to be done, or one whose request is long.
 
-ghost use Rattle.std.specs.Prelude.{◌≡◌, ◌≢◌, min, true};
+ghost use Rattle.std.specs.Prelude.{◌≡◌, ◌≢◌, [], min, true};
 ghost use Rattle.kb_node.specs.Known.{hasty};
 ghost use Rattle.kb_node.specs.Moves.{GoesWith};
 ghost use Rattle.kb_node.specs.Cores.{seen};
 ghost use Rattle.kb_node.specs.Commits.{tells_at_once};
 ghost use Rattle.kb_shares.specs.Turns.{after_next};
 ghost use Rattle.kb_node.specs.Numbers.{IsInOrder, socket_of};
+ghost use Rattle.kb_node.specs.Ready.{LinesUp};
 ghost use Rattle.kb_node.specs.Replies.{place_of};
+ghost use Rattle.kb_node.specs.Traffic.{Along};
 ghost use Rattle.kb_node.specs.Waiting.{behind, behind_round, in_lane, is_long};
 
 use crate::edge::{Edge, HOLDERS, PIECE};
@@ -43,7 +45,12 @@ impl<R: Net, S: Store, L: PartitionLog + Drop> Edge<R, S, L> {
     /// The sockets that can go on stand in line for their turns, all of them or those alone that may be asked. Where there is no memory for
     /// that, they go on later.
     pub(super) fn line_up(&mut self, alloc: Global, is_for_all: bool)
-        ensures { seen self.new.host self.new.sockets.items ≡ seen self.old.host self.old.sockets.items }
+        ensures seen { seen self.new.host self.new.sockets.items ≡ seen self.old.host self.old.sockets.items }
+        // Each of them in turn.
+        ensures lined { IsInOrder (seen self.old.host self.old.sockets.items) → Along (LinesUp is_for_all self.old.shares
+            self.old.replies.pool self.old.inputs.pool self.old.sockets.items) self.old.ready.items
+            (record { lanes = self.old.lanes; ready = self.old.spare }) (record { lanes = self.new.lanes; ready = self.new.ready }) }
+        ensures spare { self.new.spare.items ≡ [] }
     {
         let spare = mem::replace(&mut self.spare, Vec::new(alloc));
         let mut round = mem::replace(&mut self.ready, spare);
@@ -58,6 +65,10 @@ impl<R: Net, S: Store, L: PartitionLog + Drop> Edge<R, S, L> {
     /// go on.
     fn line_up_one(&mut self, number: u64, is_for_all: bool)
         ensures seen { seen self.new.host self.new.sockets.items ≡ seen self.old.host self.old.sockets.items }
+        ensures lined { IsInOrder (seen self.old.host self.old.sockets.items) → LinesUp is_for_all self.old.shares
+            self.old.replies.pool self.old.inputs.pool self.old.sockets.items number
+            (record { lanes = self.old.lanes; ready = self.old.ready }) (record { lanes = self.new.lanes; ready = self.new.ready }) }
+        ensures rest { self.new ≡ record self.old { lanes = self.new.lanes; ready = self.new.ready } }
         ensures waits { IsInOrder (seen self.old.host self.old.sockets.items) → self.new.lanes ≢ self.old.lanes
             → self.new.lanes ≡ in_lane (is_long (socket_of number self.old.sockets.items))
             (min (place_of number self.old.shares) 256) number self.old.lanes }

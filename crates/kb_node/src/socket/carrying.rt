@@ -5,7 +5,8 @@ ghost use Rattle.std.specs.Io.KnownBytes.{Appends};
 ghost use Rattle.kb_isolation_spec.specs.Broker.{bound_to};
 ghost use Rattle.kb_isolation_spec.specs.Calls.{is_open, login_of, output_of};
 ghost use Rattle.kb_broker.specs.Places.{numbers};
-ghost use Rattle.kb_node.specs.Carries.{Carries, CarriesWith, HasToldAll, Tells, TellsInTurn, TellsWith, unhanded_of, unwritten_of};
+ghost use Rattle.kb_node.specs.Carries.{Carries, CarriesWith, HasBeenTold, HasToldAll, Tells, TellsInTurn, TellsWith};
+ghost use Rattle.kb_node.specs.Carries.{unhanded_of, unwritten_of};
 ghost use Rattle.kb_node.specs.Commits.{may_tell, tells_at_once};
 ghost use Rattle.kb_node.specs.Known.{hasty, telling};
 ghost use Rattle.kb_node.specs.News.{IsAdded};
@@ -62,10 +63,10 @@ impl<T: Read + Write + Drop> Socket<T> {
         ensures stays { result ≢ End → (numbers host.new.broker.state ≡ numbers host.old.broker.state)
             × (is_done self.new.is_over self.new.is_half_closed self.new.may_answer
             (vec_len self.new.output - self.new.written) self.new.connection host.new.broker.state ≡ false) }
-        // Then the broker has nothing more to say to it, but to a failed login before its time.
-        ensures told { TellsInTurn self.old host.old.broker.state → result ≢ End → HasToldAll self.new host.new.broker.state }
+        // Then the broker has nothing more to say to it, but to a failed login before its time, or behind what is still to be written.
+        ensures told { result ≢ End → HasBeenTold self.old self.new host.old.broker.state host.new.broker.state }
     {
-        self.write_output(alloc, host, turn);
+        self.write_all(alloc, host, turn);
         if may_ask && self.can_ask(host.broker()) {
             self.ask(alloc, host, buffer, most, turn);
             if self.take_seat(host.broker(), shares, turn) {
@@ -138,8 +139,8 @@ impl<T: Read + Write + Drop> Socket<T> {
         ensures open { result ≢ End → numbers host.new.broker.state ≡ numbers host.old.broker.state }
         ensures stays { result ≢ End → is_done self.new.is_over self.new.is_half_closed self.new.may_answer
             (vec_len self.new.output - self.new.written) self.new.connection host.new.broker.state ≡ false }
-        // Then the broker has nothing more to say to it, but to a failed login before its time.
-        ensures told { TellsInTurn self.old host.old.broker.state → result ≢ End → HasToldAll self.new host.new.broker.state }
+        // Then the broker has nothing more to say to it, but to a failed login before its time, or behind what is still to be written.
+        ensures told { result ≢ End → HasBeenTold self.old self.new host.old.broker.state host.new.broker.state }
     {
         if self.unwritten() == 0 && !self.is_over {
             self.write_output(alloc, host, turn);
@@ -298,6 +299,31 @@ impl<T: Read + Write + Drop> Socket<T> {
         self.input = Input::new(alloc);
         host.disconnect(alloc, self.connection);
         turn.count_closed();
+    }
+
+    /// Writes what the socket takes now of what is left of the output, and then of what the connection has to say since.
+    fn write_all<S: Store, L: PartitionLog + Drop>(
+        &mut self,
+        alloc: Global,
+        host: &mut Committed<S, L>,
+        turn: &mut Turn,
+    )
+        requires not_ended { self.now.is_ended ≡ false }
+        requires may_tell { may_tell host.old.commits ≡ true }
+        ensures tells { TellsWith S.disk (telling S.settled S.disk S.loss host.old.commits) T.contents T.remaining
+            self.old self.new host.old.broker host.new.broker }
+        ensures connection { self.new.connection ≡ self.old.connection }
+        ensures seat { KeepsSeat self.old self.new }
+        ensures tried { host.new.tried ≡ host.old.tried }
+        ensures commits { host.new.commits ≡ host.old.commits }
+        ensures ended { self.new.is_ended ≡ self.old.is_ended }
+        ensures numbers { numbers host.new.broker.state ≡ numbers host.old.broker.state }
+        ensures told { HasBeenTold self.old self.new host.old.broker.state host.new.broker.state }
+    {
+        self.write_on(turn);
+        if self.unwritten() == 0 {
+            self.write_output(alloc, host, turn);
+        }
     }
 
     /// Writes what the socket takes now of the output. New output is taken only once the earlier one is written, and that of a failed login

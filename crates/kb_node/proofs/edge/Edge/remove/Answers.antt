@@ -3,8 +3,8 @@ use Rattle.std.proofs.Common.{sym, ◌∙◌}
 use Rattle.kb_node.proofs.Goes.{goes_removed}
 use Rattle.kb_node.proofs.edge.Edge.remove.Goals as goal
 
-pub returns-then-is_ended : goal.returns-then-is_ended
-returns-then-is_ended g c = goes_removed _ c.deref.result.now _ _ c.in-Some.place c.in-Some-get.socket.now c.in-Some-get.ensures.lookup.3.0
+pub returns-then-is_ended-clause-goes : goal.returns-then-is_ended-clause-goes
+returns-then-is_ended-clause-goes g c = goes_removed _ c.deref.result.now _ _ c.in-Some.place c.in-Some-get.socket.now c.in-Some-get.ensures.lookup.3.0
     c.in-Some-get.ensures.lookup.1 (sym c.is_ended.ensures ∙ c.if-is_ended.true) c.deref.ensures.value c.remove.ensures.items
 
 pub invariant_of-self-clause-seated : goal.invariant_of-self-clause-seated

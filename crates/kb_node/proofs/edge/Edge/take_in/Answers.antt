@@ -1,6 +1,7 @@
-use Rattle.std.proofs.Common.{◌∙◌, ap, arith, refl, sym}
+use Rattle.std.proofs.Common.{◌∙◌, ap, arith, inr, refl, sym}
+use Rattle.kb_isolation_spec.specs.Calls.{opened}
 use Rattle.kb_node.specs.Cores.{seen}
-use Rattle.kb_node.proofs.Carries.{on_ok}
+use Rattle.kb_node.proofs.Carries.{on_err, on_ok}
 use Rattle.kb_node.proofs.Goes.{goes_joined, goes_opened, goes_still, goes_then, joined}
 use Rattle.kb_node.proofs.Seats.{comes_behind, given_any, not_kept}
 use Rattle.kb_node.proofs.edge.Edge.take_in.Goals as goal
@@ -10,20 +11,35 @@ returns-then-is_err-clause-goes g c = goes_still (ap (λ xs. seen c.args.self.no
 
 pub returns-then-is_err-2-clause-goes : goal.returns-then-is_err-2-clause-goes
 returns-then-is_err-2-clause-goes g c = goes_then (goes_still (ap (λ xs. seen c.args.self.now.host xs) c.reserve.ensures.items))
-    (goes_opened c.in-Some.ensures.above.0 c.connect.ensures.tried (ap (λ x. x.sync) c.connect.ensures.commits) c.connect.ensures.happens refl)
+    (goes_opened c.in-Some.ensures.above.0 c.connect.ensures.tried (ap (λ x. x.sync) c.connect.ensures.commits) c.connect.ensures.happens (record {
+      refused = on_err c.connect.result c.connect.ensures.err (sym c.is_err-2.ensures.value ∙ c.if-is_err-2.true);
+      sockets = refl;
+    }))
+
+pub returns-then-is_err-2-clause-unopened : goal.returns-then-is_err-2-clause-unopened
+returns-then-is_err-2-clause-unopened g c =
+    inr (on_err c.connect.result c.connect.ensures.err (sym c.is_err-2.ensures.value ∙ c.if-is_err-2.true))
 
 pub returns-clause-goes : goal.returns-clause-goes
 returns-clause-goes g c =
-    goes_joined c.in-Some.connection c.args.stream c.in-Some.ensures.above.0 c.connect.ensures.tried (ap (λ x. x.sync) c.connect.ensures.commits) c.connect.ensures.happens
-    (joined _ _ _ _ c.push_reserved.ensures.items c.reserve.ensures.items
-    c.new-socket.ensures.connection c.new-socket.ensures.stream c.new-socket.ensures.unwritten c.new-socket.ensures.unhanded
-    c.new-socket.ensures.whole c.new-socket.ensures.open)
+    goes_joined c.in-Some.connection c.args.stream c.in-Some.ensures.above.0 c.connect.ensures.tried (ap (λ x. x.sync) c.connect.ensures.commits) c.connect.ensures.happens (record {
+      opened = on_ok c.connect.result c.connect.ensures.ok (sym c.is_err-2.ensures.value ∙ c.if-is_err-2.false);
+      joined = joined _ _ _ _ c.push_reserved.ensures.items c.reserve.ensures.items
+          c.new-socket.ensures.connection c.new-socket.ensures.stream c.new-socket.ensures.unwritten c.new-socket.ensures.unhanded
+          c.new-socket.ensures.whole c.new-socket.ensures.open;
+    })
 
 pub returns-clause-socket : goal.returns-clause-socket
 returns-clause-socket g c =
-    joined _ _ _ _ c.push_reserved.ensures.items c.reserve.ensures.items
-    (c.new-socket.ensures.connection ∙ sym c.connect.ensures.tried) c.new-socket.ensures.stream
-    c.new-socket.ensures.unwritten c.new-socket.ensures.unhanded c.new-socket.ensures.whole c.new-socket.ensures.open
+    let kept = on_ok c.connect.result c.connect.ensures.ok (sym c.is_err-2.ensures.value ∙ c.if-is_err-2.false) in (
+      omega (arith, c.in-Some.ensures.above.0, c.connect.ensures.tried),
+      record {
+        opened = kept ∙ ap (λ n. opened c.args.self.now.host.broker.state n) (sym c.connect.ensures.tried);
+        joined = joined _ _ _ _ c.push_reserved.ensures.items c.reserve.ensures.items
+            (c.new-socket.ensures.connection ∙ sym c.connect.ensures.tried) c.new-socket.ensures.stream
+            c.new-socket.ensures.unwritten c.new-socket.ensures.unhanded c.new-socket.ensures.whole c.new-socket.ensures.open;
+      },
+    )
 
 pub invariant_of-self-then-is_err-clause-seated : goal.invariant_of-self-then-is_err-clause-seated
 invariant_of-self-then-is_err-clause-seated g c =

@@ -68,7 +68,8 @@ impl<R: Net, S: Store, L: PartitionLog + Drop> Edge<R, S, L> {
         ensures lined { IsInOrder (seen self.old.host self.old.sockets.items) → LinesUp is_for_all self.old.shares
             self.old.replies.pool self.old.inputs.pool self.old.sockets.items number
             (record { lanes = self.old.lanes; ready = self.old.ready }) (record { lanes = self.new.lanes; ready = self.new.ready }) }
-        ensures rest { self.new ≡ record self.old { lanes = self.new.lanes; ready = self.new.ready } }
+        ensures rest { (self.new.sockets ≡ self.old.sockets) × (self.new.shares ≡ self.old.shares)
+            × (self.new.replies ≡ self.old.replies) × (self.new.inputs ≡ self.old.inputs) }
         ensures waits { IsInOrder (seen self.old.host self.old.sockets.items) → self.new.lanes ≢ self.old.lanes
             → self.new.lanes ≡ in_lane (is_long (socket_of number self.old.sockets.items))
             (min (place_of number self.old.shares) 256) number self.old.lanes }

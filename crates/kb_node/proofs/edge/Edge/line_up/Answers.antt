@@ -11,10 +11,10 @@ loop-number-preserved g c =
     record {
       stays = c.line_up_one.ensures.seen ∙ was.stays;
       round = was.round;
-      shares = ap (λ e. e.shares) rest ∙ was.shares;
-      replies = ap (λ e. e.replies) rest ∙ was.replies;
-      inputs = ap (λ e. e.inputs) rest ∙ was.inputs;
-      sockets = ap (λ e. e.sockets) rest ∙ was.sockets;
+      shares = rest.1 ∙ was.shares;
+      replies = rest.2 ∙ was.replies;
+      inputs = rest.3 ∙ was.inputs;
+      sockets = rest.0 ∙ was.sockets;
       lined = λ r. along_found (LinesUp c.args.is_for_all old.shares old.replies.pool old.inputs.pool old.sockets.items)
           c.deref-number-items.result.now old.ready.items c.loop-number.number-index 0 _ _ _ was.round c.loop-number-test.true (was.lined r)
           (lined_with c.args.is_for_all old.shares mid.shares old.replies.pool mid.replies.pool old.inputs.pool mid.inputs.pool old.sockets.items mid.sockets.items _ _ _

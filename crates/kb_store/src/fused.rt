@@ -161,7 +161,8 @@ impl<S: Store> Store for FusedStore<S> {
         // A call that the fuse refuses leaves the bytes that are to be kept, and no more. Where the store inside refuses these, too, it
         // leaves some front of them.
         ensures prefix { refuses_call self.old.fuse (one_more self.old.calls) ≡ true
-            → OnOk self.new.partial (Appends (disk_through S.disk self.old) file (take self.old.keep bytes.now) (disk_through S.disk self.new)) }
+            → OnOk self.new.partial
+            (Appends (disk_through S.disk self.old) file (take self.old.keep bytes.now) (disk_through S.disk self.new)) }
         ensures cut_short { refuses_call self.old.fuse (one_more self.old.calls) ≡ true
             → AppendsSome (disk_through S.disk self.old) file (take self.old.keep bytes.now) (disk_through S.disk self.new) }
         ensures partial { refuses_call self.old.fuse (one_more self.old.calls) ≡ true

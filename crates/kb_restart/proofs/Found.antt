@@ -28,7 +28,7 @@ use Rattle.kb_segment_log.specs.SegmentLog.{bytes_at, segment_log, whose, IsFile
 use Rattle.kb_segment_log.specs.Chain.{ComesTo}
 use Rattle.kb_segment_log.specs.Reopened.{AreFilesOf}
 use Rattle.kb_segment_log.specs.declared.log.SegmentLog.{SegmentLog}
-use Rattle.kb_segment_log.proofs.Reopens.{reopens}
+use Rattle.kb_segment_log.proofs.Reopens.{reopens_exact}
 use Rattle.kb_topics.specs.Catalog.{known, meta_log, catalog_identity}
 use Rattle.kb_topics.specs.Known.{Known, PartitionState, TopicState, partition_at, topic_at}
 use Rattle.kb_tenant_state.specs.Partitions.{log_state, logs_of, partition_identity}
@@ -450,7 +450,7 @@ module _ (d : Disk) (lawful : IsLawfulDisk d) (honest : d.honest) (strays : List
       }
 
       catalog_comes : ComesTo d.files (catalog_of d.files (name t p at) (generation t p at) numbers) 0 (meta segment_log p).start (meta segment_log p).end ((meta segment_log p).batches d.files)
-      catalog_comes = reopens (meta_log p.catalog) d k.next 0 (catalog_of d.files (name t p at) (generation t p at) numbers) lawful honest catalog_files (sound t p at).catalog (agrees t p at).catalog (k.settled.meta_exact t p at) (agrees t p at).meta_started
+      catalog_comes = reopens_exact (meta_log p.catalog) d k.next 0 (catalog_of d.files (name t p at) (generation t p at) numbers) lawful honest catalog_files (sound t p at).catalog (agrees t p at).catalog (k.settled.meta_exact t p at) (agrees t p at).meta_started
 
       -- all batches of the catalog's chain are its commands
       whole_list : IsLongestFold (generation t p at) ((meta segment_log p).batches d.files) (known p.catalog)
@@ -583,7 +583,7 @@ module _ (d : Disk) (lawful : IsLawfulDisk d) (honest : d.honest) (strays : List
       log_comes : IsLogOf d.files list (natural part.start) (log_state (segment_log x.log) d.files)
       log_comes =
           let recorded = ap start_said known_at in
-          let c = reopens x.log d k.next (natural part.start) list lawful honest log_files ((sound t p at).logs.each i n x there) ((agrees t p at).logs.each i n x there) (k.settled.exact t p at i n x there).0
+          let c = reopens_exact x.log d k.next (natural part.start) list lawful honest log_files ((sound t p at).logs.each i n x there) ((agrees t p at).logs.each i n x there) (k.settled.exact t p at i n x there).0
           (subst (λ start. (segment_log x.log).resumes start) recorded ((agrees t p at).started i n x there)) in
           record { bs = c.bs; chain = c.chain; starts = c.starts; ends = c.ends; batches = c.batches }
 

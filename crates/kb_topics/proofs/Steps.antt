@@ -214,3 +214,12 @@ start_recorded a b k m (pos i) (pos p) n q offset part e f ahead h app =
     recorded a b k m (start_command (pos i) (pos p) offset) tt tt (start_refusal offset (partition_at k (pos i) (pos p))) (start_passes offset (partition_at k (pos i) (pos p)) part there ahead) refl (step_start k m (pos i) (pos p) offset part there ahead made) app
 start_recorded a b k m (pos i) (negsuc p) n q offset part e f ahead h app = absurd cc
 start_recorded a b k m (negsuc i) p n q offset part e f ahead h app = absurd cc
+
+-- ... and one that the log refused
+pub start_not_recorded : (a b : OnShelf) (k m : Known) (i p : ℤ) (n q : ℕ) (offset : ℤ) (part : PartitionState) (fault : CatalogFault) → place_in i p ≡ Some (n, q) → partition_at k (pos n) (pos q) ≡ Some part → (offset <ℤ part.start → ⊥) → m ≡ k → IsLogCause a fault b × Unchanged a b → Records {T = Unit {0}} a k (start_command i p offset) tt (start_refusal offset (partition_at k i p)) (Err fault) b m
+start_not_recorded a b k m (pos i) (pos p) n q offset part fault e f ahead same h =
+    let at : (i, p) ≡ (n, q) = ap (λ o. unwrap_or o (i, p)) e in
+    let there : partition_at k (pos i) (pos p) ≡ Some part = subst (λ (x : ℕ × ℕ). partition_at k (pos x.0) (pos x.1) ≡ Some part) (sym at) f in
+    not_recorded {T = Unit {0}} a b k m (start_command (pos i) (pos p) offset) tt (start_refusal offset (partition_at k (pos i) (pos p))) fault (start_passes offset (partition_at k (pos i) (pos p)) part there ahead) same h
+start_not_recorded a b k m (pos i) (negsuc p) n q offset part fault e f ahead same h = absurd cc
+start_not_recorded a b k m (negsuc i) p n q offset part fault e f ahead same h = absurd cc

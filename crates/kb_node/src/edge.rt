@@ -49,6 +49,7 @@ use std::io;
 use std::io::ErrorKind;
 use std::net::{Net, OpenStream, SocketAddr};
 use std::os::fd::AsRawFd;
+use thiserror::Error;
 
 /// The most sockets that a turn accepts.
 const ACCEPTS: usize = 1024;
@@ -71,11 +72,13 @@ enum Accepts {
 }
 
 /// Why an edge was not bound.
-#[derive(Clone, Copy, Debug, PartialEq, Eq)]
+#[derive(Clone, Copy, Debug, PartialEq, Eq, Error)]
 pub enum BindFault {
     /// The address cannot be listened on.
+    #[error("the address cannot be listened on")]
     Bind,
     /// Memory was refused.
+    #[error("out of memory")]
     Memory,
 }
 

@@ -7,7 +7,7 @@ use crate::moves::{Deed, Move, play};
 use Deed::{Asks, Closed, Ends, Hears, Sends, Stays};
 use Move::{At, By, Join, Leave, Turns};
 use kb_node::Limits;
-use std::alloc::{AllocError, Global};
+use std::alloc::Global;
 use std::net::Net;
 use std::test::Fail;
 
@@ -142,46 +142,89 @@ const ONE_AT_A_TIME: [Move<'static>; 8] = [
     Turns([1, 0, 0, 1, 1, 0]),
 ];
 
+/// The last number is given to one client, and none is left for the next.
+const THE_LAST_NUMBER: [Move<'static>; 5] = [
+    Join,
+    By(0, Asks("versions", "served")),
+    Join,
+    Turns([1, 0, 0, 1, 0, 0]),
+    By(1, Closed),
+];
+
 /// The most clients of a scene.
 const CLIENTS: usize = 4;
 
-/// What happens to an edge of the standard settings, under its name.
-type Scene = (&'static str, &'static [Move<'static>]);
+/// What happens to an edge, under its name: how many sockets it may have, and which number its broker gave to a connection before.
+type Scene = (&'static str, u32, u64, &'static [Move<'static>]);
 
-const SCENES: [Scene; 11] = [
-    ("users log in", &USERS_LOG_IN),
+const SCENES: [Scene; 13] = [
+    ("users log in", 1024, 0, &USERS_LOG_IN),
     (
         "a request before the login is shut",
+        1024,
+        0,
         &A_REQUEST_BEFORE_THE_LOGIN_IS_SHUT,
     ),
-    ("a batch comes back", &A_BATCH_COMES_BACK),
+    ("a batch comes back", 1024, 0, &A_BATCH_COMES_BACK),
     (
         "a client may send byte by byte",
+        1024,
+        0,
         &A_CLIENT_MAY_SEND_BYTE_BY_BYTE,
     ),
     (
         "a client may close in the middle",
+        1024,
+        0,
         &A_CLIENT_MAY_CLOSE_IN_THE_MIDDLE,
     ),
     (
         "what is behind a wrong login is not read",
+        1024,
+        0,
         &WHAT_IS_BEHIND_A_WRONG_LOGIN_IS_NOT_READ,
     ),
-    ("a client may send no more", &A_CLIENT_MAY_SEND_NO_MORE),
-    ("a client may reset", &A_CLIENT_MAY_RESET),
-    ("a wait ends by another", &A_WAIT_ENDS_BY_ANOTHER),
-    ("a wait ends by its deadline", &A_WAIT_ENDS_BY_ITS_DEADLINE),
-    ("a client logs in in time", &A_CLIENT_LOGS_IN_IN_TIME),
+    (
+        "a client may send no more",
+        1024,
+        0,
+        &A_CLIENT_MAY_SEND_NO_MORE,
+    ),
+    ("a client may reset", 1024, 0, &A_CLIENT_MAY_RESET),
+    ("a wait ends by another", 1024, 0, &A_WAIT_ENDS_BY_ANOTHER),
+    (
+        "a wait ends by its deadline",
+        1024,
+        0,
+        &A_WAIT_ENDS_BY_ITS_DEADLINE,
+    ),
+    (
+        "a client logs in in time",
+        1024,
+        0,
+        &A_CLIENT_LOGS_IN_IN_TIME,
+    ),
+    (
+        "a client that logged in makes no room",
+        1,
+        0,
+        &ONE_AT_A_TIME,
+    ),
+    (
+        "the last number is given once",
+        1024,
+        u64::MAX - 1,
+        &THE_LAST_NUMBER,
+    ),
 ];
 
-/// How many moves of a scene go as they say, on an edge for a broker with at most so many sockets.
-fn plays<R: Net>(
-    net: &R,
-    alloc: Global,
-    host: Host,
-    sockets: u32,
-    moves: &[Move<'_>],
-) -> Result<usize, Fail> {
+/// How many moves of a scene go as they say.
+fn plays<R: Net>(net: &R, alloc: Global, scene: &Scene) -> Result<usize, Fail> {
+    let (_, sockets, number, moves) = *scene;
+    let mut host = Host::new(alloc)?;
+    if number > 0 {
+        host.open(number)?;
+    }
     let limits = Limits {
         sockets,
         ..Limits::default()
@@ -190,63 +233,33 @@ fn plays<R: Net>(
     Ok(play(net, alloc, &mut edge, moves)?)
 }
 
+/// The name of the first scene that goes otherwise, and none where all go as they say.
+fn first_wrong<R: Net>(net: &R, alloc: Global) -> Result<&'static str, Fail> {
+    for scene in &SCENES {
+        if plays(net, alloc, scene)? < scene.3.len() {
+            return Ok(scene.0);
+        }
+    }
+    Ok("")
+}
+
 /// The same in memory, where each write is read whole.
-fn plays_in_memory(
-    alloc: Global,
-    host: Host,
-    sockets: u32,
-    moves: &[Move<'_>],
-) -> Result<usize, Fail> {
-    let hall = Hall::new(alloc, CLIENTS, Pieces::Whole, usize::MAX)?;
-    plays(&hall.room(), alloc, host, sockets, moves)
+fn first_wrong_in_memory(alloc: Global) -> Result<&'static str, Fail> {
+    let clients = CLIENTS * SCENES.len();
+    let hall = Hall::new(alloc, clients, Pieces::Whole, usize::MAX)?;
+    first_wrong(&hall.room(), alloc)
 }
 
 #[test]
 fn scenes_are_played(rt: HostRuntime) -> Result<(), Fail> {
-    for (name, moves) in &SCENES {
-        let done = plays(&rt, rt.alloc(), Host::new(rt.alloc())?, 1024, moves)?;
-        assert!(rt; done == moves.len(), "{name}");
-    }
+    let wrong = first_wrong(&rt, rt.alloc())?;
+    assert!(rt; wrong.is_empty(), "{wrong}");
     Ok(())
 }
 
 #[test]
 fn scenes_are_played_in_memory(rt: HostRuntime) -> Result<(), Fail> {
-    for (name, moves) in &SCENES {
-        let done = plays_in_memory(rt.alloc(), Host::new(rt.alloc())?, 1024, moves)?;
-        assert!(rt; done == moves.len(), "{name}");
-    }
-    Ok(())
-}
-
-#[test]
-fn a_client_that_logged_in_makes_no_room(rt: HostRuntime) -> Result<(), Fail> {
-    let host = Host::new(rt.alloc())?;
-    assert!(rt; plays(&rt, rt.alloc(), host, 1, &ONE_AT_A_TIME)? == ONE_AT_A_TIME.len());
-    let host = Host::new(rt.alloc())?;
-    assert!(rt; plays_in_memory(rt.alloc(), host, 1, &ONE_AT_A_TIME)? == ONE_AT_A_TIME.len());
-    Ok(())
-}
-
-/// The last number is given to one client, and none is left for the next.
-const LAST: [Move<'static>; 5] = [
-    Join,
-    By(0, Asks("versions", "served")),
-    Join,
-    Turns([1, 0, 0, 1, 0, 0]),
-    By(1, Closed),
-];
-
-/// A broker that has one number left for a connection.
-fn nearly_full(alloc: Global) -> Result<Host, AllocError> {
-    let mut host = Host::new(alloc)?;
-    host.open(u64::MAX - 1)?;
-    Ok(host)
-}
-
-#[test]
-fn the_last_number_is_given_once(rt: HostRuntime) -> Result<(), Fail> {
-    assert!(rt; plays(&rt, rt.alloc(), nearly_full(rt.alloc())?, 1024, &LAST)? == LAST.len());
-    assert!(rt; plays_in_memory(rt.alloc(), nearly_full(rt.alloc())?, 1024, &LAST)? == LAST.len());
+    let wrong = first_wrong_in_memory(rt.alloc())?;
+    assert!(rt; wrong.is_empty(), "{wrong}");
     Ok(())
 }

@@ -262,14 +262,23 @@ fn takes_course(
     serves(&hall.room(), alloc, limits, told, course)
 }
 
+/// How many of the first talks have just these replies.
+fn count_right(alloc: Global, told: &[Written]) -> Result<usize, AllocError> {
+    let mut count = 0usize;
+    for (written, (_, reply, is_shut)) in told.iter().zip(&TALKS) {
+        if written.bytes != bytes_of(alloc, reply)? || written.shut != *is_shut {
+            break;
+        }
+        count = count.saturating_add(1);
+    }
+    Ok(count)
+}
+
 #[test]
 fn a_run_tells_what_each_connection_got(rt: HostRuntime) -> Result<(), Fail> {
     let told = run(rt.alloc())?;
     assert!(rt; told.len() == TALKS.len());
-    for (written, (_, reply, is_shut)) in told.iter().zip(&TALKS) {
-        assert!(rt; written.bytes == bytes_of(rt.alloc(), reply)?);
-        assert!(rt; written.shut == *is_shut);
-    }
+    assert!(rt; count_right(rt.alloc(), &told)? == TALKS.len());
     Ok(())
 }
 

@@ -23,7 +23,7 @@ moment=$data.moment
 find "/proc/$pid/fd" \( -lname "$data" -o -lname "$data/*" \) 2> /dev/null | grep -q . || fail "process $pid does not serve $data"
 ! find "$data" -maxdepth 1 -name '*.seg' -type l | grep . >&2 || fail "these files are links: copy the folder with the broker stopped"
 [ ! -e "$to" ] || fail "$to is there already"
-mkdir "$moment" 2> /dev/null || fail "$moment is there: another backup runs, or one was cut off (then remove that folder)"
+mkdir "$moment" 2> /dev/null || fail "$moment is there: another backup runs, or one was cut off (then kill -CONT $pid, and remove that folder)"
 
 stopped=
 clean() {

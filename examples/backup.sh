@@ -1,9 +1,10 @@
 #!/bin/sh
 # examples/backup.sh PID DATA TO: a backup of the folder of a broker that runs.
 #
-# PID is the broker's process, DATA its data folder, TO a folder that is made. The broker stands still (SIGSTOP) while its files are linked
-# into a folder beside DATA and their lengths are noted. Then it goes on, and the files are copied up to these lengths, since a file only
-# grows at its end. So the backup is what a broker leaves that was killed at that moment: every record that was acknowledged by then.
+# PID is the broker's process, or several of which it is one, as `pidof kbroker` tells them. DATA is its data folder, TO a folder that is
+# made. The broker stands still (SIGSTOP) while its files are linked into a folder beside DATA and their lengths are noted. Then it goes on,
+# and the files are copied up to these lengths, since a file only grows at its end. So the backup is what a broker leaves that was killed at
+# that moment: every record that was acknowledged by then.
 #
 # It prints how many files and bytes were copied, and for how long the broker stood still. Restore by copying all files of the backup into
 # an empty folder. Status 1, and a line that says why, where no whole backup was made.
@@ -16,14 +17,26 @@ fail() {
 }
 
 [ $# = 3 ] || fail "say PID DATA TO"
-pid=$1 data=$(realpath "$2") to=$3
+pid="" data=$(realpath "$2") to=$3
 # On the file system of DATA, as links need. It is the mark of a backup under way, too.
 moment=$data.moment
 
-find "/proc/$pid/fd" \( -lname "$data" -o -lname "$data/*" \) 2> /dev/null | grep -q . || fail "process $pid does not serve $data"
+# Whether a process serves DATA: it alone holds the lock of the folder, which it has open.
+serves() {
+    for fd in $(find "/proc/$1/fd" -lname "$data" -printf '%f ' 2> /dev/null); do
+        ! grep -qs '^lock:.*FLOCK.*WRITE' "/proc/$1/fdinfo/$fd" || return 0
+    done
+    return 1
+}
+
+for it in $1; do
+    ! serves "$it" || pid=$it
+done
+[ "$pid" ] || fail "process $1 does not serve $data"
 ! find "$data" -maxdepth 1 -name '*.seg' -type l | grep . >&2 || fail "these files are links: copy the folder with the broker stopped"
 [ ! -e "$to" ] || fail "$to is there already"
-mkdir "$moment" 2> /dev/null || fail "$moment is there: another backup runs, or one was cut off (then remove that folder)"
+mkdir "$moment" 2> /dev/null ||
+    fail "$moment is there: another backup runs, or one was cut off (then kill -CONT $pid, and remove that folder)"
 
 stopped=
 clean() {

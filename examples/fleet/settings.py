@@ -40,10 +40,30 @@ def broker_settings(fleet, name, address):
     return "\n".join(lines) + "\n"
 
 
-def main(fleet, out):
-    """Writes all files."""
-    with open(fleet, "rb") as it:
+def wrong(fleet):
+    """What is wrong with a fleet that no broker would say, or nothing."""
+    for key in ("clients", "data", "metrics_token", "brokers", "tenants"):
+        if key not in fleet:
+            return f"{key} is missing"
+    hosts = {}
+    for tenant, table in fleet["tenants"].items():
+        for key in ("broker", "host", "users"):
+            if key not in table:
+                return f"tenant {tenant}: {key} is missing"
+        if table["broker"] not in fleet["brokers"]:
+            return f"tenant {tenant}: there is no broker {table['broker']}"
+        if hosts.setdefault(table["host"].lower(), tenant) != tenant:
+            return f"tenant {tenant}: tenant {hosts[table['host'].lower()]} has the same host"
+    return ""
+
+
+def main(path, out):
+    """Writes all files, where nothing is wrong."""
+    with open(path, "rb") as it:
         fleet = tomllib.load(it)
+    fault = wrong(fleet)
+    if fault:
+        sys.exit(f"settings: {path}: {fault}")
     files = {f"{name}.toml": broker_settings(fleet, name, address) for name, address in fleet["brokers"].items()}
     proxy = PROXY.format(port=fleet["clients"], folder=os.path.abspath(out))
     files["haproxy.cfg"] = proxy + "".join(f"backend {name}\n    server {name} {at}\n" for name, at in fleet["brokers"].items())

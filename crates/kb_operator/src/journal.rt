@@ -78,8 +78,8 @@ pub struct Closed {
 /// How many tenants stand in a line at most: it stays below 4,096 bytes, with names of 64.
 const TENANTS: usize = 30;
 
-/// A commit is told that took longer, in milliseconds.
-const LONG_COMMIT: u64 = 1000;
+/// A turn is told that took longer, with its commit or without one, in milliseconds.
+const LONG_TURN: u64 = 1000;
 
 /// What was told so far. No line is waited for ([`Lines`]).
 #[derive(Drop)]
@@ -255,9 +255,17 @@ impl Journal {
 
     /// How long a commit took, where that was over a second.
     pub fn tell_commit(&mut self, alloc: Global, now: u64, millis: u64) {
-        if !self.is_quiet && millis > LONG_COMMIT {
+        if !self.is_quiet && millis > LONG_TURN {
             self.lines
                 .tell(now, format!(in alloc; "a commit took {millis} ms"));
+        }
+    }
+
+    /// How long a turn without a commit took, where that was over a second: as one that waited for the disk to begin a file.
+    pub fn tell_long_turn(&mut self, alloc: Global, now: u64, millis: u64) {
+        if !self.is_quiet && millis > LONG_TURN {
+            self.lines
+                .tell(now, format!(in alloc; "a turn took {millis} ms"));
         }
     }
 

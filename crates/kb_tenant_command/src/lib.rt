@@ -166,8 +166,8 @@ fn import(rt: &HostRuntime, tenant: &str, from: &str, to: &str) -> Result<Copied
     source.copy_to(alloc, tenant, &journal, target)
 }
 
-/// The store of the files in a folder that was made for them. What is written lasts once it is synced. It has no reserve: a broker that
-/// serves the folder makes one.
+/// The store of the files in a folder. What is written or removed lasts once it is synced. It makes no reserve: a broker that serves the
+/// folder makes one.
 fn store_to_fill(rt: &HostRuntime, journal: &FolderJournal) -> Result<DataStore, OperatorFault> {
     let alloc = rt.alloc();
     match filled(rt, alloc, journal) {
@@ -205,7 +205,7 @@ fn remove(
     }
     let _held = hold(rt, data)?;
     let journal = FolderJournal::new(alloc, data, true)?;
-    let mut store = store_to_serve(rt, &journal, true)?;
+    let mut store = store_to_fill(rt, &journal)?;
     match removed(alloc, &mut store, tenant) {
         Ok(0) => Err(files_fault(alloc, tenant, MoveFault::Absent, data)?),
         Ok(files) => Ok(files),

@@ -120,8 +120,8 @@ pub fn tell_turn<R: Net, S: Store, L: PartitionLog + Drop>(
     journal.tell_counts(alloc, now, tick.moment, turn.turned_away, &counts);
 }
 
-/// Tells how long the commit of a turn took that began at a reading of the clocks and at that moment, where it had one that took over a
-/// second. What the turn was asked before the commit is in that time.
+/// Tells how long a turn took that began at a reading of the clocks and at that moment, where that was over a second: its commit with what
+/// it was asked before, or the turn where it had none.
 pub fn tell_commit<R: Net, S: Store, L: PartitionLog + Drop>(
     rt: &HostRuntime,
     journal: &mut Journal,
@@ -129,9 +129,12 @@ pub fn tell_commit<R: Net, S: Store, L: PartitionLog + Drop>(
     begun: Reading,
     moment: u64,
 ) {
+    let micros = Reading::of(rt).steady.saturating_sub(begun.steady);
+    let millis = micros / 1000;
     if edge.last_commit() == moment {
-        let micros = Reading::of(rt).steady.saturating_sub(begun.steady);
-        journal.tell_commit(rt.alloc(), now(rt), micros / 1000);
+        journal.tell_commit(rt.alloc(), now(rt), millis);
+    } else {
+        journal.tell_long_turn(rt.alloc(), now(rt), millis);
     }
 }
 

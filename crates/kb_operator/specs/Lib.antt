@@ -1,6 +1,13 @@
 pub mod Bucket
+pub mod Counted
 pub mod Device
+pub mod Events
+pub mod Known
+pub mod KnownLaws
+pub mod Logged
+pub mod Logins
 pub mod Others
 pub mod Settings
+pub mod Speaks
 pub mod Sums
 pub mod Unread

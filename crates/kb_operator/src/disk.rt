@@ -3,7 +3,7 @@
 ghost use Rattle.std.specs.Prelude.{◌≡◌, ◌<◌, ◌^◌, IsSome, IsTrue, IfSome, ◌↔◌, Some};
 ghost use Rattle.kb_operator.specs.Device.{device_number, is_short};
 
-use crate::lines::Lines;
+use crate::lines::{LineLog, Lines};
 use crate::sums::stored_at_most;
 use kb_server_log::now;
 use kb_settings::Settings;

@@ -1,6 +1,11 @@
 //! What is told on standard error while a data folder is open: a line each, with the time.
 
-ghost use Rattle.std.specs.Prelude.{◌≤◌, ◌^◌};
+ghost use Rattle.std.specs.Prelude.{◌≡◌, ◌≤◌, ◌^◌, ◌∷◌, [], codes, map, string_bytes, IfOk};
+ghost use Rattle.kb_operator.specs.Counted.{turned_away_line, turned_away_lines};
+ghost use Rattle.kb_operator.specs.Events.{commit_lines, lost_ids_line, notice_text, passed_over, passed_over_lines, turn_lines};
+ghost use Rattle.kb_operator.specs.Known.{known_account, known_user, known_users};
+ghost use Rattle.kb_operator.specs.Logged.{TellsTexts};
+ghost use Rattle.kb_operator.specs.Speaks.{Announces, Speaks};
 
 mod logins;
 mod refusals;
@@ -10,9 +15,9 @@ mod unread;
 use crate::bucket::Bucket;
 use crate::counts::RefusalCounts;
 use crate::deleted::deleted_text;
-use crate::lines::Lines;
+use crate::lines::{LineLog, Lines};
 use kb_server_log::{Change, Notice, Pace, Tally, time_text};
-use kb_settings::{Settings, Sync, tenant_names};
+use kb_settings::{Settings, Sync, User, tenant_names};
 use kb_start::{Deleted, StrayCounts, Total};
 use std::alloc::{AllocError, Global};
 
@@ -83,9 +88,9 @@ const LONG_TURN: u64 = 1000;
 
 /// What was told so far. No line is waited for ([`Lines`]).
 #[derive(Drop)]
-pub struct Journal {
+pub struct Journal<T = Lines> {
     is_quiet: bool,
-    lines: Lines,
+    lines: T,
     connections: u32,
     sync: Sync,
     tenants: Vec<Tenant>,
@@ -108,13 +113,12 @@ pub struct Journal {
     pace: Pace,
 }
 
-impl Journal {
+impl Journal<Lines> {
     /// Nothing is told yet, and with `is_quiet` nothing will be.
-    pub fn new(
-        rt: &HostRuntime,
-        settings: &Settings,
-        is_quiet: bool,
-    ) -> Result<Journal, AllocError> {
+    pub fn new(rt: &HostRuntime, settings: &Settings, is_quiet: bool) -> Result<Journal, AllocError>
+        ensures users { IfOk result (λ journal. map known_account journal.users.items ≡ known_users settings.now) }
+        ensures quiet { IfOk result (λ journal. journal.is_quiet ≡ is_quiet) }
+    {
         Ok(Journal {
             is_quiet,
             lines: Lines::new(rt)?,
@@ -132,9 +136,11 @@ impl Journal {
             pace: Pace::default(),
         })
     }
+}
 
+impl<T: LineLog> Journal<T> {
     /// Where other lines on the same folder go.
-    pub fn lines(&mut self) -> &mut Lines {
+    pub fn lines(&mut self) -> &mut T {
         &mut self.lines
     }
 
@@ -210,13 +216,13 @@ impl Journal {
     }
 
     /// How many producer ids a tenant's catalog had lost, which are now given out to nobody.
-    pub fn tell_lost_ids(&mut self, alloc: Global, now: u64, tenant: &str, lost: u64) {
-        if !self.is_quiet {
-            let text = format!(in alloc;
-                "producer ids that the catalog of tenant {tenant} had lost: {lost}"
-            );
-            self.lines.tell(now, text);
+    pub fn tell_lost_ids(&mut self, alloc: Global, now: u64, tenant: &str, lost: u64)
+        ensures { Announces T.logged now (lost_ids_line tenant.now lost ∷ []) self.old self.new }
+    {
+        if self.is_quiet {
+            return;
         }
+        self.lines.tell(now, lost_ids_text(alloc, tenant, lost));
     }
 
     /// What was found in the folder, behind a word.
@@ -246,43 +252,62 @@ impl Journal {
     }
 
     /// What the wall clock did.
-    pub fn tell_clock(&mut self, alloc: Global, now: u64, notice: Notice) {
-        if !self.is_quiet {
-            self.lines
-                .tell(now, String::from_str(alloc, notice_text(notice)));
+    pub fn tell_clock(&mut self, alloc: Global, now: u64, notice: Notice)
+        ensures { Announces T.logged now (notice_text notice ∷ []) self.old self.new }
+    {
+        if self.is_quiet {
+            return;
         }
+        self.lines
+            .tell(now, String::from_str(alloc, notice_text(notice)));
     }
 
     /// How long a commit took, where that was over a second.
-    pub fn tell_commit(&mut self, alloc: Global, now: u64, millis: u64) {
-        if !self.is_quiet && millis > LONG_TURN {
+    pub fn tell_commit(&mut self, alloc: Global, now: u64, millis: u64)
+        ensures { Announces T.logged now (commit_lines millis) self.old self.new }
+    {
+        if self.is_quiet {
+            return;
+        }
+        if millis > LONG_TURN {
             self.lines
                 .tell(now, format!(in alloc; "a commit took {millis} ms"));
         }
     }
 
     /// How long a turn without a commit took, where that was over a second: as one that waited for the disk to begin a file.
-    pub fn tell_long_turn(&mut self, alloc: Global, now: u64, millis: u64) {
-        if !self.is_quiet && millis > LONG_TURN {
+    pub fn tell_long_turn(&mut self, alloc: Global, now: u64, millis: u64)
+        ensures { Announces T.logged now (turn_lines millis) self.old self.new }
+    {
+        if self.is_quiet {
+            return;
+        }
+        if LONG_TURN < millis {
             self.lines
                 .tell(now, format!(in alloc; "a turn took {millis} ms"));
         }
     }
 
     /// The broker serves no longer.
-    pub fn tell_stop(&mut self, alloc: Global, now: u64) {
-        if !self.is_quiet {
-            self.lines.tell(now, String::from_str(alloc, "stop"));
+    pub fn tell_stop(&mut self, alloc: Global, now: u64)
+        ensures { Announces T.logged now (codes "stop" ∷ []) self.old self.new }
+    {
+        if self.is_quiet {
+            return;
         }
+        self.lines.tell(now, String::from_str(alloc, "stop"));
     }
 
     /// How many logins, and connections that the broker shut, were passed over in seconds before that one.
-    pub fn tell_passed_over(&mut self, alloc: Global, now: u64, second: u64) {
-        if !self.is_quiet {
-            self.tell_more_logins(alloc, now, second);
-            self.tell_more_failed(alloc, now, second);
-            self.tell_more_shut(alloc, now, second);
+    pub fn tell_passed_over(&mut self, alloc: Global, now: u64, second: u64)
+        ensures { Speaks T.logged now (passed_over_lines second self.old) (passed_over second self.old) self.old self.new }
+    {
+        if self.is_quiet {
+            return;
         }
+        self.tell_more_logins(alloc, now, second);
+        self.tell_more_failed(alloc, now, second);
+        self.tell_more_shut(alloc, now, second);
     }
 
     /// So many more sockets were closed that kept silent. They are told with the other counts.
@@ -315,14 +340,15 @@ impl Journal {
     }
 
     /// How many connections were closed at once since the last line.
-    fn tell_turned_away(&mut self, alloc: Global, now: u64) {
+    fn tell_turned_away(&mut self, alloc: Global, now: u64)
+        ensures told { TellsTexts now (turned_away_lines self.old.turned_away self.old.connections)
+            (T.logged self.old.lines) (T.logged self.new.lines) }
+        ensures others { self.new ≡ record self.old { turned_away = 0; lines = self.new.lines } }
+    {
         if self.turned_away == 0 {
             return;
         }
-        let (count, connections) = (self.turned_away, self.connections);
-        let text = format!(in alloc;
-            "connections closed at once: {count}, since {connections} are open"
-        );
+        let text = turned_away_text(alloc, self.turned_away, self.connections);
         self.lines.tell(now, text);
         self.turned_away = 0;
     }
@@ -337,6 +363,13 @@ impl Journal {
             }
         }
     }
+}
+
+/// How many connections were closed at once, and how many may be open.
+fn turned_away_text(alloc: Global, count: u64, most: u32) -> Result<String, AllocError>
+    ensures { IfOk result (λ text. string_bytes text ≡ turned_away_line count most) }
+{
+    format!(in alloc; "connections closed at once: {count}, since {most} are open")
 }
 
 /// How many sockets of some tenants were closed since the last line, and how many that kept silent, by what they did: none where no socket
@@ -390,18 +423,27 @@ fn tenants_of(alloc: Global, settings: &Settings) -> Result<Vec<Tenant>, AllocEr
 }
 
 /// The users whose logins are told: all of the settings in their order, or none.
-fn users_of(alloc: Global, settings: &Settings) -> Result<Vec<Account>, AllocError> {
+fn users_of(alloc: Global, settings: &Settings) -> Result<Vec<Account>, AllocError>
+    ensures { IfOk result (λ users. map known_account users.items ≡ known_users settings.now) }
+{
     let mut users = Vec::new(alloc);
     if !settings.logins {
         return Ok(users);
     }
     for user in &settings.users {
-        users.push(Account {
-            name: String::from_str(alloc, &user.name)?,
-            tenant: String::from_str(alloc, &user.tenant)?,
-        })?;
+        users.push(account_of(alloc, user)?)?;
     }
     Ok(users)
+}
+
+/// A user as he is known: by his name and his tenant.
+fn account_of(alloc: Global, user: &User) -> Result<Account, AllocError>
+    ensures { IfOk result (λ account. known_account account ≡ known_user user.now) }
+{
+    Ok(Account {
+        name: String::from_str(alloc, &user.name)?,
+        tenant: String::from_str(alloc, &user.tenant)?,
+    })
 }
 
 /// What was found, which is empty where there is no memory for it.
@@ -430,8 +472,17 @@ fn change_text(alloc: Global, now: u64, changed: u64) -> Result<Option<String>, 
     Ok(Some(format!(in alloc; "{text}: {time}")?))
 }
 
+/// How many producer ids a tenant's catalog had lost.
+fn lost_ids_text(alloc: Global, tenant: &str, lost: u64) -> Result<String, AllocError>
+    ensures { IfOk result (λ text. string_bytes text ≡ lost_ids_line tenant.now lost) }
+{
+    format!(in alloc; "producer ids that the catalog of tenant {tenant} had lost: {lost}")
+}
+
 /// What happened to the wall clock.
-fn notice_text(notice: Notice) -> &'static str {
+fn notice_text(notice: Notice) -> &'static str
+    ensures { result.now ≡ notice_text notice }
+{
     match notice {
         Notice::Ahead => "the clock went ahead: it is not followed for ten minutes",
         Notice::Taken => "the clock was ahead for ten minutes: it is followed",

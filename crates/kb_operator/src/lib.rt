@@ -17,6 +17,7 @@ mod entries;
 mod fault;
 mod folder;
 mod journal;
+mod laws;
 mod limits;
 mod lines;
 mod look;
@@ -40,7 +41,8 @@ pub use folder::{
     DataStore, HeldFolder, hold, is_folder, look_into, store_in, store_to_read, store_to_serve,
 };
 pub use journal::{Closed, Held, Journal, Word};
-pub use lines::Lines;
+pub use laws::{logins_tell_no_password, names_end_no_line};
+pub use lines::{LineLog, Lines};
 pub use look::look_at_start;
 pub use named::settings_of_files;
 pub use refused::FolderJournal;

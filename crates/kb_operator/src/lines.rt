@@ -1,5 +1,8 @@
 //! Lines on standard error that wait for no reader.
 
+ghost use Rattle.std.specs.Prelude.{ℕ, List, Option, [], ◌∷◌};
+ghost use Rattle.kb_operator.specs.Logged.{Grows, MakesText, TellsTexts, text_in, texts_of};
+
 use kb_server_log::{Missed, Sink, time_text};
 use mio::unix::SourceFd;
 use mio::{Events, Interest, Poll, Token};
@@ -10,6 +13,35 @@ use std::time::Duration;
 
 /// The most bytes of a line, its end among them: a pipe that takes anything takes so many.
 const LINE: usize = 4096;
+
+/// What lines are told to, one after another.
+pub trait LineLog {
+    ghost use Rattle.std.specs.Prelude.{None};
+    ghost use Rattle.kb_operator.specs.Logged.{LogLine};
+
+    /// The lines that it was told so far, where they are known.
+    ghost logged: { Self → Option (List LogLine) } = { λ _. None };
+
+    /// Tells a line with a moment of the wall clock in front. A text for which there was no memory is a line that was missed.
+    fn tell(&mut self, now: u64, text: Result<String, AllocError>)
+        ensures { Grows (logged self.old) (logged self.new) (record { moment = now; text = text_in text } ∷ []) };
+
+    /// Tells how many lines were missed, if any were.
+    fn catch_up(&mut self, now: u64)
+        ensures { Grows (logged self.old) (logged self.new) [] };
+}
+
+/// Tells a text, if there is one.
+pub(crate) fn tell_if<T: LineLog>(now: u64, text: Result<Option<String>, AllocError>, lines: &mut T)
+    ensures { (wanted : Option (List ℕ)) → MakesText wanted text
+        → TellsTexts now (texts_of wanted) (T.logged lines.old) (T.logged lines.new) }
+{
+    match text {
+        Ok(Some(text)) => lines.tell(now, Ok(text)),
+        Ok(None) => {}
+        Err(e) => lines.tell(now, Err(e)),
+    }
+}
 
 /// Lines on standard error. One that the system does not take at once is passed over, and the next one that it takes is how many
 /// were.
@@ -54,12 +86,6 @@ impl Lines {
         self.output.poll.is_some()
     }
 
-    /// Tells a line with a moment of the wall clock in front. A text for which there was no memory is a line that was missed.
-    pub fn tell(&mut self, now: u64, text: Result<String, AllocError>) {
-        self.output.now = Some(now);
-        self.offer(text);
-    }
-
     /// Tells a line as it is, without a moment.
     pub fn tell_alone(&mut self, text: Result<String, AllocError>) {
         self.output.now = None;
@@ -73,9 +99,15 @@ impl Lines {
             Err(_) => self.missed.miss(),
         }
     }
+}
 
-    /// Tells how many lines were missed, if any were.
-    pub fn catch_up(&mut self, now: u64) {
+impl LineLog for Lines {
+    fn tell(&mut self, now: u64, text: Result<String, AllocError>) {
+        self.output.now = Some(now);
+        self.offer(text);
+    }
+
+    fn catch_up(&mut self, now: u64) {
         self.output.now = Some(now);
         self.missed.catch_up(&mut self.output);
     }

@@ -1,7 +1,7 @@
 //! What is looked at when the process is started.
 
 use crate::fault::OperatorFault;
-use crate::lines::Lines;
+use crate::lines::{LineLog, Lines};
 use kb_process::{OpenFiles, hard_limit, judge, soft_limit, to_ask_for};
 use kb_server_log::now;
 use std::alloc::{AllocError, Global};

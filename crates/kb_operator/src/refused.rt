@@ -1,7 +1,7 @@
 //! What the system refuses to a data folder.
 
 use crate::fault::{OperatorFault, behind_it};
-use crate::lines::Lines;
+use crate::lines::{LineLog, Lines};
 use kb_folder::{FolderCall, FolderFault, Refusal, Refusals, file_name, is_full};
 use kb_server_log::now;
 use kb_store::StoreFault;

@@ -4,6 +4,7 @@ ghost use Rattle.std.specs.Prelude.{◌≡◌};
 
 use crate::counts::RefusalCounts;
 use crate::journal::{Journal, TENANTS, Tenant};
+use crate::lines::LineLog;
 use std::alloc::{AllocError, Global};
 
 /// What lines say of refusals beside those of each tenant.
@@ -28,7 +29,7 @@ impl Others {
     }
 }
 
-impl Journal {
+impl<T: LineLog> Journal<T> {
     /// How many requests were refused since the last line, by tenant and by cause, and how many calls of the store among that.
     pub fn tell_refusals<B: RefusalCounts>(&mut self, alloc: Global, now: u64, broker: &B) {
         if self.is_quiet || broker.is_calm() {

@@ -1,10 +1,17 @@
 //! Connections that the broker shut, as they are told: of each second the first 16, and then how many more there were.
 
+ghost use Rattle.std.specs.Prelude.{◌≡◌, codes, option_map, string_bytes, IfOk};
+ghost use Rattle.kb_operator.specs.Bucket.{told_of};
+ghost use Rattle.kb_operator.specs.Logged.{TellsTexts};
+ghost use Rattle.kb_operator.specs.Logins.{cause_text, due_lines, name_at, shut_line, TellsShut};
+
+use crate::journal::logins::tell_more;
 use crate::journal::{Journal, Tenant};
+use crate::lines::LineLog;
 use std::alloc::{AllocError, Global};
 use std::net::SocketAddr;
 
-impl Journal {
+impl<T: LineLog> Journal<T> {
     /// A connection that the broker shut in a second: from an address, of the tenant at a place where it had logged in, and why.
     pub fn tell_shut(
         &mut self,
@@ -14,16 +21,18 @@ impl Journal {
         address: SocketAddr,
         tenant: Option<usize>,
         cause: Result<String, AllocError>,
-    ) {
+    )
+        ensures { TellsShut T.logged now second address tenant cause self.old self.new }
+    {
         if self.is_quiet {
             return;
         }
         self.tell_more_shut(alloc, now, second);
-        if self.shut.takes(second) {
-            let tenant = tenant.and_then(|place| self.tenants.get(place));
-            let text = shut_text(alloc, address, tenant, cause);
-            self.lines.tell(now, text);
+        if !self.shut.takes(second) {
+            return;
         }
+        let text = shut_text(alloc, address, name_at(&self.tenants, tenant), cause);
+        self.lines.tell(now, text);
     }
 
     /// So many connections were shut beside those. They are told of when their second is over.
@@ -32,28 +41,36 @@ impl Journal {
     }
 
     /// How many connections were shut in seconds before beside those that were told, if any were.
-    pub(super) fn tell_more_shut(&mut self, alloc: Global, now: u64, second: u64) {
-        let more = self.shut.due(second);
-        if more > 0 {
-            self.lines
-                .tell(now, format!(in alloc; "closed others: {more}"));
-        }
+    pub(super) fn tell_more_shut(&mut self, alloc: Global, now: u64, second: u64)
+        ensures told { TellsTexts now (due_lines (codes "closed others: ") second self.old.shut)
+            (T.logged self.old.lines) (T.logged self.new.lines) }
+        ensures others { self.new ≡ record self.old { shut = told_of second self.old.shut; lines = self.new.lines } }
+    {
+        let (bucket, lines) = (&mut self.shut, &mut self.lines);
+        tell_more(alloc, now, second, "closed others: ", bucket, lines);
     }
+}
+
+/// The name of the tenant at a place, where there is one.
+fn name_at(tenants: &[Tenant], place: Option<usize>) -> Option<&str>
+    ensures { option_map (λ name. name.now) result ≡ name_at tenants.now place }
+{
+    let tenant = tenants.get(place?)?;
+    Some(tenant.name.as_str())
 }
 
 /// A connection that the broker shut.
 fn shut_text(
     alloc: Global,
     address: SocketAddr,
-    tenant: Option<&Tenant>,
+    tenant: Option<&str>,
     cause: Result<String, AllocError>,
-) -> Result<String, AllocError> {
+) -> Result<String, AllocError>
+    ensures { IfOk result (λ line. string_bytes line ≡ shut_line address (option_map (λ name. name.now) tenant.entry) (cause_text cause)) }
+{
     let cause = cause?;
     match tenant {
-        Some(tenant) => {
-            let name = tenant.name.as_str();
-            format!(in alloc; "closed {address} of tenant {name}: {cause}")
-        }
+        Some(name) => format!(in alloc; "closed {address} of tenant {name}: {cause}"),
         None => format!(in alloc; "closed {address}: {cause}"),
     }
 }

@@ -1,17 +1,21 @@
 //! Tenants that wait for those that read their replies, as they are told.
 
-ghost use Rattle.std.specs.Prelude.{◌≡◌, false, true, map, option_map, string_bytes, IfOk};
-ghost use Rattle.kb_operator.specs.Unread.{told_by, unread_text, waits_line, with_waits};
+ghost use Rattle.std.specs.Prelude.{◌≡◌, false, true, map, string_bytes, IfOk};
+ghost use Rattle.kb_operator.specs.Logged.{TellsTexts, MakesText};
+ghost use Rattle.kb_operator.specs.Unread.{told_by, unread_text, unread_texts, waits_line};
 
 use crate::counts::RefusalCounts;
 use crate::journal::{Journal, Tenant};
-use crate::lines::Lines;
+use crate::lines::{LineLog, tell_if};
 use std::alloc::{AllocError, Global};
 
-impl Journal {
+impl<T: LineLog> Journal<T> {
     /// Which tenants waited since the last line for those that read their replies: a line for each.
     pub(super) fn tell_unread<B: RefusalCounts>(&mut self, alloc: Global, now: u64, broker: &B)
         ensures quiet { self.old.is_quiet ≡ true → self.new ≡ self.old }
+        ensures lines { self.old.is_quiet ≡ false
+            → TellsTexts now (unread_texts (B.unread broker.now) self.old.tenants.items)
+            (T.logged self.old.lines) (T.logged self.new.lines) }
         ensures told { self.old.is_quiet ≡ false
             → self.new.tenants.items ≡ map (told_by (B.unread broker.now)) self.old.tenants.items }
         ensures others { self.new ≡ record self.old { tenants = self.new.tenants; lines = self.new.lines } }
@@ -24,19 +28,18 @@ impl Journal {
 }
 
 /// Tells the line of each of these tenants that has one.
-fn tell_each<B: RefusalCounts>(
+fn tell_each<B: RefusalCounts, T: LineLog>(
     alloc: Global,
     now: u64,
     tenants: &mut [Tenant],
     broker: &B,
-    lines: &mut Lines,
+    lines: &mut T,
 )
-    ensures { tenants.new ≡ map (told_by (B.unread broker.now)) tenants.old }
+    ensures lines { TellsTexts now (unread_texts (B.unread broker.now) tenants.old) (T.logged lines.old) (T.logged lines.new) }
+    ensures told { tenants.new ≡ map (told_by (B.unread broker.now)) tenants.old }
 {
     for tenant in tenants.iter_mut() {
-        if let Some(text) = unread_text(alloc, tenant, broker).transpose() {
-            lines.tell(now, text);
-        }
+        tell_if(now, unread_text(alloc, tenant, broker), lines);
     }
 }
 
@@ -46,8 +49,7 @@ fn unread_text<B: RefusalCounts>(
     tenant: &mut Tenant,
     broker: &B,
 ) -> Result<Option<String>, AllocError>
-    ensures text { IfOk result (λ text. option_map string_bytes text
-        ≡ unread_text (B.unread broker.now tenant.old.place) tenant.old) }
+    ensures text { MakesText (unread_text (B.unread broker.now tenant.old.place) tenant.old) result }
     ensures told { tenant.new ≡ told_by (B.unread broker.now) tenant.old }
 {
     let unread = broker.unread_of_tenant(tenant.place);

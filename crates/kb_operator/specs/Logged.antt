@@ -1,0 +1,47 @@
+-- What a log is told, line by line.
+use Rattle.std.specs.Prelude.{◌≡◌, ◌++◌, ℕ, List, [], ◌∷◌, Option, Some, None, Result, Ok, Err, string_bytes, option_map, IsSome}
+use Rattle.std.specs.declared.string.String.{String}
+
+-- a line: the moment in front of it, and its text, or that there was no memory for it
+pub record LogLine : Type 0 where
+  pub moment : ℕ
+  pub text : Option (List ℕ)
+
+-- a text as it is told, or that there was no memory for it
+abbrev pub text_in : {A E : Type 0} → Result (String A) E → Option (List ℕ)
+text_in (Ok text) = Some (string_bytes text)
+text_in (Err e) = None
+
+-- known lines grow by some
+abbrev pub Grows : Option (List LogLine) → Option (List LogLine) → List LogLine → Type 0
+Grows None new lines = Unit {0}
+Grows (Some xs) None lines = ⊥
+Grows (Some xs) (Some ys) lines = ys ≡ xs ++ lines
+
+-- a text is told, unless there was no memory for it
+abbrev pub IsText : List ℕ → Option (List ℕ) → Type 0
+IsText text None = Unit {0}
+IsText text (Some told) = told ≡ text
+
+-- a line for each of some texts, in order
+abbrev pub AreLines : ℕ → List (List ℕ) → List LogLine → Type 0
+AreLines now [] [] = Unit {0}
+AreLines now [] (line ∷ lines) = ⊥
+AreLines now (text ∷ texts) [] = ⊥
+AreLines now (text ∷ texts) (line ∷ lines) = (line.moment ≡ now) × IsText text line.text × AreLines now texts lines
+
+-- A log is told these texts at a moment, and nothing else.
+pub record TellsTexts (now : ℕ) (texts : List (List ℕ)) (old new : Option (List LogLine)) : Type 0 where
+  pub lines : List LogLine
+  pub are : AreLines now texts lines
+  pub grown : Grows old new lines
+
+-- the text that there is
+abbrev pub texts_of : Option (List ℕ) → List (List ℕ)
+texts_of None = []
+texts_of (Some text) = text ∷ []
+
+-- a text or none was made, and memory ran out only for one
+abbrev pub MakesText : {A E : Type 0} → Option (List ℕ) → Result (Option (String A)) E → Type 0
+MakesText wanted (Ok made) = option_map string_bytes made ≡ wanted
+MakesText wanted (Err e) = IsSome wanted

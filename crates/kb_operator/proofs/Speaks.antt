@@ -23,7 +23,7 @@ tells_in : {A E : Type 0} (now second : ℕ) (words line : List ℕ) (b m : Buck
     → Grows y z (record { moment = now; text = text_in r } ∷ []) → TellsTexts now (lines_in words line second b) x z
 tells_in now second words line b m takes r x y z t is room taking h g =
     let has : has_room (at_second second (told_of second b)) ≡ true =
-        ap (λ k. has_room (at_second second k)) (sym is) ∙ sym room ∙ taking in
+    ap (λ k. has_room (at_second second k)) (sym is) ∙ sym room ∙ taking in
     tells_both now (due_lines words second b) (line_if (has_room (at_second second (told_of second b))) line) x y z t
     (subst (λ q. TellsTexts now (line_if q line) y z) (sym has) (tells_one now line r y z h g))
 
@@ -117,9 +117,9 @@ module _ {T : Type 0} (logged : T → Option (List LogLine)) (now : ℕ) where
       let failed : a.failed ≡ old.failed = ap (λ (j : Journal T). j.failed) o1 in
       let shut : b.shut ≡ old.shut = ap (λ (j : Journal T). j.shut) o2 ∙ ap (λ (j : Journal T). j.shut) o1 in
       let second_told : TellsTexts now w2 (logged a.lines) (logged b.lines) =
-          subst (λ k. TellsTexts now (due_lines (codes "login failed from others: ") second k) (logged a.lines) (logged b.lines)) failed t2 in
+      subst (λ k. TellsTexts now (due_lines (codes "login failed from others: ") second k) (logged a.lines) (logged b.lines)) failed t2 in
       let third_told : TellsTexts now w3 (logged b.lines) (logged new.lines) =
-          subst (λ k. TellsTexts now (due_lines (codes "closed others: ") second k) (logged b.lines) (logged new.lines)) shut t3 in
+      subst (λ k. TellsTexts now (due_lines (codes "closed others: ") second k) (logged b.lines) (logged new.lines)) shut t3 in
       speaks_loud (passed_over_lines second old) (passed_over second old) old new loud
       (tells_both now (w1 ++ w2) w3 (logged old.lines) (logged b.lines) (logged new.lines)
       (tells_both now w1 w2 (logged old.lines) (logged a.lines) (logged b.lines) t1 second_told) third_told)

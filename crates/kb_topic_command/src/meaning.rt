@@ -1,7 +1,9 @@
 //! What an error code says of the words of the command line.
 
-ghost use Rattle.std.specs.Prelude.{◌≡◌};
-ghost use Rattle.kb_topics.specs.ConfigReading.{nothing_read};
+ghost use Rattle.std.specs.Prelude.{◌≡◌, string_bytes, Some, IfOk};
+ghost use Rattle.kb_topics.specs.ConfigReading.{entry_of, nothing_read};
+ghost use Rattle.kb_topic_command.specs.Meaning.{wanted, wanted_policy, wrong_with, config_text};
+ghost use Rattle.kb_topic_command.specs.Meaning.{partitions_meaning, config_meaning, code_meaning, meaning};
 ghost use Rattle.kb_topic_command.specs.Wrong.{from_wrong};
 
 use kb_admin::{Setting, Task};
@@ -9,62 +11,55 @@ use kb_topics::{ConfigReader, config_entry};
 use kb_wire::ErrorCode;
 use std::alloc::{AllocError, Global};
 
-/// What the error codes mean whose names do not say it, whatever was asked.
-const MEANINGS: [(ErrorCode, &str); 3] = [
-    (
-        ErrorCode::InvalidTopic,
-        ": a name has 1 to 249 of a-z A-Z 0-9 . _ -",
-    ),
-    (
-        ErrorCode::PolicyViolation,
-        ": the tenant is at its limit of topics or of partitions",
-    ),
-    (
-        ErrorCode::SaslAuthenticationFailed,
-        ": no user has this name and password",
-    ),
-];
-
-/// What stands behind the errors by which a broker refuses what was asked: which word is wrong, and what it may be.
-#[derive(Drop)]
-pub(crate) struct Asked {
-    partitions: String,
-    config: String,
+/// What an error code says of a task: which word is wrong, and what it may be. Nothing where the code's name says all.
+pub(crate) fn meaning(alloc: Global, task: &Task, code: i16) -> Result<String, AllocError>
+    ensures { IfOk result (λ text. string_bytes text ≡ meaning task.now code) }
+{
+    if code == ErrorCode::InvalidPartitions.code() {
+        return partitions_meaning(alloc, task);
+    }
+    if code == ErrorCode::InvalidConfig.code() {
+        return config_meaning(alloc, task);
+    }
+    String::from_str(alloc, code_meaning(code))
 }
 
-impl Asked {
-    /// What is asked for by a task.
-    pub(crate) fn of(alloc: Global, task: &Task) -> Result<Asked, AllocError> {
-        let Task::Create(topic) = task else {
-            return Ok(Asked {
-                partitions: String::new(alloc),
-                config: String::new(alloc),
-            });
-        };
-        let partitions = topic.partitions;
-        Ok(Asked {
-            partitions: format!(in alloc;
-                ": --partitions {partitions}: a topic has 1 to 64 partitions"
-            )?,
-            config: config_text(alloc, wrong_settings(&topic.settings))?,
-        })
-    }
+/// What the number of partitions may be.
+fn partitions_meaning(alloc: Global, task: &Task) -> Result<String, AllocError>
+    ensures { IfOk result (λ text. string_bytes text ≡ partitions_meaning task.now) }
+{
+    let Task::Create(topic) = task else {
+        return Ok(String::new(alloc));
+    };
+    let partitions = topic.partitions;
+    format!(in alloc; ": --partitions {partitions}: a topic has 1 to 64 partitions")
+}
 
-    /// What an error code says of it; nothing where the code's name says all.
-    pub(crate) fn meaning(&self, code: i16) -> &str {
-        if code == ErrorCode::InvalidPartitions.code() {
-            return self.partitions.as_str();
-        }
-        if code == ErrorCode::InvalidConfig.code() {
-            return self.config.as_str();
-        }
-        for (error, meaning) in &MEANINGS {
-            if error.code() == code {
-                return *meaning;
-            }
-        }
-        ""
+/// What is wrong with the settings.
+fn config_meaning(alloc: Global, task: &Task) -> Result<String, AllocError>
+    ensures { IfOk result (λ text. string_bytes text ≡ config_meaning task.now) }
+{
+    let Task::Create(topic) = task else {
+        return Ok(String::new(alloc));
+    };
+    config_text(alloc, wrong_settings(&topic.settings))
+}
+
+/// What the codes mean whose names do not say it, whatever was asked.
+#[tactic(auto, unfolding(crate::specs::Meaning::code_meaning))]
+fn code_meaning(code: i16) -> &'static str
+    ensures { result.now ≡ code_meaning code }
+{
+    if code == ErrorCode::InvalidTopic.code() {
+        return ": a name has 1 to 249 of a-z A-Z 0-9 . _ -";
     }
+    if code == ErrorCode::PolicyViolation.code() {
+        return ": the tenant is at its limit of topics or of partitions";
+    }
+    if code == ErrorCode::SaslAuthenticationFailed.code() {
+        return ": no user has this name and password";
+    }
+    ""
 }
 
 /// Some settings from the first one on that a topic may not be given; none where each may be.
@@ -89,28 +84,49 @@ fn from_wrong(reader: ConfigReader, settings: &[Setting]) -> &[Setting]
 }
 
 /// What is wrong with the first of some settings.
-fn config_text(alloc: Global, wrong: &[Setting]) -> Result<String, AllocError> {
-    let Some(first) = wrong.first() else {
+fn config_text(alloc: Global, wrong: &[Setting]) -> Result<String, AllocError>
+    ensures { IfOk result (λ text. string_bytes text ≡ config_text wrong.now) }
+{
+    let Some((first, _)) = wrong.split_first() else {
         return String::from_str(alloc, ": the broker does not take these settings");
     };
-    let (key, value) = (first.key.as_str(), first.value.as_str());
-    let wanted = if config_entry(key, Some(value)).is_some() {
-        "it is given twice"
-    } else {
-        wanted(key)
-    };
-    format!(in alloc; ": --config {key}={value}: {wanted}")
+    let key = first.key.as_str();
+    let value = first.value.as_str();
+    let why = wrong_with(key, value);
+    format!(in alloc; ": --config {key}={value}: {why}")
 }
 
-/// What a setting may be.
-fn wanted(key: &str) -> &'static str {
-    match key {
-        "retention.ms" =>
-            "it is a number of milliseconds up to 9223372036854775807, or -1 for ever",
-        "retention.bytes" => {
-            "it is a number of bytes up to 9223372036854775807, or -1 for any number"
-        }
-        "cleanup.policy" => "it is delete",
-        _ => "the settings of a topic are retention.ms, retention.bytes and cleanup.policy",
+/// What is wrong with a setting: one that a topic may be given was read before.
+fn wrong_with(key: &str, value: &str) -> &'static str
+    ensures { result.now ≡ wrong_with key.now (entry_of key.now (Some value.now)) }
+{
+    if config_entry(key, Some(value)).is_some() {
+        return "it is given twice";
     }
+    wanted(key)
+}
+
+/// What a setting of that name may be.
+#[tactic(auto, unfolding(crate::specs::Meaning::wanted))]
+fn wanted(key: &str) -> &'static str
+    ensures { result.now ≡ wanted key.now }
+{
+    if key == "retention.ms" {
+        return "it is a number of milliseconds up to 9223372036854775807, or -1 for ever";
+    }
+    if key == "retention.bytes" {
+        return "it is a number of bytes up to 9223372036854775807, or -1 for any number";
+    }
+    wanted_policy(key)
+}
+
+/// What a policy may be, and else which settings there are.
+#[tactic(auto, unfolding(crate::specs::Meaning::wanted_policy))]
+fn wanted_policy(key: &str) -> &'static str
+    ensures { result.now ≡ wanted_policy key.now }
+{
+    if key == "cleanup.policy" {
+        return "it is delete";
+    }
+    "the settings of a topic are retention.ms, retention.bytes and cleanup.policy"
 }

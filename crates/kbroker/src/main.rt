@@ -128,7 +128,7 @@ fn run(rt: &HostRuntime) -> Result<(), Fault> {
         Some(("serve", found)) => serve::serve(rt, found),
         Some(("check", found)) => check::check(rt, found),
         Some(("dump", found)) => dump::dump(rt, found),
-        Some(("topic", found)) => match topic(rt, found) {
+        Some(("topic", found)) => match topic(rt, found, &mut io::writer(rt)) {
             Ok(()) => Ok(()),
             Err(fault) => topic_fault(alloc, fault),
         },

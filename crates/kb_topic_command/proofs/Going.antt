@@ -11,7 +11,7 @@ use Rattle.kb_admin.specs.declared.session.Heard.TheVariants as hears
 use Rattle.kb_admin.specs.Session.{Session, asked_text, moved, Comes}
 use Rattle.kb_topic_command.specs.declared.fault.TopicFault.{TopicFault}
 use Rattle.kb_topic_command.specs.declared.fault.TopicFault.TheVariants as faults
-use Rattle.kb_topic_command.specs.Exchange.{heard_from, session_after, next_text, after_all, sent_after, Answers, Hears, Steps, FailsAt, BlamesBroker, IsOwn}
+use Rattle.kb_topic_command.specs.Exchange.{heard_from, session_after, next_text, after_all, sent_after, Answers, Receives, Steps, FailsAt, BlamesBroker, IsOwn}
 use Rattle.kb_topic_command.specs.Faults.{of_admin}
 use Rattle.kb_topic_command.specs.Meaning.{meaning}
 use Rattle.kb_topic_command.specs.Telling.{ExplainsCode, Explains, TellsFault}
@@ -54,7 +54,7 @@ goes_first s from before behind sent = record {
 
 -- a piece comes, and a text is sent that it calls for
 goes_sent : (old s new : Session) (answer : Result Heard AdminFault) (from to on before behind beyond : Option (List ℕ)) (text : List ℕ)
-    → Goes old from to before behind s → Hears s answer to on new → text ≡ next_text answer new → Appends behind beyond text
+    → Goes old from to before behind s → Receives s answer to on new → text ≡ next_text answer new → Appends behind beyond text
     → Goes old from on before beyond new
 goes_sent old s new answer from to on before behind beyond text g h is sent =
     let first = asked_text old.stage old in
@@ -83,17 +83,17 @@ goes_turn old s new from to on before behind beyond g h =
     goes_sent old s new h.answer from to on before behind beyond (next_text h.answer new) g h.hears refl h.sent
 
 -- less than a reply came
-pub steps_more : (s new : Session) (from to before : Option (List ℕ)) → Hears s (Ok hears.More) from to new → Steps s from to before before new
+pub steps_more : (s new : Session) (from to before : Option (List ℕ)) → Receives s (Ok hears.More) from to new → Steps s from to before before new
 steps_more s new from to before h = record { answer = Ok hears.More; hears = h; sent = Appends-nil before }
 
 -- a reply came, and the next request was sent
-pub steps_next : (s new : Session) (from to before behind : Option (List ℕ)) → Hears s (Ok hears.Next) from to new
+pub steps_next : (s new : Session) (from to before behind : Option (List ℕ)) → Receives s (Ok hears.Next) from to new
     → Appends before behind (asked_text new.stage new) → Steps s from to before behind new
 steps_next s new from to before behind h sent = record { answer = Ok hears.Next; hears = h; sent = sent }
 
 -- the last piece came
 pub answers_last : (old s new : Session) (answer : Result Heard AdminFault) (from to on before behind beyond : Option (List ℕ))
-    → Goes old from to before behind s → Hears s answer to on new → beyond ≡ behind → Answers old answer from on before beyond
+    → Goes old from to before behind s → Receives s answer to on new → beyond ≡ behind → Answers old answer from on before beyond
 answers_last old s new answer from to on before behind beyond g h same = record {
   pieces = g.pieces;
   last = h.piece;
@@ -108,12 +108,12 @@ moves : (s new : Session) (p : List ℕ) (r : Result Heard AdminFault) → heard
 moves s new p r is m = m ∙ ap (λ a. moved a (s.unread ++ p) s) (sym is)
 
 pub hears_ok : (s new : Session) (p : List ℕ) (h : Heard) (from to : Option (List ℕ))
-    → heard_from p s ≡ Ok h → new ≡ moved (Ok h) (s.unread ++ p) s → Consumes from to p → Hears s (Ok h) from to new
+    → heard_from p s ≡ Ok h → new ≡ moved (Ok h) (s.unread ++ p) s → Consumes from to p → Receives s (Ok h) from to new
 hears_ok s new p h from to is m came = record { piece = p; came = came; answered = is; behind = moves s new p (Ok h) is m }
 
 blames_it : (s new : Session) (p : List ℕ) (f : AdminFault) (from to : Option (List ℕ))
     → Comes (heard_from p s) (Err f) → new ≡ moved (Err f) (s.unread ++ p) s → Consumes from to p
-    → BlamesBroker (λ fault. Hears s (Err fault) from to new) (of_admin f)
+    → BlamesBroker (λ fault. Receives s (Err fault) from to new) (of_admin f)
 blames_it s new p (admin.Refused code) from to is m came =
     record { piece = p; came = came; answered = is; behind = moves s new p (Err (admin.Refused code)) is m }
 blames_it s new p admin.Protocol from to is m came =
@@ -122,9 +122,9 @@ blames_it s new p admin.Memory from to is m came = tt
 
 pub blames_heard : (s new : Session) (p : List ℕ) (f : AdminFault) (fault : TopicFault) (from to : Option (List ℕ)) → fault ≡ of_admin f
     → Comes (heard_from p s) (Err f) → new ≡ moved (Err f) (s.unread ++ p) s → Consumes from to p
-    → BlamesBroker (λ it. Hears s (Err it) from to new) fault
+    → BlamesBroker (λ it. Receives s (Err it) from to new) fault
 blames_heard s new p f fault from to e is m came =
-    subst (λ x. BlamesBroker (λ it. Hears s (Err it) from to new) x) (sym e) (blames_it s new p f from to is m came)
+    subst (λ x. BlamesBroker (λ it. Receives s (Err it) from to new) x) (sym e) (blames_it s new p f from to is m came)
 
 -- ---- faults
 
@@ -164,7 +164,7 @@ fails_silent P e (Err x) silent is = subst (BlamesBroker P) (sym (is ∙ silent)
 -- what a piece came to
 pub fails_heard : {T : Type 0} (s new : Session) (p : List ℕ) (f : AdminFault) (r : Result T TopicFault) (from to : Option (List ℕ))
     → IsErrAnd r (λ x. x ≡ of_admin f) → Comes (heard_from p s) (Err f) → new ≡ moved (Err f) (s.unread ++ p) s → Consumes from to p
-    → IfErr r (BlamesBroker (λ it. Hears s (Err it) from to new))
+    → IfErr r (BlamesBroker (λ it. Receives s (Err it) from to new))
 fails_heard s new p f (Ok x) from to is comes m came = absurd is
 fails_heard s new p f (Err x) from to is comes m came = blames_heard s new p f x from to is comes m came
 

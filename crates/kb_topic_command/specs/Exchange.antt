@@ -52,7 +52,7 @@ IsLast hears.Done = Unit {0}
 IsLast (hears.Topics topics) = Unit {0}
 
 -- a piece comes, and comes to an answer
-pub record Hears (s : Session) (answer : Result Heard AdminFault) (from to : Option (List ℕ)) (new : Session) : Type 0 where
+pub record Receives (s : Session) (answer : Result Heard AdminFault) (from to : Option (List ℕ)) (new : Session) : Type 0 where
   pub piece : List ℕ
   pub came : Consumes from to piece
   pub answered : heard_from piece s ≡ answer
@@ -61,17 +61,17 @@ pub record Hears (s : Session) (answer : Result Heard AdminFault) (from to : Opt
 -- a piece comes, and the request that it calls for is sent
 pub record Steps (s : Session) (from to before behind : Option (List ℕ)) (new : Session) : Type 0 where
   pub answer : Result Heard AdminFault
-  pub hears : Hears s answer from to new
+  pub hears : Receives s answer from to new
   pub sent : Appends before behind (next_text answer new)
 
 -- that, or an answer that ends it, behind which nothing is sent
 abbrev pub Turns : Session → Option Heard → Option (List ℕ) → Option (List ℕ) → Option (List ℕ) → Option (List ℕ) → Session → Type 0
 Turns s None from to before behind new = Steps s from to before behind new
-Turns s (Some heard) from to before behind new = IsLast heard × Hears s (Ok heard) from to new × (behind ≡ before)
+Turns s (Some heard) from to before behind new = IsLast heard × Receives s (Ok heard) from to new × (behind ≡ before)
 
 -- a piece comes that ends it with a fault of the broker's
 abbrev pub FailsAt : Session → AdminFault → Option (List ℕ) → Option (List ℕ) → Option (List ℕ) → Option (List ℕ) → Session → Type 0
-FailsAt s fault from to before behind new = Hears s (Err fault) from to new × (behind ≡ before)
+FailsAt s fault from to before behind new = Receives s (Err fault) from to new × (behind ≡ before)
 
 -- A fault is the program's own, as no memory or no bytes; or the broker's, of which a statement holds.
 abbrev pub BlamesBroker : (AdminFault → Type 0) → TopicFault → Type 0

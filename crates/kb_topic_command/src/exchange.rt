@@ -3,7 +3,7 @@
 ghost use Rattle.std.specs.Prelude.{◌≡◌, ◌≤◌, length, take, IfOk, IfErr, OnOk, Ok, Err};
 ghost use Rattle.std.specs.Io.KnownBytes.{Appends, Consumes};
 ghost use Rattle.kb_admin.specs.Session.{asked_text};
-ghost use Rattle.kb_topic_command.specs.Exchange.{Answers, Hears, Turns, FailsAt, BlamesBroker, IsLast, IsOwn};
+ghost use Rattle.kb_topic_command.specs.Exchange.{Answers, Receives, Turns, FailsAt, BlamesBroker, IsLast, IsOwn};
 
 use crate::fault::TopicFault;
 use kb_admin::{Heard, Session};
@@ -86,9 +86,9 @@ fn take_in<R: Read>(
     buffer: &mut [u8],
     session: &mut Session,
 ) -> Result<Heard, TopicFault>
-    ensures heard { IfOk result (λ heard. Hears session.old (Ok heard) (R.remaining reader.old) (R.remaining reader.new) session.new) }
+    ensures heard { IfOk result (λ heard. Receives session.old (Ok heard) (R.remaining reader.old) (R.remaining reader.new) session.new) }
     ensures fault { IfErr result (BlamesBroker (λ fault.
-        Hears session.old (Err fault) (R.remaining reader.old) (R.remaining reader.new) session.new)) }
+        Receives session.old (Err fault) (R.remaining reader.old) (R.remaining reader.new) session.new)) }
     ensures task { session.new.task ≡ session.old.task }
 {
     let n = receive(reader, buffer)?;

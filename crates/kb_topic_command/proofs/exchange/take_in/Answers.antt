@@ -1,12 +1,12 @@
 use Rattle.std.proofs.Common.{Err}
-use Rattle.kb_topic_command.specs.Exchange.{Hears}
+use Rattle.kb_topic_command.specs.Exchange.{Receives}
 use Rattle.kb_topic_command.proofs.Going.{hears_ok, fails_silent, fails_heard}
 use Rattle.kb_topic_command.proofs.exchange.take_in.Goals as goal
 
 pub returns-in_err-n-clause-fault : goal.returns-in_err-n-clause-fault
 returns-in_err-n-clause-fault g c =
     let s = c.args.session.now in
-    fails_silent (λ f. Hears s (Err f) (g.R.Read.remaining c.args.reader.now) (g.R.Read.remaining c.receive.new.reader) s) _ c.from_residual.result
+    fails_silent (λ f. Receives s (Err f) (g.R.Read.remaining c.args.reader.now) (g.R.Read.remaining c.receive.new.reader) s) _ c.from_residual.result
     c.in_err-n.ensures.fault c.from_residual.ensures.1
 
 pub returns-in_err-input-clause-fault : goal.returns-in_err-input-clause-fault

@@ -1,5 +1,5 @@
 use Rattle.std.proofs.Common.{Err, Ok, refl}
-use Rattle.kb_topic_command.specs.Exchange.{Hears, FailsAt}
+use Rattle.kb_topic_command.specs.Exchange.{Receives, FailsAt}
 use Rattle.kb_topic_command.proofs.Going.{steps_more, steps_next, fails_weaker}
 use Rattle.kb_topic_command.proofs.exchange.turn.Goals as goal
 
@@ -10,7 +10,7 @@ returns-in_err-heard-clause-fault g c =
     let r = g.R.Read.remaining c.args.reader.now in
     let r1 = g.R.Read.remaining c.take_in.new.reader in
     let w = g.W.Write.contents c.args.writer.now in
-    fails_weaker (λ f. Hears s (Err f) r r1 on) (λ f. FailsAt s f r r1 w w on) _ c.from_residual.result c.from_residual.ensures.1 (λ f h. (h, refl))
+    fails_weaker (λ f. Receives s (Err f) r r1 on) (λ f. FailsAt s f r r1 w w on) _ c.from_residual.result c.from_residual.ensures.1 (λ f h. (h, refl))
     c.in_err-heard.ensures.fault
 
 pub returns-in-More-clause-turn : goal.returns-in-More-clause-turn

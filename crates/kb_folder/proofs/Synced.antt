@@ -9,7 +9,7 @@ use Rattle.std.specs.Cmp.{nat_cmp_total}
 use Rattle.std.proofs.lemmas.Bool.{cases_eq}
 use Rattle.kb_store.specs.Disk.{Files}
 use Rattle.kb_store.specs.Loss.{Goes, Same, Tears, Makes, Drops, AreOthers, Only, nothing_left}
-use Rattle.kb_store.specs.LossLaws.{stays_goes, nothing_goes}
+use Rattle.kb_store.specs.LossLaws.{stays_goes}
 use Rattle.kb_store.proofs.Maps.{get_inserted, get_other, get_removed, get_kept}
 use Rattle.kb_folder.specs.Changed.{AllLasts, NotesOn, NotesBut, HasNoted, HasNotedNames, is_noted, are_names_noted}
 use Rattle.kb_folder.specs.Folder.{Contents, Has, IsAsBefore}
@@ -349,6 +349,10 @@ pub goes_or : {T E : Type 0} (r : Result T E) (step : Files → Files → Type 0
     → ((x : T) (before found : Files) → Loses (contents_of h).files (a x).0 before found → step before found) → Goes step (folder_loss h) (folder_loss h')
 goes_or (Ok x) step same h h' a ok err by = subst (λ k. Goes step (folder_loss h) (folder_loss k)) (sym ok) (goes_answered h (a x) step (by x))
 goes_or (Err e) step same h h' a ok err by = subst (λ k. Goes step (folder_loss h) (folder_loss k)) (sym err) (stays_goes step same (folder_loss h))
+
+-- where nothing could be left nothing can
+nothing_goes : (step : Files → Files → Type 0) → Goes step nothing_left nothing_left
+nothing_goes step = record { later = omega arith; now = λ c h. absurd h; between = λ t c l h. absurd h; keeps = λ t c l h. h }
 
 -- .. of a folder that syncs, or does not
 pub hosted_goes : (step : Files → Files → Type 0) (s s' : Bool) (h h' : Calls) → s' ≡ s → Goes step (folder_loss h) (folder_loss h') → Goes step (hosted_loss s h) (hosted_loss s' h')

@@ -3,8 +3,8 @@
 //! [`topic_command`] is what the command line is read by, and [`topic`] does what it asks for over a connection of its own, by the
 //! sessions of `kb_admin`. What comes of it is printed.
 //!
-//! The contract: what is printed is `specs/Printing.antt`'s text of what the broker answered to the session's requests, and a fault's text
-//! is that of `specs/Faults.antt`.
+//! The contract: what is printed is `specs/Printing.antt`'s text of what the broker answered to each request, and a fault's text is that of
+//! `specs/Faults.antt`.
 #![tactic(auto)]
 
 ghost use Rattle.std.specs.Prelude.{◌≡◌, Ok, Err, IfErr, OnOk};

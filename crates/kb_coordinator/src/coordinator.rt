@@ -1,5 +1,6 @@
 //! The groups of a tenant, and what requests do to them.
 ghost use Rattle.std.specs.Prelude.{◌≡◌, ◌≤◌, ◌<◌, ◌^◌, [], length, slice_get, Some, IfOk, OnErr, OnOk};
+ghost use Rattle.kb_wire.specs.declared.clock.TheConstants.{MAX_CLOCK};
 ghost use Rattle.kb_coordinator.specs.Groups.{kept_bytes, limited, none, numbered_from, place_of, silent};
 ghost use Rattle.kb_coordinator.specs.Calls.{after_heartbeat, after_leave, after_may_commit, after_sync, heartbeat_code, leave_code};
 ghost use Rattle.kb_coordinator.specs.Calls.{deleted, has_members, is_there, may_commit, room, sync_answer};
@@ -189,7 +190,7 @@ impl Coordinator {
 
     /// Kafka's LeaveGroup.
     pub fn leave(&mut self, request: &LeaveGroupRequest<'_>, clock: u64) -> Result<Code, AllocError>
-        requires { clock ≤ 4611686018427387904 }
+        requires { clock ≤ MAX_CLOCK }
         ensures code { IfOk result (λ code. code ≡ leave_code request.now self.old) }
         ensures after { OnOk result (self.new ≡ after_leave clock request.now self.old) }
         ensures refused { OnErr result (self.new ≡ silent self.old) }

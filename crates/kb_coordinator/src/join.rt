@@ -1,5 +1,6 @@
 //! Members join the groups of a tenant.
 ghost use Rattle.std.specs.Prelude.{◌≡◌, ◌<◌, ◌≤◌, IfOk, OnErr, OnOk, length, slice_get, None, Some};
+ghost use Rattle.kb_wire.specs.declared.clock.TheConstants.{MAX_CLOCK};
 ghost use Rattle.kb_coordinator.specs.declared.groups.Entry.{Entry};
 ghost use Rattle.kb_coordinator.specs.Groups.{place_of, silent};
 ghost use Rattle.kb_coordinator.specs.Calls.{after_join, after_known, after_new, given_with, is_accepted, join_code, known_code};
@@ -108,7 +109,7 @@ impl Coordinator {
         clock: u64,
     ) -> Result<ErrorCode, AllocError>
         requires below { place < length self.old.groups }
-        requires clock { clock ≤ 4611686018427387904 }
+        requires clock { clock ≤ MAX_CLOCK }
         ensures code { (e : Entry) → slice_get self.old.groups place ≡ Some e
             → IfOk result (λ code. code ≡ known_code request.now e.group self.old) }
         ensures after { (e : Entry) → slice_get self.old.groups place ≡ Some e
@@ -140,7 +141,7 @@ impl Coordinator {
         clock: u64,
     ) -> Result<ErrorCode, AllocError>
         requires absent { place_of id.now self.old.groups ≡ None }
-        requires clock { clock ≤ 4611686018427387904 }
+        requires clock { clock ≤ MAX_CLOCK }
         ensures code { IfOk result (λ code. code ≡ new_code request.now id.now self.old) }
         ensures after { OnOk result (self.new ≡ after_new clock request.now id.now self.old) }
         ensures refused { OnErr result (self.new ≡ silent self.old) }
@@ -174,7 +175,7 @@ impl Coordinator {
         connection: u64,
         clock: u64,
     ) -> Result<ErrorCode, AllocError>
-        requires { clock ≤ 4611686018427387904 }
+        requires { clock ≤ MAX_CLOCK }
         ensures code { IfOk result (λ code. code ≡ join_code connection request.now self.old) }
         ensures after { OnOk result (self.new ≡ after_join clock connection request.now self.old) }
         ensures refused { OnErr result (self.new ≡ silent self.old) }

@@ -1,5 +1,6 @@
 //! Moments, and connections that end.
 ghost use Rattle.std.specs.Prelude.{◌≡◌, ◌≤◌, ◌++◌, OnErr, OnOk, IfNone, IfSome, [], false, true, if◌then◌else◌, map, min, nat_eq};
+ghost use Rattle.kb_wire.specs.declared.clock.TheConstants.{MAX_CLOCK};
 ghost use Rattle.std.specs.Prelude.{option_copied};
 ghost use Rattle.std.specs.List.{All, flat_map};
 ghost use Rattle.kb_coordinator.specs.Groups.{AreInOrder};
@@ -75,7 +76,7 @@ fn tick_one(
     clock: u64,
     released: &mut Vec<Vec<Release>>,
 ) -> Result<(), AllocError>
-    requires clock { clock ≤ 4611686018427387904 }
+    requires clock { clock ≤ MAX_CLOCK }
     requires order { All (λ v. AreInOrder v.items) released.old.items }
     ensures entry { OnOk result (entry.new ≡ ticked clock entry.old) }
     ensures released { OnOk result (flat_map (λ v. v.items) released.new.items ≡ flat_map (λ v. v.items) released.old.items
@@ -101,7 +102,7 @@ fn tick_counted(
     clock: u64,
     released: &mut Vec<Vec<Release>>,
 ) -> usize
-    requires clock { clock ≤ 4611686018427387904 }
+    requires clock { clock ≤ MAX_CLOCK }
     requires order { All (λ v. AreInOrder v.items) released.old.items }
     ensures entry { entry.new ≡ (if nat_eq result 0 then ticked clock entry.old else entry.old) }
     ensures released { flat_map (λ v. v.items) released.new.items ≡ flat_map (λ v. v.items) released.old.items
@@ -122,7 +123,7 @@ fn tick_each(
     clock: u64,
     released: &mut Vec<Vec<Release>>,
 ) -> usize
-    requires clock { clock ≤ 4611686018427387904 }
+    requires clock { clock ≤ MAX_CLOCK }
     requires silent { flat_map (λ v. v.items) released.old.items ≡ [] }
     requires order { All (λ v. AreInOrder v.items) released.old.items }
     ensures ticks { Ticks clock groups.old groups.new (flat_map (λ v. v.items) released.new.items) result }
@@ -162,7 +163,7 @@ impl Coordinator {
     /// A moment: group by group, in byte order of the ids, sessions end, and then a deadline comes. Gives how many groups were refused
     /// memory: these are as they were, until the next moment. Where nothing is due it costs constant time.
     pub fn at_moment(&mut self, clock: u64) -> usize
-        requires { clock ≤ 4611686018427387904 }
+        requires { clock ≤ MAX_CLOCK }
         ensures all { result ≡ 0 → self.new ≡ at_moment clock self.old }
         ensures groups { Ticks clock self.old.groups self.new.groups self.new.released result }
         ensures members { self.new.members ≡ self.old.members }
@@ -190,7 +191,7 @@ impl Coordinator {
     ///
     /// Before `quiet_until` it costs constant time; else it looks at the members of groups whose sessions may have ended.
     pub fn pass(&mut self, clock: u64) -> Option<usize>
-        requires { clock ≤ 4611686018427387904 }
+        requires { clock ≤ MAX_CLOCK }
         ensures none { IfNone result ((is_due clock self.old ≡ false) × (self.new ≡ self.old)) }
         // Where nothing is due, nothing is refused either.
         ensures due { IfSome result (λ refused. is_due clock self.old ≡ true) }

@@ -1,6 +1,7 @@
 //! One consumer group.
 
 ghost use Rattle.std.specs.Prelude.{◌≡◌, ◌<◌, ◌≤◌, ◌^◌, IfOk, OnErr, OnOk};
+ghost use Rattle.kb_wire.specs.declared.clock.TheConstants.{MAX_CLOCK};
 ghost use Rattle.kb_groups.specs.Bytes.{group_bytes, is_past, joined_bytes, sync_within};
 ghost use Rattle.kb_groups.specs.Sizes.{counted};
 ghost use Rattle.kb_groups.specs.Calls.{after_heartbeat, after_may_commit, dropped, fresh, fresh_at, heartbeat, join, join_code, leave};
@@ -127,7 +128,7 @@ impl Group {
         request: &Join<'_>,
         clock: u64,
     ) -> Result<(Code, Vec<Release>), AllocError>
-        requires { clock ≤ 2 ^ 62 }
+        requires { clock ≤ MAX_CLOCK }
         ensures code { IfOk result (λ r. r.0 ≡ join_code request.now self.old) }
         ensures released { IfOk result (λ r. r.1.items ≡ (join clock request.now self.old).released) }
         ensures group { OnOk result (self.new ≡ (join clock request.now self.old).group) }
@@ -232,7 +233,7 @@ impl Group {
         number: u64,
         clock: u64,
     ) -> Result<(Code, Vec<Release>), AllocError>
-        requires { clock ≤ 2 ^ 62 }
+        requires { clock ≤ MAX_CLOCK }
         ensures code { IfOk result (λ r. r.0 ≡ leave_code number self.old) }
         ensures released { IfOk result (λ r. r.1.items ≡ (leave clock number self.old).released) }
         ensures group { OnOk result (self.new ≡ (leave clock number self.old).group) }
@@ -262,7 +263,7 @@ impl Group {
     /// A moment: sessions end, and then a deadline comes; with the requests that wait no longer, by connection.
     /// Where nothing is due it costs constant time.
     pub fn tick(&mut self, alloc: Global, clock: u64) -> Result<Vec<Release>, AllocError>
-        requires { clock ≤ 2 ^ 62 }
+        requires { clock ≤ MAX_CLOCK }
         ensures released { IfOk result (λ v. v.items ≡ (tick clock self.old).released) }
         ensures group { OnOk result (self.new ≡ (tick clock self.old).group) }
         ensures refused { OnErr result (self.new ≡ self.old) }

@@ -1,6 +1,7 @@
 //! Members join.
 
-ghost use Rattle.std.specs.Prelude.{◌≡◌, ◌≤◌, ◌^◌, ℕ, IfOk, OnErr, OnOk};
+ghost use Rattle.std.specs.Prelude.{◌≡◌, ◌≤◌, ℕ, IfOk, OnErr, OnOk};
+ghost use Rattle.kb_wire.specs.declared.clock.TheConstants.{MAX_CLOCK};
 ghost use Rattle.kb_groups.specs.Calls.{agrees, is_stranger, join, join_code, joined, joining, at_least_zero, number_of, others};
 ghost use Rattle.kb_groups.specs.Rebalance.{ended, looked_at, opened_unless};
 
@@ -148,7 +149,7 @@ impl State {
         request: &Join<'_>,
         clock: u64,
     ) -> Result<Vec<Release>, AllocError>
-        requires { clock ≤ 2 ^ 62 }
+        requires { clock ≤ MAX_CLOCK }
         ensures group { OnOk result (self.new ≡ (joined clock request.now self.old).group) }
         ensures released { IfOk result (λ v. v.items ≡ (joined clock request.now self.old).released) }
         ensures refused { OnErr result (self.new ≡ self.old) }
@@ -179,7 +180,7 @@ impl State {
         request: &Join<'_>,
         clock: u64,
     ) -> Result<(Code, Vec<Release>), AllocError>
-        requires { clock ≤ 2 ^ 62 }
+        requires { clock ≤ MAX_CLOCK }
         ensures code { IfOk result (λ r. r.0 ≡ join_code request.now self.old) }
         ensures released { IfOk result (λ r. r.1.items ≡ (join clock request.now self.old).released) }
         ensures group { OnOk result (self.new ≡ (join clock request.now self.old).group) }

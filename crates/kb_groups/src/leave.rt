@@ -1,6 +1,7 @@
 //! Members leave.
 
-ghost use Rattle.std.specs.Prelude.{◌≡◌, ◌≤◌, ◌^◌, IfOk, OnErr, OnOk, []};
+ghost use Rattle.std.specs.Prelude.{◌≡◌, ◌≤◌, IfOk, OnErr, OnOk, []};
+ghost use Rattle.kb_wire.specs.declared.clock.TheConstants.{MAX_CLOCK};
 ghost use Rattle.kb_groups.specs.Calls.{gone, leave, leave_code};
 ghost use Rattle.kb_groups.specs.Rebalance.{ended, opened, Step};
 
@@ -33,7 +34,7 @@ impl State {
         clock: u64,
         out: &mut Vec<Release>,
     ) -> Result<(), AllocError>
-        requires { clock ≤ 2 ^ 62 }
+        requires { clock ≤ MAX_CLOCK }
         ensures { OnOk result (record { group = self.new; released = out.new.items }
             ≡ opened clock (record { group = self.old; released = out.old.items })) }
     {
@@ -50,7 +51,7 @@ impl State {
         clock: u64,
         out: &mut Vec<Release>,
     ) -> Result<(), AllocError>
-        requires { clock ≤ 2 ^ 62 }
+        requires { clock ≤ MAX_CLOCK }
         ensures { OnOk result (record { group = self.new; released = out.new.items }
             ≡ gone clock number (record { group = self.old; released = out.old.items })) }
     {
@@ -76,7 +77,7 @@ impl State {
         number: u64,
         clock: u64,
     ) -> Result<(Code, Vec<Release>), AllocError>
-        requires { clock ≤ 2 ^ 62 }
+        requires { clock ≤ MAX_CLOCK }
         ensures code { IfOk result (λ r. r.0 ≡ leave_code number self.old) }
         ensures released { IfOk result (λ r. r.1.items ≡ (leave clock number self.old).released) }
         ensures group { OnOk result (self.new ≡ (leave clock number self.old).group) }

@@ -1,6 +1,7 @@
 //! Moments: sessions and deadlines.
 
-ghost use Rattle.std.specs.Prelude.{◌≡◌, ◌≤◌, ◌^◌, ◌<◌, ◌+◌, map, min, IfOk, OnErr, OnOk};
+ghost use Rattle.std.specs.Prelude.{◌≡◌, ◌≤◌, ◌<◌, ◌+◌, map, min, IfOk, OnErr, OnOk};
+ghost use Rattle.kb_wire.specs.declared.clock.TheConstants.{MAX_CLOCK};
 ghost use Rattle.kb_groups.specs.Members.{keeping, member};
 ghost use Rattle.kb_groups.specs.Answers.{waits_join};
 ghost use Rattle.kb_groups.specs.Moments.{at_deadline, closed, earliest, expired, expired_one, expires, has_expired, is_due, next_due};
@@ -135,7 +136,7 @@ impl State {
         clock: u64,
         out: &mut Vec<Release>,
     ) -> Result<(), AllocError>
-        requires { clock ≤ 2 ^ 62 }
+        requires { clock ≤ MAX_CLOCK }
         ensures { OnOk result (record { group = self.new; released = out.new.items }
             ≡ expired clock (map (λ e. e.0) self.old.members) (record { group = self.old; released = out.old.items })) }
     {
@@ -154,7 +155,7 @@ impl State {
         clock: u64,
         out: &mut Vec<Release>,
     ) -> Result<(), AllocError>
-        requires { clock ≤ 2 ^ 62 }
+        requires { clock ≤ MAX_CLOCK }
         ensures { OnOk result (record { group = self.new; released = out.new.items }
             ≡ expired_one clock number (record { group = self.old; released = out.old.items })) }
     {
@@ -166,7 +167,7 @@ impl State {
 
     /// A moment. An `Err` changes nothing.
     pub(crate) fn tick(&mut self, alloc: Global, clock: u64) -> Result<Vec<Release>, AllocError>
-        requires { clock ≤ 2 ^ 62 }
+        requires { clock ≤ MAX_CLOCK }
         ensures released { IfOk result (λ v. v.items ≡ (tick clock self.old).released) }
         ensures group { OnOk result (self.new ≡ (tick clock self.old).group) }
         ensures refused { OnErr result (self.new ≡ self.old) }

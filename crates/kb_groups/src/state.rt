@@ -1,6 +1,7 @@
 //! What a group is, and how it goes from one generation to the next.
 
-ghost use Rattle.std.specs.Prelude.{◌≡◌, ◌≤◌, ◌^◌, List, IfOk};
+ghost use Rattle.std.specs.Prelude.{◌≡◌, ◌≤◌, List, IfOk};
+ghost use Rattle.kb_wire.specs.declared.clock.TheConstants.{MAX_CLOCK};
 ghost use Rattle.kb_groups.specs.declared.reply.Release.{Release};
 ghost use Rattle.kb_groups.specs.Calls.{fresh_at};
 ghost use Rattle.kb_groups.specs.Rebalance.{opened, ended, is_joining, looked_at, next_generation};
@@ -70,7 +71,7 @@ impl State {
 
     /// Joining opens. The answers to waiting syncs are made before.
     pub(crate) fn open_joining(&mut self, clock: u64)
-        requires { clock ≤ 2 ^ 62 }
+        requires { clock ≤ MAX_CLOCK }
         ensures { (r : List Release) → self.new ≡ (opened clock (record { group = self.old; released = r })).group }
     {
         let longest = self.members.longest();

@@ -10,9 +10,6 @@ use Rattle.kb_store.specs.Loss.{Loss, IsLawfulLoss, Goes, Tears, Makes, Drops, C
 pub nothing_timely : IsLawfulLoss nothing_left
 nothing_timely = record { counts_now = λ t c l h. h; only_now = λ c h. h }
 
-pub nothing_goes : (step : Files → Files → Type 0) → Goes step nothing_left nothing_left
-nothing_goes step = record { later = omega arith; now = λ c h. absurd h; between = λ t c l h. absurd h; keeps = λ t c l h. h }
-
 -- ---- where nothing is done
 
 pub stays_goes : (step : Files → Files → Type 0) → ((c : Files) → step c c) → (l : Loss) → Goes step l l

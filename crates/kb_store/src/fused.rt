@@ -1,5 +1,5 @@
 //! A store that refuses chosen calls of another.
-ghost use Rattle.std.specs.Prelude.{◌≡◌, ◌+◌, ◌≤◌, ◌<◌, IfOk, OnOk, OnErr, length, take, drop, None, true, if◌then◌else◌, min};
+ghost use Rattle.std.specs.Prelude.{◌≡◌, ◌+◌, ◌≤◌, ◌<◌, IfOk, OnOk, OnErr, Ok, length, take, drop, None, true, if◌then◌else◌, min};
 ghost use Rattle.std.specs.FinMap as map;
 
 use crate::{Store, StoreFault};
@@ -16,8 +16,9 @@ pub enum Fuse {
 
 /// A store whose device refuses the calls that a fuse names, and does the others as the store inside does them.
 ///
-/// Each refused call raises `failures`. A refused create leaves the file absent if `keep` is 0, else empty; a refused append
-/// leaves the first `keep` of the new bytes; any other refused call changes nothing.
+/// Each refused call raises `failures`. A refused create leaves the file absent if `keep` is 0, else empty. A refused append
+/// leaves the first `keep` of the new bytes, at most all. The store inside is asked for that, and may refuse it, as `partial` tells.
+/// Any other refused call changes nothing.
 #[derive(Drop)]
 pub struct FusedStore<S: Store> {
     /// The store inside.
@@ -30,6 +31,8 @@ pub struct FusedStore<S: Store> {
     pub calls: u64,
     /// How many of them the fuse refused, short of `u64`'s end.
     pub refused: u64,
+    /// What the store inside answered to its part of the last refused create or append; `Ok` before one.
+    pub partial: Result<(), StoreFault>,
 }
 
 impl<S: Store> FusedStore<S> {
@@ -37,7 +40,7 @@ impl<S: Store> FusedStore<S> {
 
     /// The store with a fuse, before its first call.
     pub fn new(store: S, fuse: Fuse, keep: u64) -> Self
-        ensures { result ≡ record { store = store; fuse = fuse; keep = keep; calls = 0; refused = 0 } }
+        ensures { result ≡ record { store = store; fuse = fuse; keep = keep; calls = 0; refused = 0; partial = Ok tt } }
     {
         FusedStore {
             store,
@@ -45,6 +48,7 @@ impl<S: Store> FusedStore<S> {
             keep,
             calls: 0,
             refused: 0,
+            partial: Ok(()),
         }
     }
 
@@ -81,7 +85,7 @@ impl<S: Store> Store for FusedStore<S> {
     ghost use Rattle.kb_store.specs.Disk.{IsThere, len_of, bytes_of, Keeps, Creates, Appends, Cuts, Removes, MayCreate, AppendsSome};
     ghost use Rattle.kb_store.specs.Disk.{HasCause};
     ghost use Rattle.kb_store.specs.Loss.{Goes, Only, Same, Makes, Tears, Drops, Clears};
-    ghost use Rattle.kb_store.specs.Fused.{disk_through, fused_lawful, Counts, refuses_call, one_more};
+    ghost use Rattle.kb_store.specs.Fused.{disk_through, fused_lawful, Counts, CountsWhole, refuses_call, one_more};
 
     ghost disk = { disk_through S.disk };
 
@@ -102,7 +106,7 @@ impl<S: Store> Store for FusedStore<S> {
         ensures unchanged { Keeps (disk_through S.disk self.old) (disk_through S.disk self.new) }
         ensures cause { HasCause (disk_through S.disk self.old) result (disk_through S.disk self.new) }
         ensures loss { Goes Same (S.loss self.old.store) (S.loss self.new.store) }
-        ensures counts { Counts self.old result self.new }
+        ensures counts { CountsWhole self.old result self.new }
     {
         if self.refuses() {
             return Err(StoreFault::Device);
@@ -116,7 +120,7 @@ impl<S: Store> Store for FusedStore<S> {
         ensures unchanged { Keeps (disk_through S.disk self.old) (disk_through S.disk self.new) }
         ensures cause { HasCause (disk_through S.disk self.old) result (disk_through S.disk self.new) }
         ensures loss { Goes Same (S.loss self.old.store) (S.loss self.new.store) }
-        ensures counts { Counts self.old result self.new }
+        ensures counts { CountsWhole self.old result self.new }
     {
         if self.refuses() {
             return Err(StoreFault::Device);
@@ -131,12 +135,16 @@ impl<S: Store> Store for FusedStore<S> {
         ensures cause { HasCause (disk_through S.disk self.old) result (disk_through S.disk self.new) }
         ensures loss { Goes (Makes file) (S.loss self.old.store) (S.loss self.new.store) }
         ensures counts { Counts self.old result self.new }
-        // With nothing to keep a call that the fuse refuses makes no file.
+        // With nothing to keep a call that the fuse refuses makes no file. Else it makes one, where the store inside does.
         ensures absent { refuses_call self.old.fuse (one_more self.old.calls) ≡ true → self.old.keep ≡ 0 → self.new.store ≡ self.old.store }
+        ensures empty { refuses_call self.old.fuse (one_more self.old.calls) ≡ true → 0 < self.old.keep
+            → OnOk self.new.partial (Creates (disk_through S.disk self.old) file (disk_through S.disk self.new)) }
+        ensures partial { refuses_call self.old.fuse (one_more self.old.calls) ≡ true → 0 < self.old.keep
+            → HasCause (S.disk self.old.store) self.new.partial (S.disk self.new.store) }
     {
         if self.refuses() {
             if self.keep > 0 {
-                let _ = self.store.create(file);
+                self.partial = self.store.create(file);
             }
             return Err(StoreFault::Device);
         }
@@ -150,13 +158,19 @@ impl<S: Store> Store for FusedStore<S> {
         ensures cause { HasCause (disk_through S.disk self.old) result (disk_through S.disk self.new) }
         ensures loss { Goes (Tears file (len_of (disk_through S.disk self.old) file)) (S.loss self.old.store) (S.loss self.new.store) }
         ensures counts { Counts self.old result self.new }
-        // A call that the fuse refuses leaves no more than the bytes that are to be kept.
+        // A call that the fuse refuses leaves the bytes that are to be kept, and no more. Where the store inside refuses these, too, it
+        // leaves some front of them.
+        ensures prefix { refuses_call self.old.fuse (one_more self.old.calls) ≡ true
+            → OnOk self.new.partial
+            (Appends (disk_through S.disk self.old) file (take self.old.keep bytes.now) (disk_through S.disk self.new)) }
         ensures cut_short { refuses_call self.old.fuse (one_more self.old.calls) ≡ true
             → AppendsSome (disk_through S.disk self.old) file (take self.old.keep bytes.now) (disk_through S.disk self.new) }
+        ensures partial { refuses_call self.old.fuse (one_more self.old.calls) ≡ true
+            → HasCause (S.disk self.old.store) self.new.partial (S.disk self.new.store) }
     {
         if self.refuses() {
             let kept = self.keep.min(bytes.len() as u64) as usize;
-            let _ = self.store.append(file, &bytes[..kept]);
+            self.partial = self.store.append(file, &bytes[..kept]);
             return Err(StoreFault::Device);
         }
         self.store.append(file, bytes)
@@ -170,7 +184,7 @@ impl<S: Store> Store for FusedStore<S> {
         ensures unchanged { Keeps (disk_through S.disk self.old) (disk_through S.disk self.new) }
         ensures cause { HasCause (disk_through S.disk self.old) result (disk_through S.disk self.new) }
         ensures loss { Goes Same (S.loss self.old.store) (S.loss self.new.store) }
-        ensures counts { Counts self.old result self.new }
+        ensures counts { CountsWhole self.old result self.new }
     {
         if self.refuses() {
             return Err(StoreFault::Device);
@@ -185,7 +199,7 @@ impl<S: Store> Store for FusedStore<S> {
         ensures refused { OnErr result (Keeps (disk_through S.disk self.old) (disk_through S.disk self.new)) }
         ensures cause { HasCause (disk_through S.disk self.old) result (disk_through S.disk self.new) }
         ensures loss { Goes (Tears file len) (S.loss self.old.store) (S.loss self.new.store) }
-        ensures counts { Counts self.old result self.new }
+        ensures counts { CountsWhole self.old result self.new }
     {
         if self.refuses() {
             return Err(StoreFault::Device);
@@ -199,7 +213,7 @@ impl<S: Store> Store for FusedStore<S> {
         ensures refused { OnErr result (Keeps (disk_through S.disk self.old) (disk_through S.disk self.new)) }
         ensures cause { HasCause (disk_through S.disk self.old) result (disk_through S.disk self.new) }
         ensures loss { Goes (Drops file) (S.loss self.old.store) (S.loss self.new.store) }
-        ensures counts { Counts self.old result self.new }
+        ensures counts { CountsWhole self.old result self.new }
     {
         if self.refuses() {
             return Err(StoreFault::Device);
@@ -214,7 +228,7 @@ impl<S: Store> Store for FusedStore<S> {
         ensures cause { HasCause (disk_through S.disk self.old) result (disk_through S.disk self.new) }
         ensures loss { Goes (Clears (disk_through S.disk self.old).table) (S.loss self.old.store) (S.loss self.new.store) }
         ensures prompt { S.settled self.old.store → Goes Same (S.loss self.old.store) (S.loss self.new.store) }
-        ensures counts { Counts self.old result self.new }
+        ensures counts { CountsWhole self.old result self.new }
     {
         if self.refuses() {
             return Err(StoreFault::Device);

@@ -16,8 +16,8 @@ use Rattle.kb_api_data.specs.declared.list_offsets.ListOffsetsTopicReply.{ListOf
 use Rattle.kb_api_data.specs.declared.list_offsets.ListOffsetsReply.{ListOffsetsReply}
 use Rattle.kb_wire.specs.ErrorCode.{code_of as code}
 use Rattle.kb_wire.specs.declared.error_code.ErrorCode.TheVariants as codes
-use Rattle.kb_log.specs.Log.{first_at}
-use Rattle.kb_log.specs.declared.time.OffsetAndTimestamp.{OffsetAndTimestamp}
+use Rattle.kb_batch.specs.Time.{first_at}
+use Rattle.kb_batch.specs.declared.time.OffsetAndTimestamp.{OffsetAndTimestamp}
 use Rattle.kb_topics.specs.Known.{named}
 use Rattle.kb_tenant_state.specs.Fault.{code_of as fault_code}
 use Rattle.kb_tenant_state.specs.Logs.{LogState}

@@ -1,5 +1,6 @@
 //! A request of a tenant, by its key.
-ghost use Rattle.std.specs.Prelude.{◌≡◌, ◌≤◌, ◌^◌, [], IfOk, IsOk};
+ghost use Rattle.std.specs.Prelude.{◌≡◌, ◌≤◌, [], IfOk, IsOk};
+ghost use Rattle.kb_wire.specs.declared.clock.TheConstants.{MAX_CLOCK};
 ghost use Rattle.kb_wire.specs.Codec.{string};
 ghost use Rattle.kb_wire.specs.declared.api_key.TheConstants.{PRODUCE};
 ghost use Rattle.kb_tenant_state.specs.Scene.{WhereHonest};
@@ -39,7 +40,7 @@ fn serve_by_key<L: PartitionLog + Drop, S: Store>(
 ) -> Result<Answer, ReadFault>
     requires untouched { touched.old.items ≡ [] }
     requires host { string.Fits node.now.host }
-    requires clock { clock ≤ 4611686018427387904 }
+    requires clock { clock ≤ MAX_CLOCK }
     requires sound { (scene L.log S.disk parts.old shelf.old).sound }
     ensures step { IsStep (scene L.log S.disk parts.old shelf.old) (scene L.log S.disk parts.new shelf.new) }
     ensures meets { let a = scene L.log S.disk parts.old shelf.old in let b = scene L.log S.disk parts.new shelf.new in
@@ -112,7 +113,7 @@ pub fn serve<L: PartitionLog + Drop, S: Store>(
     request: &Request<'_>,
 ) -> Served
     requires host { string.Fits node.now.host }
-    requires clock { clock ≤ 2 ^ 62 }
+    requires clock { clock ≤ MAX_CLOCK }
     requires sound { (scene L.log S.disk parts.old shelf.old).sound }
     ensures step { IsStep (scene L.log S.disk parts.old shelf.old) (scene L.log S.disk parts.new shelf.new) }
     ensures meets { let a = scene L.log S.disk parts.old shelf.old in let b = scene L.log S.disk parts.new shelf.new in

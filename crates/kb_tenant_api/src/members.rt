@@ -3,6 +3,7 @@
 //! Each forgets the last replies first. The body is read and the reply begun, with room for what is always written, before the groups
 //! change: a want of memory there leaves them as they were.
 ghost use Rattle.std.specs.Prelude.{◌≡◌, ◌≤◌, ℤ, [], IfOk, Ok};
+ghost use Rattle.kb_wire.specs.declared.clock.TheConstants.{MAX_CLOCK};
 ghost use Rattle.kb_api_group.specs.Layouts.{heartbeat_request, join_group_request, leave_group_request, sync_group_request};
 ghost use Rattle.kb_tenant.specs.Replies.{begun};
 ghost use Rattle.kb_wire.specs.Codec.{whole};
@@ -33,7 +34,7 @@ pub(crate) fn join_group(
     clock: u64,
     request: &Request<'_>,
 ) -> Result<Answer, ReadFault>
-    requires { clock ≤ 4611686018427387904 }
+    requires { clock ≤ MAX_CLOCK }
     ensures served { (w : World)
         → IsServed request.now.correlation_id (if_read w groups.old (whole join_group_request request.now.body.now)
         (of_join w clock request.now.connection groups.old)) w groups.new [] result }
@@ -122,7 +123,7 @@ pub(crate) fn leave_group(
     clock: u64,
     request: &Request<'_>,
 ) -> Result<Answer, ReadFault>
-    requires { clock ≤ 4611686018427387904 }
+    requires { clock ≤ MAX_CLOCK }
     ensures served { (w : World)
         → IsServed request.now.correlation_id (if_read w groups.old (whole leave_group_request request.now.body.now)
         (of_leave w clock groups.old)) w groups.new [] result }

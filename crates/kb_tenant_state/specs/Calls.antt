@@ -8,8 +8,9 @@ use Rattle.kb_batch.specs.Batch.{natural, count_of}
 use Rattle.kb_producers.specs.Batches.{kept_all, kept_of}
 use Rattle.kb_producers.specs.Verdict.{verdict}
 use Rattle.kb_producers.specs.declared.verdict.Verdict.{Verdict}
-use Rattle.kb_log.specs.Log.{fetched, first_at, retained_start}
-use Rattle.kb_log.specs.declared.time.OffsetAndTimestamp.{OffsetAndTimestamp}
+use Rattle.kb_batch.specs.Time.{first_at}
+use Rattle.kb_batch.specs.declared.time.OffsetAndTimestamp.{OffsetAndTimestamp}
+use Rattle.kb_log.specs.Log.{fetched, retained_start}
 use Rattle.kb_topics.specs.ByName.{by_name}
 use Rattle.kb_topics.specs.Commands.{start_command}
 use Rattle.kb_topics.specs.Known.{Known, CommittedOffset, PartitionState, TopicState, new_topic, with_topic, without_topic, with_id}

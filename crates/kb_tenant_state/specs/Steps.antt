@@ -99,7 +99,3 @@ meets_then a b c P Q p q first second honest agree calm =
 -- what follows from what is met
 pub meets_so : (a b : Scene Seen) (P Q : Type 0) → (P → Q) → Meets a b P → Meets a b Q
 meets_so a b P Q f met honest agree calm = f (met honest agree calm)
-
--- where a refusal was counted nothing is to be met
-pub counted_meets : (a b : Scene Seen) (P : Type 0) → (IsCalm a.state.refusals b.state.refusals → ⊥) → Meets a b P
-counted_meets a b P loud honest agree calm = absurd (loud calm)

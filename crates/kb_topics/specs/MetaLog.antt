@@ -42,8 +42,3 @@ pub record IsReadAs (generation : ℕ) (ss : List (List ℕ)) (r : Reading) : Ty
 -- What the batches of that generation record comes to that, and no command of a snapshot is left.
 abbrev pub IsFoldOf : ℕ → List (List ℕ) → Known → Type 0
 IsFoldOf generation ss k = IsReadAs generation ss (in_use k)
-
--- What the batches record comes to that: they are those of some generation.
-pub record IsFold (ss : List (List ℕ)) (k : Known) : Type 0 where
-  pub generation : ℕ
-  pub of_generation : IsFoldOf generation ss k

@@ -71,9 +71,6 @@ bind_ok (Err d) f y e = absurd cc
 abbrev pub done : {A : Type 0} → A → Result A WireFault
 done x = Ok x
 
-abbrev failed : {A : Type 0} → WireFault → Result A WireFault
-failed f = Err f
-
 pub ok_is : {A : Type 0} (x y : A) → done x ≡ done y → x ≡ y
 ok_is x y e = cc
 

@@ -4,22 +4,27 @@ ghost use Rattle.std.specs.Prelude.{◌≡◌};
 ghost use Rattle.kb_wire.specs.declared.fault.ReadFault.TheVariants.{Memory, Wire};
 
 use std::alloc::{AllocError, AllocFailed};
+use thiserror::Error;
 
 /// What is wrong with bytes that cannot be read: the first fault from left to right.
-#[derive(Clone, Copy, Debug, PartialEq, Eq)]
+#[derive(Clone, Copy, Debug, PartialEq, Eq, Error)]
 pub enum WireFault {
     /// Fewer bytes are there than the front calls for.
+    #[error("fewer bytes are there than the value has")]
     Short,
     /// The bytes that are there spell nothing.
+    #[error("the bytes spell no value")]
     Bad,
 }
 
 /// Why a value was not read: the bytes, or want of memory, whichever was met first.
-#[derive(Clone, Copy, Debug, PartialEq, Eq)]
+#[derive(Clone, Copy, Debug, PartialEq, Eq, Error)]
 pub enum ReadFault {
     /// The bytes spell no value.
+    #[error(transparent)]
     Wire(WireFault),
     /// An allocation was refused.
+    #[error("out of memory")]
     Memory,
 }
 

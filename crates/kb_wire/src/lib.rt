@@ -5,12 +5,14 @@
 //! [`Text`], [`Blob`] and [`Array`] are the fields that contracts see as lists. A value is read exactly where the bytes spell
 //! it, a refusal is the first fault from left to right, and what is written is read again.
 //!
-//! [`api_key`] and [`ErrorCode`] are the protocol's numbers for its APIs and its refusals, for every crate above.
+//! [`api_key`] and [`ErrorCode`] are the protocol's numbers for its APIs and its refusals, for every crate above. So is [`MAX_CLOCK`], the
+//! latest moment.
 #![tactic(auto)]
 
 pub mod api_key;
 mod array;
 mod bytes;
+mod clock;
 mod cursor;
 mod error_code;
 mod fault;
@@ -21,6 +23,7 @@ mod text;
 mod varint;
 
 pub use array::Array;
+pub use clock::MAX_CLOCK;
 pub use cursor::Cursor;
 pub use error_code::ErrorCode;
 pub use fault::{ReadFault, WireFault};

@@ -1,5 +1,6 @@
 //! A fetch that is answered, or waits.
-ghost use Rattle.std.specs.Prelude.{◌≡◌, ◌≤◌, ◌++◌, ◌^◌, true, IfOk, OnOk};
+ghost use Rattle.std.specs.Prelude.{◌≡◌, ◌≤◌, ◌++◌, true, IfOk, OnOk};
+ghost use Rattle.kb_wire.specs.declared.clock.TheConstants.{MAX_CLOCK};
 ghost use Rattle.kb_store.specs.Disk.{Files};
 ghost use Rattle.kb_api_data.specs.Layouts.{fetch_request};
 ghost use Rattle.kb_api_data.specs.declared.fetch_v5.FetchReplyV5.{FetchReplyV5};
@@ -67,7 +68,7 @@ fn places<L: PartitionLog + Drop>(
 
 /// Until when a fetch of this moment waits at most.
 fn deadline(clock: u64, request: &FetchRequest<'_>) -> u64
-    requires { clock ≤ 2 ^ 62 }
+    requires { clock ≤ MAX_CLOCK }
     ensures { result ≡ deadline_of clock request.now }
 {
     clock + not_negative(request.max_wait_ms)
@@ -125,7 +126,7 @@ pub(crate) fn serve_fetch<L: PartitionLog + Drop, S: Store>(
     sink: &mut Sink,
 ) -> Result<Fetching, AllocError>
     requires sound { (scene L.log S.disk parts.old shelf.old).sound }
-    requires clock { clock ≤ 2 ^ 62 }
+    requires clock { clock ≤ MAX_CLOCK }
     requires fits { fetch_request.Fits request.now }
     ensures step { IsStep (scene L.log S.disk parts.old shelf.old) (scene L.log S.disk parts.new shelf.new) }
     ensures same { let a = scene L.log S.disk parts.old shelf.old in let b = scene L.log S.disk parts.new shelf.new in

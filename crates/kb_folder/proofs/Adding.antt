@@ -9,7 +9,7 @@ use Rattle.std.proofs.lemmas.Bool.{cases_eq}
 use Rattle.std.proofs.lemmas.List.{append-nil, length-append, length-drop, take_all, take_at}
 use Rattle.kb_store.specs.Disk.{Files}
 use Rattle.kb_store.proofs.Maps.{get_inserted, get_other}
-use Rattle.kb_folder.specs.Folder.{Contents, Turns, Stays, bytes_in, HasLength, Adds}
+use Rattle.kb_folder.specs.Folder.{Contents, Turns, Stays, bytes_in, HasLength, AddsBytes}
 use Rattle.kb_folder.proofs.Lens.{same_put, some_is}
 
 -- what is put last stands
@@ -22,7 +22,7 @@ put_twice t k v w = same_map nat_cmp_total nat_cmp-IsAntisymmetric (insert (inse
     (cases_eq q k))
 
 module _ (c c' : Contents) (k : ℕ) where
-  pub adds_none : (n : ℕ) → HasLength c k n → Stays c c' → Adds c k [] c'
+  pub adds_none : (n : ℕ) → HasLength c k n → Stays c c' → AddsBytes c k [] c'
   adds_none n has t = record {
     honest = t.honest;
     files = λ h.
@@ -30,10 +30,10 @@ module _ (c c' : Contents) (k : ℕ) where
   }
 
   -- the bytes of the file that grew
-  pub bytes_added : (s : List ℕ) → Adds c k s c' → c'.honest → get c'.files k ≡ Some (bytes_in c k ++ s)
+  pub bytes_added : (s : List ℕ) → AddsBytes c k s c' → c'.honest → get c'.files k ≡ Some (bytes_in c k ++ s)
   bytes_added s t h = subst (λ (x : Files). get x k ≡ Some (bytes_in c k ++ s)) (sym (t.files h)) (get_inserted c.files k (bytes_in c k ++ s))
 
-  pub has_added : (s : List ℕ) (n m : ℕ) → HasLength c k n → Adds c k s c' → m ≡ n + length s → HasLength c' k m
+  pub has_added : (s : List ℕ) (n m : ℕ) → HasLength c k n → AddsBytes c k s c' → m ≡ n + length s → HasLength c' k m
   has_added s n m has t e h =
       let is = bytes_added s t h in
       let long : length (bytes_in c' k) ≡ length (bytes_in c k ++ s) = ap (λ o. length (unwrap_or o [])) is in (
@@ -41,7 +41,7 @@ module _ (c c' : Contents) (k : ℕ) where
         omega (arith, e, long, length-append (bytes_in c k) s, (has (t.honest h)).1),
       )
 
-  pub adds_more : (c'' : Contents) (s u : List ℕ) → Adds c k s c' → Adds c' k u c'' → Adds c k (s ++ u) c''
+  pub adds_more : (c'' : Contents) (s u : List ℕ) → AddsBytes c k s c' → AddsBytes c' k u c'' → AddsBytes c k (s ++ u) c''
   adds_more c'' s u t t' = record {
     honest = λ h. t.honest (t'.honest h);
     files = λ h.
@@ -52,16 +52,16 @@ module _ (c c' : Contents) (k : ℕ) where
   }
 
   -- further bytes of a list
-  pub adds_next : (c'' : Contents) (bytes : List ℕ) (n m : ℕ) → Adds c k (take n bytes) c' → Adds c' k (take m (take (length bytes - n) (drop n bytes))) c'' → Adds c k (take (n + m) bytes) c''
+  pub adds_next : (c'' : Contents) (bytes : List ℕ) (n m : ℕ) → AddsBytes c k (take n bytes) c' → AddsBytes c' k (take m (take (length bytes - n) (drop n bytes))) c'' → AddsBytes c k (take (n + m) bytes) c''
   adds_next c'' bytes n m t t' =
       let all : take (length bytes - n) (drop n bytes) ≡ drop n bytes = take_all (length bytes - n) (drop n bytes) (omega (arith, length-drop n bytes)) in
-      subst (λ x. Adds c k x c'') (sym (take-add n m bytes)) (adds_more c'' (take n bytes) (take m (drop n bytes)) t (subst (λ x. Adds c' k (take m x) c'') all t'))
+      subst (λ x. AddsBytes c k x c'') (sym (take-add n m bytes)) (adds_more c'' (take n bytes) (take m (drop n bytes)) t (subst (λ x. AddsBytes c' k (take m x) c'') all t'))
 
-  pub adds_stays : (c'' : Contents) (s : List ℕ) → Adds c k s c' → Stays c' c'' → Adds c k s c''
+  pub adds_stays : (c'' : Contents) (s : List ℕ) → AddsBytes c k s c' → Stays c' c'' → AddsBytes c k s c''
   adds_stays c'' s t t' = record { honest = λ h. t.honest (t'.honest h); files = λ h. t'.files h ∙ t.files (t'.honest h) }
 
   -- what was added is cut off again
-  pub adds_back : (c'' : Contents) (s : List ℕ) (n : ℕ) → HasLength c k n → Adds c k s c' → Turns c' (insert c'.files k (take n (bytes_in c' k))) c'' → Adds c k [] c''
+  pub adds_back : (c'' : Contents) (s : List ℕ) (n : ℕ) → HasLength c k n → AddsBytes c k s c' → Turns c' (insert c'.files k (take n (bytes_in c' k))) c'' → AddsBytes c k [] c''
   adds_back c'' s n has t t' = record {
     honest = λ h. t.honest (t'.honest h);
     files = λ h.

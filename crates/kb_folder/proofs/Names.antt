@@ -5,9 +5,9 @@ use Rattle.std.specs.List.{list_all}
 use Rattle.std.specs.Str.{IsAscii}
 use Rattle.std.proofs.lemmas.Bool.{lt-ltb, le-ltb}
 use Rattle.std.proofs.lemmas.List.{take_at, drop_at, length-append, nil_from_length, length-drop}
-use Rattle.kb_folder.specs.Names.{is_digit, spelled, suffix, number_of, number_named}
+use Rattle.kb_folder.specs.Names.{is_digit, spelled_from, suffix, number_of, number_named}
 
-pub spelled_least : (n : ℕ) (ds : List ℕ) → n ≤ spelled n ds
+pub spelled_least : (n : ℕ) (ds : List ℕ) → n ≤ spelled_from n ds
 spelled_least n [] = omega arith
 spelled_least n (d ∷ ds) = omega (arith, spelled_least (10 * n + (d - 48)) ds)
 
@@ -16,21 +16,21 @@ either true x = refl
 either false x = refl
 
 -- more than 64 bits
-none_over : (ds : List ℕ) → 18446744073709551616 ≤ spelled 0 ds → number_of ds ≡ None
-none_over ds l = rw (le-ltb (spelled 0 ds) 18446744073709551616 l) (either (list_all is_digit ds) (Some (spelled 0 ds)))
+none_over : (ds : List ℕ) → 18446744073709551616 ≤ spelled_from 0 ds → number_of ds ≡ None
+none_over ds l = rw (le-ltb (spelled_from 0 ds) 18446744073709551616 l) (either (list_all is_digit ds) (Some (spelled_from 0 ds)))
 
-pub too_many : (ds : List ℕ) (i n : ℕ) → i < length ds → spelled n (drop i ds) ≡ spelled 0 ds → 18446744073709551616 ≤ 10 * n + (get_or ds i 0 - 48) → number_of ds ≡ None
+pub too_many : (ds : List ℕ) (i n : ℕ) → i < length ds → spelled_from n (drop i ds) ≡ spelled_from 0 ds → 18446744073709551616 ≤ 10 * n + (get_or ds i 0 - 48) → number_of ds ≡ None
 too_many ds i n l e over =
-    let step : spelled n (drop i ds) ≡ spelled (10 * n + (get_or ds i 0 - 48)) (drop (i + 1) ds) = ap (spelled n) (drop-cons ds i 0 l ∙ ap (λ k. get_or ds i 0 ∷ drop k ds) (sym (add-one i))) in
+    let step : spelled_from n (drop i ds) ≡ spelled_from (10 * n + (get_or ds i 0 - 48)) (drop (i + 1) ds) = ap (spelled_from n) (drop-cons ds i 0 l ∙ ap (λ k. get_or ds i 0 ∷ drop k ds) (sym (add-one i))) in
     none_over ds (omega (arith, step, e, over, spelled_least (10 * n + (get_or ds i 0 - 48)) (drop (i + 1) ds)))
 
-pub number_is : (ds : List ℕ) (n : ℕ) → list_all is_digit ds ≡ true → spelled 0 ds ≡ n → n < 18446744073709551616 → number_of ds ≡ Some n
-number_is ds n all e l = let small : nat_lt (spelled 0 ds) 18446744073709551616 ≡ true = lt-ltb (spelled 0 ds) 18446744073709551616 (omega (arith, e, l)) in rw (all, small) (ap Some e)
+pub number_is : (ds : List ℕ) (n : ℕ) → list_all is_digit ds ≡ true → spelled_from 0 ds ≡ n → n < 18446744073709551616 → number_of ds ≡ Some n
+number_is ds n all e l = let small : nat_lt (spelled_from 0 ds) 18446744073709551616 ≡ true = lt-ltb (spelled_from 0 ds) 18446744073709551616 (omega (arith, e, l)) in rw (all, small) (ap Some e)
 
-pub all_read : (ds : List ℕ) (i n : ℕ) → length ds ≤ i → list_all is_digit (drop i ds) ≡ list_all is_digit ds → spelled n (drop i ds) ≡ spelled 0 ds → n < 18446744073709551616 → Some n ≡ number_of ds
+pub all_read : (ds : List ℕ) (i n : ℕ) → length ds ≤ i → list_all is_digit (drop i ds) ≡ list_all is_digit ds → spelled_from n (drop i ds) ≡ spelled_from 0 ds → n < 18446744073709551616 → Some n ≡ number_of ds
 all_read ds i n l all e small =
     let none : drop i ds ≡ [] = nil_from_length (drop i ds) (omega (arith, length-drop i ds, l)) in
-    sym (number_is ds n (sym all ∙ ap (list_all is_digit) none) (sym e ∙ ap (spelled n) none) small)
+    sym (number_is ds n (sym all ∙ ap (list_all is_digit) none) (sym e ∙ ap (spelled_from n) none) small)
 
 pub digit_ascii : (d : ℕ) → is_digit d ≡ true → d < 128
 digit_ascii d e = grind (arith, e)
@@ -47,7 +47,7 @@ digit_at (d ∷ ds) e (suc i) = digit_at ds (both_true (is_digit d) (list_all is
 pub digits_ascii : (ds : List ℕ) → list_all is_digit ds ≡ true → IsAscii ds
 digits_ascii ds e i = digit_at ds e i
 
-pub name_is : (ds : List ℕ) (name : List ℕ) (n : ℕ) → length ds ≡ 20 → list_all is_digit ds ≡ true → spelled 0 ds ≡ n → n < 18446744073709551616 → name ≡ ds ++ suffix → number_named name ≡ Some n
+pub name_is : (ds : List ℕ) (name : List ℕ) (n : ℕ) → length ds ≡ 20 → list_all is_digit ds ≡ true → spelled_from 0 ds ≡ n → n < 18446744073709551616 → name ≡ ds ++ suffix → number_named name ≡ Some n
 name_is ds name n len all e small is =
     let front : take 20 name ≡ ds = ap (take 20) is ∙ take_at ds suffix 20 len in
     let back : drop 20 name ≡ suffix = ap (drop 20) is ∙ drop_at ds suffix 20 len in

@@ -8,13 +8,12 @@ use Rattle.std.specs.FinMap.{get, remove, same_map, nat_cmp-IsAntisymmetric}
 use Rattle.std.specs.Cmp.{nat_cmp_total}
 use Rattle.std.proofs.lemmas.Bool.{cases_eq}
 use Rattle.kb_store.specs.Disk.{Files}
-use Rattle.kb_store.specs.Loss.{Goes, Same, Tears, Makes, Drops, AreOthers, Only, nothing_left}
-use Rattle.kb_store.specs.LossLaws.{stays_goes, nothing_goes}
+use Rattle.kb_store.specs.Loss.{Goes, Same, Tears, Makes, Drops, AreOthers, Only}
+use Rattle.kb_store.specs.LossLaws.{stays_goes}
 use Rattle.kb_store.proofs.Maps.{get_inserted, get_other, get_removed, get_kept}
 use Rattle.kb_folder.specs.Changed.{AllLasts, NotesOn, NotesBut, HasNoted, HasNotedNames, is_noted, are_names_noted}
 use Rattle.kb_folder.specs.Folder.{Contents, Has, IsAsBefore}
-use Rattle.kb_folder.specs.History.{Answer, after, listed, measured, read, wrote, resized, made, removed, synced, synced_names, overlaid, sized, of_file}
-use Rattle.kb_folder.specs.Hosted.{hosted_loss}
+use Rattle.kb_folder.specs.History.{Answer, after, listing_answer, measured, read, wrote, resized, made, removed, synced, synced_names, overlaid, sized, of_file}
 use Rattle.kb_folder.specs.Lasting.{IsKeptOf, HasNameOf, Loses, folder_loss, Lasts, NamesLast, AllLast, IsMinded, Looks, Syncs}
 use Rattle.kb_folder.specs.Told.{Calls, contents_of, with}
 use Rattle.kb_folder.specs.declared.changed.Changed.{Changed}
@@ -87,8 +86,8 @@ module _ (h : Calls) where
   abbrev pub files_of : Files
   files_of = (contents_of h).files
 
-  pub looks_listed : (numbers : List ℕ) → Looks h (with h (listed numbers))
-  looks_listed numbers = looks h (listed numbers) (λ before found e. e) refl
+  pub looks_listed : (numbers : List ℕ) → Looks h (with h (listing_answer numbers))
+  looks_listed numbers = looks h (listing_answer numbers) (λ before found e. e) refl
 
   pub looks_measured : (file len : ℕ) → Looks h (with h (measured file len))
   looks_measured file len = looks h (measured file len) (λ before found e. e) refl
@@ -350,26 +349,13 @@ pub goes_or : {T E : Type 0} (r : Result T E) (step : Files → Files → Type 0
 goes_or (Ok x) step same h h' a ok err by = subst (λ k. Goes step (folder_loss h) (folder_loss k)) (sym ok) (goes_answered h (a x) step (by x))
 goes_or (Err e) step same h h' a ok err by = subst (λ k. Goes step (folder_loss h) (folder_loss k)) (sym err) (stays_goes step same (folder_loss h))
 
--- .. of a folder that syncs, or does not
-pub hosted_goes : (step : Files → Files → Type 0) (s s' : Bool) (h h' : Calls) → s' ≡ s → Goes step (folder_loss h) (folder_loss h') → Goes step (hosted_loss s h) (hosted_loss s' h')
-hosted_goes step true s' h h' e goes = subst (λ b. Goes step (folder_loss h) (hosted_loss b h')) (sym e) goes
-hosted_goes step false s' h h' e goes = subst (λ b. Goes step nothing_left (hosted_loss b h')) (sym e) (nothing_goes step)
-
 -- ---- all was synced
 
-lasting_noted : (c : Option Changed) (q : ℕ) → AllLasts c → is_noted c q ≡ false
-lasting_noted None q l = refl
-lasting_noted (Some c) q l = ap (list_any (is_at (nat_cmp q))) l.files
-
-lasting_names : (c : Option Changed) → AllLasts c → are_names_noted c ≡ false
-lasting_names None l = refl
-lasting_names (Some c) l = l.names
-
-pub only_hosted : (c : Option Changed) (h : Calls) → IsMinded c h → AllLasts c → (contents_of h).honest → Only (contents_of h).files (hosted_loss (is_some c) h)
-only_hosted None h m l honest = λ found left. absurd left
+pub only_hosted : (c : Option Changed) (h : Calls) → IsMinded c h → AllLasts c → (contents_of h).honest → Only (contents_of h).files (folder_loss h)
+only_hosted None h m l honest = absurd l
 only_hosted (Some c) h m l honest =
     let n = m refl honest in
-    only_last h (record { files = λ q. n.files q (lasting_noted (Some c) q l); names = n.names (lasting_names (Some c) l) })
+    only_last h (record { files = λ q. n.files q (ap (list_any (is_at (nat_cmp q))) l.files); names = n.names l.names })
 
 -- .. and each file that was found, and the names
 pub minded_last : (c : Option Changed) (h : Calls) → ((contents_of h).honest → AllLast h) → IsMinded c h

@@ -11,9 +11,9 @@ pub record IsLasting (c : Changed) : Type 0 where
   pub names : c.names ≡ false
   pub refused : c.refused ≡ None
 
--- the same of a folder that keeps it in mind, and of one that does not
+-- the same of a folder that keeps it in mind; of one that does not it is not known
 abbrev pub AllLasts : Option Changed → Type 0
-AllLasts None = Unit {0}
+AllLasts None = ⊥
 AllLasts (Some c) = IsLasting c
 
 -- the first sync that was refused
@@ -22,9 +22,9 @@ refused_in None = None
 refused_in (Some c) = c.refused
 
 -- what was refused first stays
-abbrev pub first_of : Option Refusal → Refusal → Option Refusal
-first_of None new = Some new
-first_of (Some old) new = Some old
+abbrev pub first_refused : Option Refusal → Refusal → Option Refusal
+first_refused None new = Some new
+first_refused (Some old) new = Some old
 
 -- ---- what is noted
 

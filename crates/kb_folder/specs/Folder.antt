@@ -36,8 +36,8 @@ pub record IsAsBefore (old new : Contents) : Type 0 where
   pub still : old.honest → new.honest
 
 -- The file ends with those bytes, behind what it had.
-abbrev pub Adds : Contents → ℕ → List ℕ → Contents → Type 0
-Adds old file bytes new = Turns old (insert old.files file (bytes_in old file ++ bytes)) new
+abbrev pub AddsBytes : Contents → ℕ → List ℕ → Contents → Type 0
+AddsBytes old file bytes new = Turns old (insert old.files file (bytes_in old file ++ bytes)) new
 
 -- The numbers are those of the files, in any order.
 pub record AreNumbersOf (numbers : List ℕ) (files : Files) : Type 0 where

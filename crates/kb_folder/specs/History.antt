@@ -9,8 +9,8 @@ abbrev pub Answer : Type 0
 Answer = List ℕ × List ℕ
 
 -- the folder was listed, and these were its files
-abbrev pub listed : List ℕ → Answer
-listed numbers = (0 ∷ numbers, [])
+abbrev pub listing_answer : List ℕ → Answer
+listing_answer numbers = (0 ∷ numbers, [])
 
 -- a file had this length
 abbrev pub measured : ℕ → ℕ → Answer
@@ -63,11 +63,11 @@ pub record IsPart (whole : List ℕ) (at : ℕ) (given : List ℕ) : Type 0 wher
   pub none : given ≡ [] → length whole ≤ at
 
 -- What was answered is true of the files. What a call did is no claim.
-abbrev pub Agrees : Files → List ℕ → List ℕ → Type 0
-Agrees files (zero ∷ numbers) bytes = AreNumbersOf numbers files
-Agrees files (suc zero ∷ file ∷ len ∷ []) bytes = len ≡ length (of_file files file)
-Agrees files (suc (suc zero) ∷ file ∷ at ∷ []) bytes = IsPart (of_file files file) at bytes
-Agrees files call bytes = Unit {0}
+abbrev pub Confirms : Files → List ℕ → List ℕ → Type 0
+Confirms files (zero ∷ numbers) bytes = AreNumbersOf numbers files
+Confirms files (suc zero ∷ file ∷ len ∷ []) bytes = len ≡ length (of_file files file)
+Confirms files (suc (suc zero) ∷ file ∷ at ∷ []) bytes = IsPart (of_file files file) at bytes
+Confirms files call bytes = Unit {0}
 
 -- the files after the call
 abbrev pub after : Files → List ℕ → List ℕ → Files
@@ -83,5 +83,5 @@ told start [] = record { files = start; honest = Unit {0} }
 told start (a ∷ earlier) =
     record {
       files = after (told start earlier).files a.0 a.1;
-      honest = (told start earlier).honest × Agrees (told start earlier).files a.0 a.1;
+      honest = (told start earlier).honest × Confirms (told start earlier).files a.0 a.1;
     }

@@ -1,12 +1,10 @@
 -- A folder of the system, to its callers.
-use Rattle.std.specs.Prelude.{List, Bool, true, false}
+use Rattle.std.specs.Prelude.{List, Bool}
 use Rattle.std.proofs.Common.{refl}
 use Rattle.std.specs.Coded.{Coded, code_by, coded×, coded_ℕ, coded_bool, coded_list}
 use Rattle.std.specs.FinMap as map
 use Rattle.kb_store.specs.Disk.{Files}
-use Rattle.kb_store.specs.Loss.{Loss, nothing_left}
 use Rattle.kb_folder.specs.History.{Answer}
-use Rattle.kb_folder.specs.Lasting.{folder_loss}
 use Rattle.kb_folder.specs.Told.{Calls}
 
 -- What the system answered, and whether it keeps in mind what it has changed, so that a sync can make it last.
@@ -18,8 +16,3 @@ abbrev pub hosted_code : Coded Hosted
 hosted_code = code_by ((Files × List Answer) × Bool) (coded× (coded× (map.code coded_ℕ (coded_list coded_ℕ)) (coded_list (coded× (coded_list coded_ℕ) (coded_list coded_ℕ)))) coded_bool)
     (λ f. ((f.history.start, f.history.answers), f.syncs))
     (λ p. record { history = record { start = p.0.0; answers = p.0.1 }; syncs = p.1 }) (λ _. refl)
-
--- Of a folder that does not sync nothing is said: as if a loss left nothing that could be opened.
-abbrev pub hosted_loss : Bool → Calls → Loss
-hosted_loss true h = folder_loss h
-hosted_loss false h = nothing_left

@@ -1,11 +1,9 @@
 -- The moments of a folder are in order.
-use Rattle.std.specs.Prelude.{◌≤◌, ℕ, List, [], ◌∷◌, length, Bool, true, false}
+use Rattle.std.specs.Prelude.{◌≤◌, ℕ, List, [], ◌∷◌, length}
 use Rattle.std.proofs.Common.{arith, inl, ⊎_elim}
 use Rattle.kb_store.specs.Disk.{Files}
 use Rattle.kb_store.specs.Loss.{IsLawfulLoss}
-use Rattle.kb_store.specs.LossLaws.{nothing_timely}
 use Rattle.kb_folder.specs.History.{Answer}
-use Rattle.kb_folder.specs.Hosted.{hosted_loss}
 use Rattle.kb_folder.specs.Lasting.{leaves, left_since, folder_loss}
 use Rattle.kb_folder.specs.Told.{Calls}
 
@@ -26,7 +24,3 @@ loss_timely h = record {
   counts_now = λ t found le l. counts_now h.start h.answers t found l;
   only_now = λ found l. only_now h.start h.answers found l;
 }
-
-pub hosted_timely : (syncs : Bool) (h : Calls) → IsLawfulLoss (hosted_loss syncs h)
-hosted_timely true h = loss_timely h
-hosted_timely false h = nothing_timely

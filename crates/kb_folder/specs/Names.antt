@@ -9,9 +9,9 @@ abbrev pub is_digit : ℕ → Bool
 is_digit c = not (nat_lt c 48) && not (nat_lt 57 c)
 
 -- the number that digits spell, behind the digits of a number
-abbrev pub spelled : ℕ → List ℕ → ℕ
-spelled n [] = n
-spelled n (d ∷ ds) = spelled (10 * n + (d - 48)) ds
+abbrev pub spelled_from : ℕ → List ℕ → ℕ
+spelled_from n [] = n
+spelled_from n (d ∷ ds) = spelled_from (10 * n + (d - 48)) ds
 
 -- .seg
 abbrev pub suffix : List ℕ
@@ -19,7 +19,7 @@ suffix = 46 ∷ 115 ∷ 101 ∷ 103 ∷ []
 
 -- the number that bytes spell, where they are digits and it fits 64 bits
 abbrev pub number_of : List ℕ → Option ℕ
-number_of ds = if list_all is_digit ds && nat_lt (spelled 0 ds) (2 ^ 64) then Some (spelled 0 ds) else None
+number_of ds = if list_all is_digit ds && nat_lt (spelled_from 0 ds) (2 ^ 64) then Some (spelled_from 0 ds) else None
 
 -- the number of the file of a name
 abbrev pub number_named : List ℕ → Option ℕ

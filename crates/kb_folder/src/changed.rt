@@ -6,7 +6,7 @@ ghost use Rattle.std.specs.BTreeSet.{contains, insert_key, keys_between};
 ghost use Rattle.std.specs.declared.ops.Bound.TheVariants.{Included, Unbounded};
 ghost use Rattle.std.specs.Ordering.{nat_cmp};
 ghost use Rattle.std.specs.Set.{remove_key};
-ghost use Rattle.kb_folder.specs.Changed.{IsLasting, first_of};
+ghost use Rattle.kb_folder.specs.Changed.{IsLasting, first_refused};
 
 use crate::refusal::Refusal;
 use std::alloc::{AllocError, Global};
@@ -96,7 +96,7 @@ impl Changed {
 
     /// Notes a sync that was refused. The first one stays.
     pub(crate) fn refuse(&mut self, refusal: Refusal)
-        ensures { self.new ≡ record self.old { refused = first_of self.old.refused refusal } }
+        ensures { self.new ≡ record self.old { refused = first_refused self.old.refused refusal } }
     {
         if self.refused.is_none() {
             self.refused = Some(refusal);

@@ -101,7 +101,7 @@ impl<R: Files<File = File> + AllocGlobal + Clone + Drop> HostFolder<R> {
         self
     }
 
-    /// The same folder, which keeps in mind what it changes, so that `sync` can make it last. Without this a sync does nothing.
+    /// The same folder, which keeps in mind what it changes, so that `sync` can make it last. Without this a sync is refused.
     ///
     /// First it syncs every file that has a number, and the names, and asks the system to forget what it has in memory of each file: what
     /// a process that was killed left unsynced is to be believed only where it lasts. It syncs the names of the folders above, too, so
@@ -278,15 +278,15 @@ fn read_whole(history: &mut History, file: &Handle, at: u64, buffer: &mut [u8]) 
 }
 
 impl<R: Files<File = File> + AllocGlobal + Clone + Drop> Folder for HostFolder<R> {
-    ghost use Rattle.kb_folder.specs.Hosted.{hosted_loss};
-    ghost use Rattle.kb_folder.specs.LastingLaws.{hosted_timely};
+    ghost use Rattle.kb_folder.specs.Lasting.{folder_loss};
+    ghost use Rattle.kb_folder.specs.LastingLaws.{loss_timely};
     ghost use Rattle.kb_folder.specs.Told.{contents_of};
 
     ghost contents = { λ f. contents_of f.history };
 
-    ghost loss = { λ f. hosted_loss f.syncs f.history };
+    ghost loss = { λ f. folder_loss f.history };
 
-    ghost timely = { λ f. hosted_timely f.syncs f.history };
+    ghost timely = { λ f. loss_timely f.history };
 
     fn names(&mut self, alloc: Global) -> Result<Vec<String>, FolderFault> {
         let listed = self

@@ -116,7 +116,7 @@ impl<R: Files<File = File> + AllocGlobal + Clone + Drop> Host<R> {
         ensures lasting { OnOk result (AllLasts self.new.changed) }
         ensures refused { IsSome (refused_in self.old.changed) → IsErr result }
     {
-        self.not_refused()?;
+        self.can_sync()?;
         self.sync_partitions(history)?;
         self.sync_files(history)?;
         self.sync_names(history)?;
@@ -207,15 +207,15 @@ impl<R: Files<File = File> + AllocGlobal + Clone + Drop> Host<R> {
         Ok(())
     }
 
-    /// Refused where a sync was refused before, which is noted again.
-    fn not_refused(&self) -> Result<(), FolderFault>
+    /// Refused where nothing is kept in mind of what has changed, and where a sync was refused before, which is noted again.
+    fn can_sync(&self) -> Result<(), FolderFault>
         ensures { IsSome (refused_in self.now.changed) → IsErr result }
     {
-        let refused = match &self.changed {
-            Some(changed) => changed.refused(),
-            None => None,
+        let Some(changed) = &self.changed else {
+            let error = ErrorKind::Unsupported.into();
+            return Err(self.fault(FolderCall::Sync, None, error));
         };
-        match refused {
+        match changed.refused() {
             Some(refusal) => {
                 let _ = self.fault(refusal.call, refusal.file, refusal.error);
                 Err(FolderFault::Refused)
@@ -228,14 +228,10 @@ impl<R: Files<File = File> + AllocGlobal + Clone + Drop> Host<R> {
     fn all_lasts(&self) -> Result<(), FolderFault>
         ensures { OnOk result (AllLasts self.now.changed) }
     {
-        self.not_refused()?;
-        let Some(changed) = &self.changed else {
-            return Ok(());
-        };
-        if changed.all_lasts() {
-            Ok(())
-        } else {
-            Err(FolderFault::Refused)
+        self.can_sync()?;
+        match &self.changed {
+            Some(changed) if changed.all_lasts() => Ok(()),
+            _ => Err(FolderFault::Refused),
         }
     }
 

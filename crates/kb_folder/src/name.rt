@@ -2,7 +2,7 @@
 
 ghost use Rattle.std.specs.Prelude.{◌≡◌, ◌<◌, ◌≤◌, IfOk, Some, true, length, bytes_eq, string_bytes};
 ghost use Rattle.std.specs.List.{list_all};
-ghost use Rattle.kb_folder.specs.Names.{is_digit, spelled, suffix, number_of, number_named, numbers_named};
+ghost use Rattle.kb_folder.specs.Names.{is_digit, spelled_from, suffix, number_of, number_named, numbers_named};
 
 use std::alloc::{AllocError, Global};
 
@@ -15,7 +15,7 @@ const SUFFIX: &str = ".seg";
 /// The 20 decimal digits of a number.
 fn digits_of(number: u64) -> [u8; DIGITS]
     ensures digits { list_all is_digit result ≡ true }
-    ensures number { spelled 0 result ≡ number }
+    ensures number { spelled_from 0 result ≡ number }
     ensures length { length result ≡ 20 }
 {
     let mut digits = [b'0'; DIGITS];

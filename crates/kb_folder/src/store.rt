@@ -9,7 +9,7 @@ ghost use Rattle.std.specs.Map.{lookup};
 ghost use Rattle.kb_store.specs.declared.fault.StoreFault.TheVariants.{Device, Memory};
 ghost use Rattle.kb_store.specs.Loss.{Goes, Same, Tears};
 ghost use Rattle.kb_folder.specs.declared.folder.FolderFault.TheVariants as faults;
-ghost use Rattle.kb_folder.specs.Folder.{AreNumbersOf, Stays, HasLength, Adds};
+ghost use Rattle.kb_folder.specs.Folder.{AreNumbersOf, Stays, HasLength, AddsBytes};
 ghost use Rattle.kb_folder.specs.Store.{Foldered, counted, disk_over, table_of, AreLengths};
 
 use crate::name::numbers_of;
@@ -154,7 +154,7 @@ fn add_on<F: Folder>(
     requires fits { end + length bytes.now < 2 ^ 64 }
     ensures count { result.0 ≤ length bytes.now }
     ensures whole { result.1 ≡ None → result.0 ≡ length bytes.now }
-    ensures added { Adds (F.contents folder.old) file (take result.0 bytes.now) (F.contents folder.new) }
+    ensures added { AddsBytes (F.contents folder.old) file (take result.0 bytes.now) (F.contents folder.new) }
     ensures loss { Goes (Tears file end) (F.loss folder.old) (F.loss folder.new) }
 {
     let mut added = 0;
@@ -180,7 +180,7 @@ fn add_whole<F: Folder>(
     requires fits { end + length bytes.now < 2 ^ 64 }
     ensures count { result.0 ≤ length bytes.now }
     ensures whole { result.1 ≡ None → result.0 ≡ length bytes.now }
-    ensures added { Adds (F.contents folder.old) file (take result.0 bytes.now) (F.contents folder.new) }
+    ensures added { AddsBytes (F.contents folder.old) file (take result.0 bytes.now) (F.contents folder.new) }
     ensures loss { Goes (Tears file end) (F.loss folder.old) (F.loss folder.new) }
 {
     let (added, fault) = add_on(folder, file, end, bytes);

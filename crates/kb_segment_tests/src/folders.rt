@@ -289,6 +289,15 @@ fn a_refused_sync_is_the_last(rt: HostRuntime) -> Result<(), Fail> {
     Ok(())
 }
 
+/// A folder that keeps nothing in mind of what it changes is not synced, which is noted.
+#[test]
+fn what_is_not_kept_in_mind_is_not_synced(rt: HostRuntime) -> Result<(), Fail> {
+    let path = folder_of_its_own(&rt)?;
+    Watched::to_write(&rt, path.as_str())?.is_not_synced(&rt)?;
+    fs::remove_dir(&rt, path.as_str())?;
+    Ok(())
+}
+
 /// A folder in it that has a file's name has no bytes, and is noted, whether it is opened for writing or to be read alone.
 #[test]
 fn a_folder_in_it_has_no_bytes(rt: HostRuntime) -> Result<(), Fail> {

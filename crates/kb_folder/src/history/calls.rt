@@ -5,7 +5,7 @@
 
 ghost use Rattle.std.specs.Prelude.{◌≡◌, take, IfOk, OnOk, OnErr};
 ghost use Rattle.std.specs.Io.{ReadsAtMost, WritesAtMost};
-ghost use Rattle.kb_folder.specs.History.{listed, measured, read, wrote, resized, made, removed, synced, synced_names};
+ghost use Rattle.kb_folder.specs.History.{listing_answer, measured, read, wrote, resized, made, removed, synced, synced_names};
 ghost use Rattle.kb_folder.specs.Names.{IsPathOf, numbers_named};
 ghost use Rattle.kb_folder.specs.Told.{calls_of, with};
 
@@ -81,7 +81,7 @@ impl History {
         folder: &str,
         alloc: Global,
     ) -> io::Result<Vec<String>>
-        ensures listed { IfOk result (λ names. calls_of self.new ≡ with (calls_of self.old) (listed (numbers_named names.items))) }
+        ensures listed { IfOk result (λ names. calls_of self.new ≡ with (calls_of self.old) (listing_answer (numbers_named names.items))) }
         ensures refused { OnErr result (calls_of self.new ≡ calls_of self.old) }
     {
         let names = names_in(rt, folder, alloc)?;

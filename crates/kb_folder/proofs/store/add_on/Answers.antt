@@ -1,6 +1,6 @@
 use Rattle.std.proofs.Common.{◌≡◌, ◌+◌, take, subst, refl, arith, rules}
 use Rattle.std.proofs.lemmas.List.{length-take-le}
-use Rattle.kb_folder.specs.Folder.{Adds}
+use Rattle.kb_folder.specs.Folder.{AddsBytes}
 use Rattle.kb_folder.proofs.Adding.{adds_none, has_added, adds_next}
 use Rattle.kb_folder.proofs.Goes.{goes_torn, torn_none}
 use Rattle.kb_folder.proofs.store.add_on.Goals as goal
@@ -26,7 +26,7 @@ returns-in-Ok-eq0-clause-added g c =
     let had = g.F.Folder.contents c.args.folder.now in
     let new = g.F.Folder.contents c.write_end.new.self in
     let none : c.loop-added.added + c.in-Ok-eq0.field-0 ≡ c.loop-added.added = omega (arith, c.in-Ok-eq0.field-0-is) in
-    subst (λ m. Adds had c.args.file (take m c.args.bytes.now) new) none
+    subst (λ m. AddsBytes had c.args.file (take m c.args.bytes.now) new) none
     (adds_next had (g.F.Folder.contents c.loop-added.folder) c.args.file new c.args.bytes.now c.loop-added.added c.in-Ok-eq0.field-0 i.adds c.in-Ok-eq0.ensures.written)
 
 pub loop-added-preserved : goal.loop-added-preserved

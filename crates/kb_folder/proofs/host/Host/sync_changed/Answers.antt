@@ -2,8 +2,8 @@ use Rattle.kb_folder.specs.Told.{calls_of}
 use Rattle.kb_folder.proofs.Synced.{notes_same, syncs_noted, syncs_on}
 use Rattle.kb_folder.proofs.host.Host.sync_changed.Goals as goal
 
-pub returns-in_err-not_refused-clause-syncs : goal.returns-in_err-not_refused-clause-syncs
-returns-in_err-not_refused-clause-syncs g c =
+pub returns-in_err-can_sync-clause-syncs : goal.returns-in_err-can_sync-clause-syncs
+returns-in_err-can_sync-clause-syncs g c =
     syncs_noted c.args.self.now.changed c.args.self.now.changed (calls_of c.args.history.now) (notes_same (λ _. ⊥) c.args.self.now.changed)
 
 pub returns-in_err-sync_files-clause-syncs : goal.returns-in_err-sync_files-clause-syncs

@@ -1,7 +1,7 @@
 use Rattle.kb_store.specs.Loss.{Makes}
 use Rattle.kb_store.specs.LossLaws.{made_not}
 use Rattle.kb_folder.specs.History.{made}
-use Rattle.kb_folder.proofs.Synced.{goes_or, hosted_goes}
+use Rattle.kb_folder.proofs.Synced.{goes_or}
 use Rattle.kb_folder.proofs.host_folder.HostFolderFolder.create.Goals as goal
 
 pub returns-clause-loss : goal.returns-clause-loss
@@ -9,5 +9,4 @@ returns-clause-loss g c =
     let had = c.args.self.now in
     let now = c.make-made.new.self in
     let file = c.args.file in
-    hosted_goes (Makes file) had.syncs now.syncs had.history now.history c.make-made.ensures.syncs
-    (goes_or c.make-made.result (Makes file) (made_not file) had.history now.history (λ _. made file) c.make-made.ensures.made c.make-made.ensures.refused (λ x before found m. m))
+    goes_or c.make-made.result (Makes file) (made_not file) had.history now.history (λ _. made file) c.make-made.ensures.made c.make-made.ensures.refused (λ x before found m. m)

@@ -1,11 +1,10 @@
-use Rattle.std.proofs.Common.{◌≡◌, ◌∙◌, sym, subst, rules}
-use Rattle.std.specs.Prelude.{is_some}
+use Rattle.std.proofs.Common.{◌≡◌, subst, rules}
 use Rattle.kb_store.specs.Loss.{Goes, Tears}
 use Rattle.kb_store.specs.LossLaws.{torn_not}
 use Rattle.kb_folder.specs.History.{resized}
 use Rattle.kb_folder.specs.Lasting.{folder_loss}
 use Rattle.kb_folder.specs.Told.{calls_of, with}
-use Rattle.kb_folder.proofs.Synced.{goes_or, hosted_goes}
+use Rattle.kb_folder.proofs.Synced.{goes_or}
 use Rattle.kb_folder.proofs.Told.{turns_cut}
 use Rattle.kb_folder.proofs.host_folder.HostFolderFolder.cut.Goals as goal
 
@@ -20,8 +19,7 @@ returns-in_err-answer-clause-loss g c =
     let now = c.resize-cut.new.self in
     let file = c.args.file in
     let len = c.args.len in
-    hosted_goes (Tears file len) had.syncs now.syncs had.history now.history c.resize-cut.ensures.syncs
-    (goes_or c.resize-cut.result (Tears file len) (torn_not file len) had.history now.history (λ _. resized file len) c.resize-cut.ensures.resized c.resize-cut.ensures.refused (λ x before found t. t))
+    goes_or c.resize-cut.result (Tears file len) (torn_not file len) had.history now.history (λ _. resized file len) c.resize-cut.ensures.resized c.resize-cut.ensures.refused (λ x before found t. t)
 
 pub returns-clause-loss : goal.returns-clause-loss
 returns-clause-loss g c =
@@ -29,9 +27,6 @@ returns-clause-loss g c =
     let now = c.resize-cut.new.self in
     let file = c.args.file in
     let len = c.args.len in
-    let kept = c.restore_reserve.new.self.changed in
     let view : now.history ≡ calls_of c.self.inside.history = search rules in
-    let syncs : now.syncs ≡ is_some c.self.inside.host.changed = search rules in
-    hosted_goes (Tears file len) had.syncs (is_some kept) had.history (calls_of c.self.inside.history) (c.restore_reserve.ensures.minds ∙ sym syncs ∙ c.resize-cut.ensures.syncs)
-    (subst (λ x. Goes (Tears file len) (folder_loss had.history) (folder_loss x)) view
-    (goes_or c.resize-cut.result (Tears file len) (torn_not file len) had.history now.history (λ _. resized file len) c.resize-cut.ensures.resized c.resize-cut.ensures.refused (λ x before found t. t)))
+    subst (λ x. Goes (Tears file len) (folder_loss had.history) (folder_loss x)) view
+    (goes_or c.resize-cut.result (Tears file len) (torn_not file len) had.history now.history (λ _. resized file len) c.resize-cut.ensures.resized c.resize-cut.ensures.refused (λ x before found t. t))

@@ -2,7 +2,7 @@ use Rattle.std.proofs.Common.{◌≡◌, refl, subst, rules}
 use Rattle.kb_store.specs.Loss.{Goes, Same}
 use Rattle.kb_folder.specs.History.{measured}
 use Rattle.kb_folder.specs.Lasting.{folder_loss}
-use Rattle.kb_folder.proofs.Synced.{goes_or, hosted_goes}
+use Rattle.kb_folder.proofs.Synced.{goes_or}
 use Rattle.kb_folder.proofs.Goes.{goes_same}
 use Rattle.kb_folder.proofs.host_folder.HostFolderFolder.len.Goals.{in-Err+then-eq, in_default}
 use Rattle.kb_folder.proofs.host_folder.HostFolderFolder.len.Goals as goal
@@ -18,12 +18,9 @@ returns-clause-loss g c =
       | in-Err+then-eq w ↦
           let last = w.length_of_folder-len.new.self in
           let history : last.history ≡ now.history = search rules in
-          let syncs : now.syncs ≡ had.syncs = search rules in
           let two = goes_or w.length_of_folder-len.result Same (λ x. refl) first.history last.history (λ n. measured file n) w.length_of_folder-len.ensures.measured w.length_of_folder-len.ensures.refused (λ x before found e. e) in
-          hosted_goes Same had.syncs now.syncs had.history now.history syncs
-          (subst (λ x. Goes Same (folder_loss had.history) (folder_loss x)) history (goes_same (folder_loss had.history) (folder_loss first.history) (folder_loss last.history) one two))
+          subst (λ x. Goes Same (folder_loss had.history) (folder_loss x)) history (goes_same (folder_loss had.history) (folder_loss first.history) (folder_loss last.history) one two)
       | in_default w ↦
           let history : first.history ≡ now.history = search rules in
-          let syncs : now.syncs ≡ had.syncs = search rules in
-          hosted_goes Same had.syncs now.syncs had.history now.history syncs (subst (λ x. Goes Same (folder_loss had.history) (folder_loss x)) history one)
+          subst (λ x. Goes Same (folder_loss had.history) (folder_loss x)) history one
     ]

@@ -1,11 +1,10 @@
-use Rattle.std.proofs.Common.{◌≡◌, ◌∙◌, sym, subst, rules}
-use Rattle.std.specs.Prelude.{is_some}
+use Rattle.std.proofs.Common.{◌≡◌, subst, rules}
 use Rattle.kb_store.specs.Loss.{Goes, Drops}
 use Rattle.kb_store.specs.LossLaws.{dropped_not}
 use Rattle.kb_folder.specs.History.{removed}
 use Rattle.kb_folder.specs.Lasting.{folder_loss}
 use Rattle.kb_folder.specs.Told.{calls_of}
-use Rattle.kb_folder.proofs.Synced.{goes_or, hosted_goes}
+use Rattle.kb_folder.proofs.Synced.{goes_or}
 use Rattle.kb_folder.proofs.host_folder.HostFolderFolder.remove.Goals as goal
 
 pub returns-in_err-answer-clause-loss : goal.returns-in_err-answer-clause-loss
@@ -13,17 +12,13 @@ returns-in_err-answer-clause-loss g c =
     let had = c.args.self.now in
     let now = c.take_away-removed.new.self in
     let file = c.args.file in
-    hosted_goes (Drops file) had.syncs now.syncs had.history now.history c.take_away-removed.ensures.syncs
-    (goes_or c.take_away-removed.result (Drops file) (dropped_not file) had.history now.history (λ _. removed file) c.take_away-removed.ensures.removed c.take_away-removed.ensures.refused (λ x before found d. d))
+    goes_or c.take_away-removed.result (Drops file) (dropped_not file) had.history now.history (λ _. removed file) c.take_away-removed.ensures.removed c.take_away-removed.ensures.refused (λ x before found d. d)
 
 pub returns-clause-loss : goal.returns-clause-loss
 returns-clause-loss g c =
     let had = c.args.self.now in
     let now = c.take_away-removed.new.self in
     let file = c.args.file in
-    let kept = c.restore_reserve.new.self.changed in
     let view : now.history ≡ calls_of c.self.inside.history = search rules in
-    let syncs : now.syncs ≡ is_some c.self.inside.host.changed = search rules in
-    hosted_goes (Drops file) had.syncs (is_some kept) had.history (calls_of c.self.inside.history) (c.restore_reserve.ensures.minds ∙ sym syncs ∙ c.take_away-removed.ensures.syncs)
-    (subst (λ x. Goes (Drops file) (folder_loss had.history) (folder_loss x)) view
-    (goes_or c.take_away-removed.result (Drops file) (dropped_not file) had.history now.history (λ _. removed file) c.take_away-removed.ensures.removed c.take_away-removed.ensures.refused (λ x before found d. d)))
+    subst (λ x. Goes (Drops file) (folder_loss had.history) (folder_loss x)) view
+    (goes_or c.take_away-removed.result (Drops file) (dropped_not file) had.history now.history (λ _. removed file) c.take_away-removed.ensures.removed c.take_away-removed.ensures.refused (λ x before found d. d))

@@ -1,9 +1,7 @@
-use Rattle.std.proofs.Common.{◌≡◌, ◌∙◌, sym, subst, rules}
-use Rattle.std.specs.Prelude.{is_some}
+use Rattle.std.proofs.Common.{◌≡◌, sym, subst, rules}
 use Rattle.kb_store.specs.Loss.{Goes, Same}
 use Rattle.kb_folder.specs.Lasting.{folder_loss}
 use Rattle.kb_folder.specs.Told.{calls_of}
-use Rattle.kb_folder.proofs.Synced.{hosted_goes}
 use Rattle.kb_folder.proofs.Synced.{on_ok, only_hosted}
 use Rattle.kb_folder.proofs.host_folder.HostFolderFolder.sync.Goals as goal
 
@@ -15,9 +13,6 @@ returns-clause-synced g c =
 pub returns-clause-loss : goal.returns-clause-loss
 returns-clause-loss g c =
     let had = c.args.self.now in
-    let now = c.sync_changed.new.self.changed in
     let h = calls_of c.sync_changed.new.history in
     let history : had.history ≡ calls_of c.self.inside.history = search rules in
-    let syncs : had.syncs ≡ is_some c.self.inside.host.changed = search rules in
-    hosted_goes Same had.syncs (is_some now) had.history h (c.sync_changed.ensures.syncs.minds ∙ sym syncs)
-    (subst (λ x. Goes Same (folder_loss x) (folder_loss h)) (sym history) c.sync_changed.ensures.syncs.loss)
+    subst (λ x. Goes Same (folder_loss x) (folder_loss h)) (sym history) c.sync_changed.ensures.syncs.loss

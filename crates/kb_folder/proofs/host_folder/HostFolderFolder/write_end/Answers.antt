@@ -1,7 +1,7 @@
 use Rattle.kb_store.specs.Loss.{Tears}
 use Rattle.kb_store.specs.LossLaws.{torn_not}
 use Rattle.kb_folder.specs.History.{wrote}
-use Rattle.kb_folder.proofs.Synced.{goes_or, hosted_goes}
+use Rattle.kb_folder.proofs.Synced.{goes_or}
 use Rattle.std.proofs.Common.{take}
 use Rattle.kb_folder.proofs.Told.{turns_told}
 use Rattle.kb_folder.proofs.host_folder.HostFolderFolder.write_end.Goals as goal
@@ -16,6 +16,5 @@ returns-clause-loss g c =
     let now = c.write-written.new.self in
     let file = c.args.file in
     let end = c.args.end in
-    hosted_goes (Tears file end) had.syncs now.syncs had.history now.history c.write-written.ensures.syncs
-    (goes_or c.write-written.result (Tears file end) (torn_not file end) had.history now.history (λ n. wrote file end (take n c.args.bytes.now)) c.write-written.ensures.wrote c.write-written.ensures.refused
-    (λ x before found t. t))
+    goes_or c.write-written.result (Tears file end) (torn_not file end) had.history now.history (λ n. wrote file end (take n c.args.bytes.now)) c.write-written.ensures.wrote c.write-written.ensures.refused
+    (λ x before found t. t)

@@ -14,7 +14,7 @@ use Rattle.kb_survey.proofs.Keys.{keys_after}
 use Rattle.kb_survey.specs.declared.change.Change.TheVariants.{Remove}
 use Rattle.kb_survey.specs.Listed.{is_in}
 use Rattle.kb_start.specs.Starts.{header_at}
-use Rattle.kb_start.specs.Deleted.{deleted_among, is_deleted, without, Leaves}
+use Rattle.kb_start.specs.Deleted.{deleted_among, is_deleted, without_files, DeletesFirst}
 use Rattle.kb_start.specs.declared.deleted.CatalogOf.{CatalogOf}
 use Rattle.kb_start.proofs.Recorded.{same_header}
 
@@ -73,15 +73,15 @@ module _ {X : Type 0} where
       (cases_eq q k))
 
   -- one more at the end
-  without_push : (ks : List ℕ) (k : ℕ) (m : FinMap nat_cmp X) → without (ks ++ k ∷ []) m ≡ remove (without ks m) k
+  without_push : (ks : List ℕ) (k : ℕ) (m : FinMap nat_cmp X) → without_files (ks ++ k ∷ []) m ≡ remove (without_files ks m) k
   without_push [] k m = refl
   without_push (x ∷ ks) k m = without_push ks k (remove m x)
 
   pub without_next : (files : List ℕ) (i other : ℕ) (m : FinMap nat_cmp X) → i < length files
-      → without (take (i + 1) files) m ≡ remove (without (take i files) m) (get_or files i other)
+      → without_files (take (i + 1) files) m ≡ remove (without_files (take i files) m) (get_or files i other)
   without_next files i other m in_range =
       let next : take (i + 1) files ≡ take i files ++ get_or files i other ∷ [] = rw (add-one, take-suc files i other in_range) in
-      ap (λ ks. without ks m) next ∙ without_push (take i files) (get_or files i other) m
+      ap (λ ks. without_files ks m) next ∙ without_push (take i files) (get_or files i other) m
 
 no_length : (o : Option (List ℕ)) → None ≡ option_map length o → o ≡ None
 no_length None e = refl
@@ -114,8 +114,8 @@ listed_next d e listed next file is there removed left =
     ∙ sym (keys_after (Remove file ∷ []) d.table (there, tt)) ∙ ap keys (sym removed.table)
 
 -- one file more is gone
-pub leaves_next : (files : List ℕ) (i other : ℕ) (d e f : Disk) → i < length files → Leaves i files d e → Removes e (get_or files i other) f
-    → Leaves (i + 1) files d f
+pub leaves_next : (files : List ℕ) (i other : ℕ) (d e f : Disk) → i < length files → DeletesFirst i files d e → Removes e (get_or files i other) f
+    → DeletesFirst (i + 1) files d f
 leaves_next files i other d e f in_range before now = record {
   table = now.table ∙ ap (λ t. remove t (get_or files i other)) before.table ∙ sym (without_next files i other d.table in_range);
   honest = λ h. before.honest (now.honest h);
@@ -123,7 +123,7 @@ leaves_next files i other d e f in_range before now = record {
 }
 
 -- a refused removal leaves what was left before
-pub leaves_still : (files : List ℕ) (i : ℕ) (d e f : Disk) → Leaves i files d e → Keeps e f → Leaves i files d f
+pub leaves_still : (files : List ℕ) (i : ℕ) (d e f : Disk) → DeletesFirst i files d e → Keeps e f → DeletesFirst i files d f
 leaves_still files i d e f before now = record {
   table = now.table ∙ before.table;
   honest = λ h. before.honest (now.honest h);

@@ -1,3 +1,4 @@
+pub mod Ends
 pub mod Gone
 pub mod InWay
 pub mod Lost

@@ -6,7 +6,7 @@ use Rattle.kb_store.specs.Disk.{Disk, Files, Table}
 use Rattle.kb_batch.specs.Batch.{natural}
 use Rattle.kb_segment.specs.Header.{Header, header_in}
 use Rattle.kb_survey.specs.Listed.{is_in}
-use Rattle.kb_survey.specs.Whole.{none, whole_in}
+use Rattle.kb_survey.specs.Whole.{no_batches, whole_in}
 use Rattle.kb_survey.specs.Snapshot.{snapshot_end}
 use Rattle.kb_start.specs.declared.left.Left.{Left}
 use Rattle.kb_start.specs.declared.losses.Loss.{Loss}
@@ -29,7 +29,7 @@ same_loss k u d e l t f = ap (λ table. of_both table e.files) t ∙ ap (of_both
         let bytes = unwrap_or (get files l.file) [] in
         let header = if is_in (keys table) l.file then header_in bytes else None in
         let start = start_of k.names k.starts header in
-        let whole = if is_in (keys table) l.file then whole_in start (drop (unwrap_or l.after 0) bytes) else none in
+        let whole = if is_in (keys table) l.file then whole_in start (drop (unwrap_or l.after 0) bytes) else no_batches in
         if is_dropped l && not (is_superseded u header) then (if nat_lt 0 whole.batches then record { file = l.file; header = header; whole = whole } ∷ [] else []) else []
 
 -- with one more file
@@ -121,7 +121,7 @@ same_loss_at k d e file place t f = ap (λ table. of_both table e.files) t ∙ a
         let bytes = unwrap_or (get files file) [] in
         let header = if is_in (keys table) file then header_in bytes else None in
         let start = start_of k.names k.starts header in
-        let whole = if is_in (keys table) file then whole_in start (drop place bytes) else none in
+        let whole = if is_in (keys table) file then whole_in start (drop place bytes) else no_batches in
         if nat_lt 0 whole.batches then record { file = file; header = header; whole = whole } ∷ [] else []
 
 same_above : (d e : Disk) (file place start : ℕ) → e.table ≡ d.table → e.files ≡ d.files → loss_above e file place start ≡ loss_above d file place start
@@ -131,7 +131,7 @@ same_above d e file place start t f = ap (λ table. of_both table e.files) t ∙
     of_both table files =
         let bytes = unwrap_or (get files file) [] in
         let header = if is_in (keys table) file then header_in bytes else None in
-        let whole = if is_in (keys table) file then whole_in start (drop place bytes) else none in
+        let whole = if is_in (keys table) file then whole_in start (drop place bytes) else no_batches in
         if nat_lt 0 whole.batches then record { file = file; header = header; whole = whole } ∷ [] else []
 
 same_end : (d e : Disk) (file place : ℕ) → e.table ≡ d.table → e.files ≡ d.files → end_at e file place ≡ end_at d file place

@@ -8,25 +8,25 @@ use Rattle.kb_segment.specs.Header.{Header, header_in}
 use Rattle.kb_survey.specs.Listed.{is_in}
 use Rattle.kb_batch.specs.Batch.{front}
 use Rattle.kb_batch.specs.BatchLaws.{batch_long, front_is}
-use Rattle.kb_survey.specs.Whole.{batches_in}
+use Rattle.kb_survey.specs.Whole.{batches_among}
 use Rattle.kb_survey.proofs.Found.{found_none, found_some}
 use Rattle.kb_topics.specs.declared.command.Command.{Command}
 use Rattle.kb_topics.specs.declared.command.MoveStart.{MoveStart}
-use Rattle.kb_replay.specs.Command.{Tells}
-use Rattle.kb_start.specs.Starts.{batches_at, batches_of, catalogs_of, header_at, is_any_catalogs, is_catalogs, with_start}
+use Rattle.kb_replay.specs.Command.{RecordsCommand}
+use Rattle.kb_start.specs.Starts.{batches_at, batches_of_files, catalogs_of, header_at, is_any_catalogs, is_catalogs, with_start}
 use Rattle.kb_start.specs.Starts.{AreRecorded, RecordsEach}
 
 long : (s b : List ℕ) → front s ≡ Some b → 1 ≤ length b
 long s b e = omega (arith, batch_long b (front_is s b e).is)
 
 -- where no batch stands in front
-pub recorded_none : (s : List ℕ) (before after : List MoveStart) → 0 < length s → front s ≡ None → RecordsEach (batches_in (drop 1 s)) before after
-    → RecordsEach (batches_in s) before after
+pub recorded_none : (s : List ℕ) (before after : List MoveStart) → 0 < length s → front s ≡ None → RecordsEach (batches_among (drop 1 s)) before after
+    → RecordsEach (batches_among s) before after
 recorded_none s before after l e h = subst (λ bs. RecordsEach bs before after) (sym (found_none long s l e)) h
 
 -- and where one does
-pub recorded_some : (s b : List ℕ) (command : Option Command) (before after : List MoveStart) → 0 < length s → front s ≡ Some b → Tells b command
-    → RecordsEach (batches_in (drop (length b) s)) (with_start before command) after → RecordsEach (batches_in s) before after
+pub recorded_some : (s b : List ℕ) (command : Option Command) (before after : List MoveStart) → 0 < length s → front s ≡ Some b → RecordsCommand b command
+    → RecordsEach (batches_among (drop (length b) s)) (with_start before command) after → RecordsEach (batches_among s) before after
 recorded_some s b command before after l e tells h = subst (λ bs. RecordsEach bs before after) (sym (found_some long s b l e)) (command, tells, h)
 
 -- some batches and then others
@@ -53,22 +53,22 @@ same_at d e tenant file t f = ap (λ table. of_both table e.files) t ∙ ap (of_
     of_both table files =
         let bytes = unwrap_or (get files file) [] in
         if is_catalogs tenant (if is_in (keys table) file then header_in bytes else None)
-        then batches_in (if is_in (keys table) file then bytes else []) else []
+        then batches_among (if is_in (keys table) file then bytes else []) else []
 
-same_of : (d e : Disk) (tenant : List ℕ) (files : List ℕ) → e.table ≡ d.table → e.files ≡ d.files → batches_of e tenant files ≡ batches_of d tenant files
+same_of : (d e : Disk) (tenant : List ℕ) (files : List ℕ) → e.table ≡ d.table → e.files ≡ d.files → batches_of_files e tenant files ≡ batches_of_files d tenant files
 same_of d e tenant [] t f = refl
-same_of d e tenant (x ∷ xs) t f = ap (λ bs. bs ++ batches_of e tenant xs) (same_at d e tenant x t f) ∙ ap (λ bs. batches_at d tenant x ++ bs) (same_of d e tenant xs t f)
+same_of d e tenant (x ∷ xs) t f = ap (λ bs. bs ++ batches_of_files e tenant xs) (same_at d e tenant x t f) ∙ ap (λ bs. batches_at d tenant x ++ bs) (same_of d e tenant xs t f)
 
 -- of one more file
 pub recorded_file : (d e : Disk) (tenant files : List ℕ) (i none : ℕ) (before mid after : List MoveStart)
     → i < length files → e.table ≡ d.table → e.files ≡ d.files → RecordsEach (batches_at e tenant (get_or files i none)) before mid
-    → RecordsEach (batches_of d tenant (drop (i + 1) files)) mid after → RecordsEach (batches_of d tenant (drop i files)) before after
+    → RecordsEach (batches_of_files d tenant (drop (i + 1) files)) mid after → RecordsEach (batches_of_files d tenant (drop i files)) before after
 recorded_file d e tenant files i none before mid after in_range t same h k =
     let file = get_or files i none in
     let rest = drop (i + 1) files in
     let is : drop i files ≡ file ∷ rest = rw (add-one, drop-cons files i none in_range) in
-    subst (λ xs. RecordsEach (batches_of d tenant xs) before after) (sym is)
-    (recorded_both (batches_at d tenant file) (batches_of d tenant rest) before mid after
+    subst (λ xs. RecordsEach (batches_of_files d tenant xs) before after) (sym is)
+    (recorded_both (batches_at d tenant file) (batches_of_files d tenant rest) before mid after
     (subst (λ bs. RecordsEach bs before mid) (same_at d e tenant file t same) h) k)
 
 -- ---- of all files, those of catalogs
@@ -113,35 +113,35 @@ none_else tenant (Some h) bs e =
     neither true = refl
     neither false = refl
 
-each_is : (d : Disk) (tenant files : List ℕ) → batches_of d tenant (catalogs_of d files) ≡ batches_of d tenant files
+each_is : (d : Disk) (tenant files : List ℕ) → batches_of_files d tenant (catalogs_of d files) ≡ batches_of_files d tenant files
 each_is d tenant [] = refl
 each_is d tenant (x ∷ xs) = each (is_any_catalogs (header_at d x)) refl (each_is d tenant xs)
   where
-    each : (b : Bool) → is_any_catalogs (header_at d x) ≡ b → batches_of d tenant (catalogs_of d xs) ≡ batches_of d tenant xs
-        → batches_of d tenant (cond b (x ∷ catalogs_of d xs) (catalogs_of d xs)) ≡ batches_at d tenant x ++ batches_of d tenant xs
+    each : (b : Bool) → is_any_catalogs (header_at d x) ≡ b → batches_of_files d tenant (catalogs_of d xs) ≡ batches_of_files d tenant xs
+        → batches_of_files d tenant (cond b (x ∷ catalogs_of d xs) (catalogs_of d xs)) ≡ batches_at d tenant x ++ batches_of_files d tenant xs
     each true e h = ap (λ bs. batches_at d tenant x ++ bs) h
     each false e h =
-        h ∙ ap (λ bs. bs ++ batches_of d tenant xs)
-        (sym (none_else tenant (header_at d x) (batches_in (if is_in (keys d.table) x then bytes_of d x else [])) e))
+        h ∙ ap (λ bs. bs ++ batches_of_files d tenant xs)
+        (sym (none_else tenant (header_at d x) (batches_among (if is_in (keys d.table) x then bytes_of d x else [])) e))
 
 each_of : (d e : Disk) (tenant listed cs : List ℕ) → e.table ≡ d.table → e.files ≡ d.files → listed ≡ keys e.table
-    → cs ≡ catalogs_of d listed → batches_of e tenant cs ≡ batches_of e tenant (keys e.table)
+    → cs ≡ catalogs_of d listed → batches_of_files e tenant cs ≡ batches_of_files e tenant (keys e.table)
 each_of d e tenant listed cs t f is found =
-    ap (batches_of e tenant) (found ∙ sym (same_catalogs d e listed t f)) ∙ each_is e tenant listed ∙ ap (batches_of e tenant) is
+    ap (batches_of_files e tenant) (found ∙ sym (same_catalogs d e listed t f)) ∙ each_is e tenant listed ∙ ap (batches_of_files e tenant) is
 
 -- and of one more tenant, on the disk as it is now
 pub recorded_tenant : {A B : Type 0} (d e : Disk) (name : A → List ℕ) (f : B → List MoveStart) (tenants : List A) (i : ℕ) (none : A)
     (known next : List B) (of : B) → i < length tenants → e.table ≡ d.table → e.files ≡ d.files
-    → RecordsEach (batches_of e (name (get_or tenants i none)) (keys e.table)) [] (f of) → next ≡ known ++ of ∷ []
+    → RecordsEach (batches_of_files e (name (get_or tenants i none)) (keys e.table)) [] (f of) → next ≡ known ++ of ∷ []
     → ((more : List (List MoveStart)) → AreRecorded d (map name (drop i tenants)) more → AreRecorded d (map name tenants) (map f known ++ more))
     → (more : List (List MoveStart)) → AreRecorded d (map name (drop (i + 1) tenants)) more → AreRecorded d (map name tenants) (map f next ++ more)
 recorded_tenant d e name f tenants i none known next of in_range t files h pushed-is told more k =
     let tenant = get_or tenants i none in
     let rest = drop (i + 1) tenants in
     let is : drop i tenants ≡ tenant ∷ rest = rw (add-one, drop-cons tenants i none in_range) in
-    let here : RecordsEach (batches_of d (name tenant) (keys d.table)) [] (f of) =
+    let here : RecordsEach (batches_of_files d (name tenant) (keys d.table)) [] (f of) =
     subst (λ bs. RecordsEach bs [] (f of))
-    (ap (λ table. batches_of e (name tenant) (keys table)) t ∙ same_of d e (name tenant) (keys d.table) t files) h in
+    (ap (λ table. batches_of_files e (name tenant) (keys table)) t ∙ same_of d e (name tenant) (keys d.table) t files) h in
     let both : AreRecorded d (map name (drop i tenants)) (f of ∷ more) = subst (λ xs. AreRecorded d (map name xs) (f of ∷ more)) (sym is) (here, k) in
     subst (λ all. AreRecorded d (map name tenants) (map f all ++ more)) (sym pushed-is)
     (recorded_next d f (map name tenants) known of more (told (f of ∷ more) both))
@@ -150,7 +150,7 @@ recorded_tenant d e name f tenants i none known next of in_range t files h pushe
 pub recorded_among : {A B : Type 0} (d e : Disk) (name : A → List ℕ) (f : B → List MoveStart) (listed cs : List ℕ)
     (tenants : List A) (i : ℕ) (none : A) (known next : List B) (of : B) → listed ≡ keys e.table → cs ≡ catalogs_of d listed
     → i < length tenants → e.table ≡ d.table → e.files ≡ d.files
-    → RecordsEach (batches_of e (name (get_or tenants i none)) cs) [] (f of) → next ≡ known ++ of ∷ []
+    → RecordsEach (batches_of_files e (name (get_or tenants i none)) cs) [] (f of) → next ≡ known ++ of ∷ []
     → ((more : List (List MoveStart)) → AreRecorded d (map name (drop i tenants)) more → AreRecorded d (map name tenants) (map f known ++ more))
     → (more : List (List MoveStart)) → AreRecorded d (map name (drop (i + 1) tenants)) more → AreRecorded d (map name tenants) (map f next ++ more)
 recorded_among d e name f listed cs tenants i none known next of is found in_range t files h pushed-is told more k =
@@ -164,8 +164,8 @@ same_recorded d e [] [] t f h = h
 same_recorded d e [] (of ∷ starts) t f h = h
 same_recorded d e (tenant ∷ tenants) [] t f h = h
 same_recorded d e (tenant ∷ tenants) (of ∷ starts) t f h =
-    let same : batches_of e tenant (keys e.table) ≡ batches_of d tenant (keys d.table) =
-    ap (λ table. batches_of e tenant (keys table)) t ∙ same_of d e tenant (keys d.table) t f in
+    let same : batches_of_files e tenant (keys e.table) ≡ batches_of_files d tenant (keys d.table) =
+    ap (λ table. batches_of_files e tenant (keys table)) t ∙ same_of d e tenant (keys d.table) t f in
     (subst (λ bs. RecordsEach bs [] of) same h.0, same_recorded d e tenants starts t f h.1)
 
 pub found_again : (d e : Disk) (listed cs : List ℕ) → e.table ≡ d.table → e.files ≡ d.files → cs ≡ catalogs_of d listed → cs ≡ catalogs_of e listed

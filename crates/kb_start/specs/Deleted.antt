@@ -35,14 +35,14 @@ deleted_among cs d files = filter (λ file. is_deleted cs (header_at d file)) fi
 -- ---- files that are removed
 
 -- the numbers and lengths, or the files, without some
-abbrev pub without : {X : Type 0} → List ℕ → FinMap nat_cmp X → FinMap nat_cmp X
-without [] m = m
-without (file ∷ files) m = without files (remove m file)
+abbrev pub without_files : {X : Type 0} → List ℕ → FinMap nat_cmp X → FinMap nat_cmp X
+without_files [] m = m
+without_files (file ∷ files) m = without_files files (remove m file)
 
 -- the first ones are gone, and all else is as it was
-abbrev pub Leaves : ℕ → List ℕ → Disk → Disk → Type 0
-Leaves count files d e = Becomes d (without (take count files) d.table) (without (take count files) d.files) e
+abbrev pub DeletesFirst : ℕ → List ℕ → Disk → Disk → Type 0
+DeletesFirst count files d e = Becomes d (without_files (take count files) d.table) (without_files (take count files) d.files) e
 
 -- some first ones are
 abbrev pub LeavesBehind : List ℕ → Disk → Disk → Type 0
-LeavesBehind files d e = (count : ℕ) × (count ≤ length files) × Leaves count files d e
+LeavesBehind files d e = (count : ℕ) × (count ≤ length files) × DeletesFirst count files d e

@@ -44,13 +44,14 @@ is_lost (l ∷ ls) o = are_of_one l.header o || is_lost ls o
 abbrev pub bytes_behind : Disk → ℕ → ℕ → List ℕ
 bytes_behind d file place = drop place (if is_in (keys d.table) file then bytes_of d file else [])
 
--- what an opening drops of a file, if it loses whole batches of its log
-abbrev pub part_of : List Loss → Disk → Left → List Part
-part_of losses d l =
+-- what an opening drops of a file, if it loses whole batches of its log, or the file is one of some that lose a damaged one
+abbrev pub dropped_part : List Loss → List ℕ → Disk → Left → List Part
+dropped_part losses damaged d l =
     let place = unwrap_or l.after 0 in
-    if is_dropped l && is_lost losses (header_at d l.file) then part l.file place (bytes_behind d l.file place) ∷ [] else []
+    if is_dropped l && (is_lost losses (header_at d l.file) || is_in damaged l.file)
+    then part l.file place (bytes_behind d l.file place) ∷ [] else []
 
 -- the same of some files
-abbrev pub parts_of : List Loss → Disk → List Left → List Part
-parts_of losses d [] = []
-parts_of losses d (l ∷ ls) = part_of losses d l ++ parts_of losses d ls
+abbrev pub parts_of : List Loss → List ℕ → Disk → List Left → List Part
+parts_of losses damaged d [] = []
+parts_of losses damaged d (l ∷ ls) = dropped_part losses damaged d l ++ parts_of losses damaged d ls

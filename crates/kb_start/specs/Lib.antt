@@ -1,4 +1,5 @@
 pub mod Aside
+pub mod Damaged
 pub mod Deleted
 pub mod Kept
 pub mod Left

@@ -8,11 +8,11 @@ use Rattle.kb_store.specs.Disk.{Disk, bytes_of}
 use Rattle.kb_batch.specs.Batch.{is_natural, natural}
 use Rattle.kb_segment.specs.Header.{Header, header_in}
 use Rattle.kb_survey.specs.Listed.{is_in}
-use Rattle.kb_survey.specs.Whole.{batches_in}
+use Rattle.kb_survey.specs.Whole.{batches_among}
 use Rattle.kb_topics.specs.declared.command.Command.{Command}
 use Rattle.kb_topics.specs.declared.command.Command.TheVariants.{Start}
 use Rattle.kb_topics.specs.declared.command.MoveStart.{MoveStart}
-use Rattle.kb_replay.specs.Command.{Tells}
+use Rattle.kb_replay.specs.Command.{RecordsCommand}
 
 -- what a file's header says, where it can be read
 abbrev pub header_at : Disk → ℕ → Option Header
@@ -27,7 +27,7 @@ with_start starts command = starts
 -- Behind some starts come those that the batches record, one after another.
 abbrev pub RecordsEach : List (List ℕ) → List MoveStart → List MoveStart → Type 0
 RecordsEach [] before after = after ≡ before
-RecordsEach (b ∷ bs) before after = (command : Option Command) × Tells b command × RecordsEach bs (with_start before command) after
+RecordsEach (b ∷ bs) before after = (command : Option Command) × RecordsCommand b command × RecordsEach bs (with_start before command) after
 
 abbrev pub is_catalogs : List ℕ → Option Header → Bool
 is_catalogs tenant None = false
@@ -36,12 +36,12 @@ is_catalogs tenant (Some h) = bytes_eq h.tenant tenant && is_natural 1 h.kind
 -- the whole batches of a file, if it is of the tenant's catalog
 abbrev pub batches_at : Disk → List ℕ → ℕ → List (List ℕ)
 batches_at d tenant file =
-    if is_catalogs tenant (header_at d file) then batches_in (if is_in (keys d.table) file then bytes_of d file else []) else []
+    if is_catalogs tenant (header_at d file) then batches_among (if is_in (keys d.table) file then bytes_of d file else []) else []
 
 -- the same of some files
-abbrev pub batches_of : Disk → List ℕ → List ℕ → List (List ℕ)
-batches_of d tenant [] = []
-batches_of d tenant (file ∷ files) = batches_at d tenant file ++ batches_of d tenant files
+abbrev pub batches_of_files : Disk → List ℕ → List ℕ → List (List ℕ)
+batches_of_files d tenant [] = []
+batches_of_files d tenant (file ∷ files) = batches_at d tenant file ++ batches_of_files d tenant files
 
 -- a header is that of a catalog
 abbrev pub is_any_catalogs : Option Header → Bool
@@ -57,15 +57,15 @@ abbrev pub AreRecorded : Disk → List (List ℕ) → List (List MoveStart) → 
 AreRecorded d [] [] = Unit {0}
 AreRecorded d [] (of ∷ starts) = ⊥
 AreRecorded d (tenant ∷ tenants) [] = ⊥
-AreRecorded d (tenant ∷ tenants) (of ∷ starts) = RecordsEach (batches_of d tenant (keys d.table)) [] of × AreRecorded d tenants starts
+AreRecorded d (tenant ∷ tenants) (of ∷ starts) = RecordsEach (batches_of_files d tenant (keys d.table)) [] of × AreRecorded d tenants starts
 
 -- ---- the start of a partition
 
-abbrev pub is_of : ℤ → ℤ → MoveStart → Bool
-is_of instance partition s = int_eq s.instance instance && int_eq s.partition partition
+abbrev pub is_start_of : ℤ → ℤ → MoveStart → Bool
+is_start_of instance partition s = int_eq s.instance instance && int_eq s.partition partition
 
 abbrev pub start_among : ℤ → ℤ → ℕ → MoveStart → ℕ
-start_among instance partition greatest s = if is_of instance partition s then max greatest (natural s.offset) else greatest
+start_among instance partition greatest s = if is_start_of instance partition s then max greatest (natural s.offset) else greatest
 
 abbrev pub greatest_with : ℤ → ℤ → ℕ → List MoveStart → ℕ
 greatest_with instance partition greatest [] = greatest

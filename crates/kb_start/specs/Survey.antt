@@ -11,7 +11,7 @@ use Rattle.kb_survey.specs.declared.stray.Stray.{Stray}
 use Rattle.kb_survey.specs.declared.stray.Stray.TheVariants.{Unfinished, Unreadable}
 use Rattle.kb_survey.specs.Listed.{is_in}
 use Rattle.kb_survey.specs.Snapshot.{snapshot_end}
-use Rattle.kb_survey.specs.Whole.{none, whole_in}
+use Rattle.kb_survey.specs.Whole.{no_batches, whole_in}
 use Rattle.kb_survey.specs.Stray.{is_unfit, stray_of}
 use Rattle.kb_start.specs.declared.left.Left.{Left}
 use Rattle.kb_start.specs.declared.losses.Loss.{Loss}
@@ -23,7 +23,7 @@ use Rattle.kb_start.specs.Starts.{header_at, start_of}
 
 -- the whole batches that stand in a file from a place on and end above a start, where it is there
 abbrev pub whole_at : Disk → ℕ → ℕ → ℕ → Whole
-whole_at d file place start = if is_in (keys d.table) file then whole_in start (drop place (bytes_of d file)) else none
+whole_at d file place start = if is_in (keys d.table) file then whole_in start (drop place (bytes_of d file)) else no_batches
 
 abbrev pub loss_above : Disk → ℕ → ℕ → ℕ → List Loss
 loss_above d file place start =

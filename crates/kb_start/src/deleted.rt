@@ -4,7 +4,7 @@ ghost use Rattle.std.specs.Prelude.{◌≡◌, ◌==◌, ◌++◌, ◌∷◌, []
 ghost use Rattle.std.specs.FinMap.{keys};
 ghost use Rattle.std.specs.List.{filter};
 ghost use Rattle.kb_store.specs.Disk.{HasCause, Keeps, Removes};
-ghost use Rattle.kb_start.specs.Deleted.{any_deleted, deleted_among, is_deleted, was_deleted, Leaves, LeavesBehind};
+ghost use Rattle.kb_start.specs.Deleted.{any_deleted, deleted_among, is_deleted, was_deleted, DeletesFirst, LeavesBehind};
 ghost use Rattle.kb_start.specs.Starts.{header_at};
 
 use crate::losses::count;
@@ -140,7 +140,7 @@ fn was_deleted<L: PartitionLog>(of: &CatalogOf<'_, L>, header: &SegmentHeader) -
 
 /// Removes files, as far as they are there, the first one first. After a refusal some first ones may be gone.
 pub fn remove_files<S: Store>(alloc: Global, store: &mut S, files: &[u64]) -> Result<(), StoreFault>
-    ensures removed { OnOk result (Leaves (length files.now) files.now (S.disk store.old) (S.disk store.new)) }
+    ensures removed { OnOk result (DeletesFirst (length files.now) files.now (S.disk store.old) (S.disk store.new)) }
     ensures refused { OnErr result (LeavesBehind files.now (S.disk store.old) (S.disk store.new)) }
     ensures cause { HasCause (S.disk store.old) result (S.disk store.new) }
 {

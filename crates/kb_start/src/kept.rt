@@ -3,13 +3,13 @@
 ghost use Rattle.std.specs.Prelude.{◌≡◌, ◌++◌, [], ◌∷◌, true, List, Bool, option_copied, IfOk, OnOk};
 ghost use Rattle.std.specs.FinMap.{keys};
 ghost use Rattle.kb_store.specs.Disk.{Keeps};
-ghost use Rattle.kb_start.specs.Kept.{are_of_one, is_lost, is_one_kind, is_one_log, is_one_partition, part, part_of, parts_of, Part};
+ghost use Rattle.kb_start.specs.Kept.{are_of_one, is_lost, is_one_kind, is_one_log, is_one_partition, part, dropped_part, parts_of, Part};
 
 use crate::left::Left;
 use crate::losses::{Loss, Opened};
 use kb_segment::SegmentHeader;
 use kb_store::{Store, StoreFault};
-use kb_survey::{bytes_among, header_among};
+use kb_survey::{header_among, tail_among};
 use std::alloc::Global;
 
 /// Why parts of files are not kept.
@@ -50,21 +50,22 @@ pub trait Keeper {
         ensures honest { is_honest self.new ≡ true → is_honest self.old ≡ true };
 }
 
-/// Keeps what an opening drops of the logs that it would lose whole batches of: of each file the bytes from the first one that is dropped
-/// to the end. The store is only read.
+/// Keeps what an opening drops of the logs that it would lose whole batches of, and of those files that lose a damaged one: of each file
+/// the bytes from the first one that is dropped to the end. The store is only read.
 pub fn keep_dropped<S: Store, K: Keeper>(
     alloc: Global,
     store: &mut S,
     opened: &Opened<'_>,
     losses: &[Loss],
+    damaged: &[u64],
     keeper: &mut K,
 ) -> Result<(), KeepFault>
     ensures kept { IfOk result (λ _. (S.disk store.new).honest → K.is_honest keeper.new ≡ true
-        → K.kept keeper.new ≡ K.kept keeper.old ++ parts_of losses.now (S.disk store.old) opened.now.files.now) }
+        → K.kept keeper.new ≡ K.kept keeper.old ++ parts_of losses.now damaged.now (S.disk store.old) opened.now.files.now) }
     ensures unchanged { Keeps (S.disk store.old) (S.disk store.new) }
 {
     let listed = store.list(alloc)?;
-    keep_files(alloc, store, &listed, opened.files, losses, keeper)?;
+    keep_files(alloc, store, &listed, opened.files, losses, damaged, keeper)?;
     Ok(())
 }
 
@@ -75,15 +76,16 @@ fn keep_files<S: Store, K: Keeper>(
     listed: &[u64],
     files: &[Left],
     losses: &[Loss],
+    damaged: &[u64],
     keeper: &mut K,
 ) -> Result<(), KeepFault>
     requires { listed.now ≡ keys (S.disk store.old).table }
     ensures kept { IfOk result (λ _. (S.disk store.new).honest → K.is_honest keeper.new ≡ true
-        → K.kept keeper.new ≡ K.kept keeper.old ++ parts_of losses.now (S.disk store.old) files.now) }
+        → K.kept keeper.new ≡ K.kept keeper.old ++ parts_of losses.now damaged.now (S.disk store.old) files.now) }
     ensures unchanged { Keeps (S.disk store.old) (S.disk store.new) }
 {
     for file in files {
-        keep_file(alloc, store, listed, file, losses, keeper)?;
+        keep_file(alloc, store, listed, file, losses, damaged, keeper)?;
     }
     Ok(())
 }
@@ -95,11 +97,12 @@ fn keep_file<S: Store, K: Keeper>(
     listed: &[u64],
     file: &Left,
     losses: &[Loss],
+    damaged: &[u64],
     keeper: &mut K,
 ) -> Result<(), KeepFault>
     requires { listed.now ≡ keys (S.disk store.old).table }
     ensures kept { IfOk result (λ _. (S.disk store.new).honest → K.is_honest keeper.new ≡ true
-        → K.kept keeper.new ≡ K.kept keeper.old ++ part_of losses.now (S.disk store.old) file.now) }
+        → K.kept keeper.new ≡ K.kept keeper.old ++ dropped_part losses.now damaged.now (S.disk store.old) file.now) }
     ensures honest { K.is_honest keeper.new ≡ true → K.is_honest keeper.old ≡ true }
     ensures unchanged { Keeps (S.disk store.old) (S.disk store.new) }
 {
@@ -107,13 +110,12 @@ fn keep_file<S: Store, K: Keeper>(
         return Ok(());
     }
     let header = header_among(alloc, store, listed, file.file)?;
-    if !is_lost(losses, header.as_ref()) {
+    if !is_lost(losses, header.as_ref()) && !damaged.contains(&file.file) {
         return Ok(());
     }
     let place = file.after.unwrap_or(0);
-    let bytes = bytes_among(alloc, store, listed, file.file)?;
-    let from = place.min(bytes.len() as u64) as usize;
-    keeper.keep(file.file, place, &bytes[from..])?;
+    let bytes = tail_among(alloc, store, listed, file.file, place)?;
+    keeper.keep(file.file, place, &bytes)?;
     Ok(())
 }
 

@@ -3,9 +3,9 @@
 ghost use Rattle.std.specs.Prelude.{◌≡◌, ◌≤◌, ◌<◌, ◌++◌, [], ◌∷◌, List, length, drop, map, option_copied, if◌then◌else◌, IfOk};
 ghost use Rattle.std.specs.FinMap.{keys};
 ghost use Rattle.kb_store.specs.Disk.{HasCause, Keeps};
-ghost use Rattle.kb_survey.specs.Whole.{batches_in};
+ghost use Rattle.kb_survey.specs.Whole.{batches_among};
 ghost use Rattle.kb_topics.specs.declared.command.MoveStart.{MoveStart};
-ghost use Rattle.kb_start.specs.Starts.{batches_at, batches_of, catalogs_of, greatest_start, header_at, is_any_catalogs, is_catalogs};
+ghost use Rattle.kb_start.specs.Starts.{batches_at, batches_of_files, catalogs_of, greatest_start, header_at, is_any_catalogs, is_catalogs};
 ghost use Rattle.kb_start.specs.Starts.{start_among, start_of, starts_named};
 ghost use Rattle.kb_start.specs.Starts.{with_start, AreRecorded, RecordsEach};
 
@@ -105,7 +105,7 @@ fn starts_of<S: Store>(
 ) -> Result<Vec<MoveStart>, StoreFault>
     requires { listed.now ≡ keys (S.disk store.old).table }
     ensures starts { IfOk result (λ starts. (S.disk store.new).honest
-        → RecordsEach (batches_of (S.disk store.old) tenant.now files.now) [] starts.items) }
+        → RecordsEach (batches_of_files (S.disk store.old) tenant.now files.now) [] starts.items) }
     ensures unchanged { Keeps (S.disk store.old) (S.disk store.new) }
     ensures cause { HasCause (S.disk store.old) result (S.disk store.new) }
 {
@@ -151,7 +151,7 @@ fn is_catalogs(tenant: &str, header: Option<&SegmentHeader>) -> bool
 
 /// Adds the starts that the whole batches of some bytes record.
 fn add_starts(alloc: Global, bytes: &[u8], starts: &mut Vec<MoveStart>) -> Result<(), AllocError>
-    ensures { IfOk result (λ _. RecordsEach (batches_in bytes.now) starts.old.items starts.new.items) }
+    ensures { IfOk result (λ _. RecordsEach (batches_among bytes.now) starts.old.items starts.new.items) }
 {
     let mut rest = bytes;
     while !rest.is_empty() {
@@ -167,8 +167,9 @@ fn add_first(alloc: Global, bytes: &[u8], starts: &mut Vec<MoveStart>) -> Result
     requires { 0 < length bytes.now }
     ensures some { IfOk result (λ size. 1 ≤ size) }
     ensures within { IfOk result (λ size. size ≤ length bytes.now) }
-    ensures starts { IfOk result (λ size. (after : List MoveStart) → RecordsEach (batches_in (drop size bytes.now)) starts.new.items after
-        → RecordsEach (batches_in bytes.now) starts.old.items after) }
+    ensures starts { IfOk result (λ size. (after : List MoveStart)
+        → RecordsEach (batches_among (drop size bytes.now)) starts.new.items after
+        → RecordsEach (batches_among bytes.now) starts.old.items after) }
 {
     let Some(batch) = BatchView::in_front(bytes) else {
         return Ok(1);

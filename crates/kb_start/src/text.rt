@@ -74,19 +74,30 @@ pub fn stray_text(alloc: Global, path: &str, strays: &StrayCounts) -> Result<Str
     Ok(text)
 }
 
-/// What an opening drops of a file, of whose generation of a catalog a greater one may have taken the place.
-pub fn drop_text(alloc: Global, left: &Left, is_replaced: bool) -> Result<String, AllocError> {
+/// What an opening drops of a file, of whose generation of a catalog a greater one may have taken the place, or which may lose a damaged
+/// batch.
+pub fn drop_text(
+    alloc: Global,
+    left: &Left,
+    is_replaced: bool,
+    is_damaged: bool,
+) -> Result<String, AllocError> {
     let (file, before) = (left.file, left.before);
+    let mark = if is_damaged {
+        ", maybe with a damaged batch"
+    } else {
+        ""
+    };
     match left.after {
         Some(after) => {
             let bytes = before.saturating_sub(after);
-            format!(in alloc; "dropped file {file}: {bytes} bytes behind the end of its log")
+            format!(in alloc; "dropped file {file}: {bytes} bytes behind the end of its log{mark}")
         }
         None if is_replaced => format!(in alloc;
             "dropped file {file} whole, {before} bytes: a snapshot took the place of this part of a catalog"
         ),
         None => format!(in alloc;
-            "dropped file {file} whole, {before} bytes: nothing in it is of its log"
+            "dropped file {file} whole, {before} bytes: nothing in it is of its log{mark}"
         ),
     }
 }

@@ -84,11 +84,11 @@ module _ {X : Type 0} where
   sorted_where : (p : ℕ → Bool) (m : FinMap nat_cmp X) → T (is_sorted nat_cmp (where_key nat_cmp p (entries m)))
   sorted_where p m = is_sorted-where_key nat_cmp p (entries m) (entries_sorted m)
 
-  keys_where_number : (p : ℕ → Bool) (m : FinMap nat_cmp X) → fin.keys (where_number p m) ≡ filter p (fin.keys m)
+  pub keys_where_number : (p : ℕ → Bool) (m : FinMap nat_cmp X) → fin.keys (where_number p m) ≡ filter p (fin.keys m)
   unfolding where_number
   keys_where_number p m = ap (map (λ (e : ℕ × X). e.0)) (entries-from_sorted nat_cmp (where_key nat_cmp p (entries m)) (sorted_where p m)) ∙ keys_where p (entries m)
 
-  get_where : (p : ℕ → Bool) (m : FinMap nat_cmp X) (q : ℕ) → get (where_number p m) q ≡ cond (p q) (get m q) None
+  pub get_where : (p : ℕ → Bool) (m : FinMap nat_cmp X) (q : ℕ) → get (where_number p m) q ≡ cond (p q) (get m q) None
   unfolding where_number
   get_where p m q =
       get-from_sorted nat_cmp (where_key nat_cmp p (entries m)) q (sorted_where p m)

@@ -5,7 +5,7 @@ use Rattle.kb_store.specs.Disk.{Disk, Files}
 use Rattle.kb_store.specs.Loss.{Loss, Goes, Same}
 use Rattle.kb_store.specs.LossLaws.{stays_goes}
 use Rattle.kb_survey.specs.Changes.{disk_after}
-use Rattle.kb_survey.specs.Lost.{IsLater, anything, later, loss_of, loss_with}
+use Rattle.kb_survey.specs.Lost.{IsMomentLater, anything, later, loss_of, loss_with}
 use Rattle.kb_survey.specs.Postponed.{HasMade, IsUntouched, Postponing, postponing}
 use Rattle.kb_survey.specs.declared.change.Change.{Change}
 
@@ -27,7 +27,7 @@ later_goes step old new g = record {
   keeps = λ t found le h one. g.keeps (t - 1) found (omega (arith, le)) (h one);
 }
 
-pub later_is : (l : Loss) → IsLater l (later l)
+pub later_is : (l : Loss) → IsMomentLater l (later l)
 later_is l = record {
   leaves = λ found h. h;
   all = λ found h. h;
@@ -40,10 +40,10 @@ later_is l = record {
     back t = omega arith
 
 -- once nothing is put off
-pub made_is : {S : Type 0} (inner : S → Loss) (s : Postponing S) → HasMade s → IsLater (inner s.store) (loss_with inner s)
+pub made_is : {S : Type 0} (inner : S → Loss) (s : Postponing S) → HasMade s → IsMomentLater (inner s.store) (loss_with inner s)
 made_is inner s made =
-    subst (λ w. IsLater (inner s.store) (loss_of w s.put_off (inner s.store))) (sym made.waits)
-    (subst (λ cs. IsLater (inner s.store) (loss_of false cs (inner s.store))) (sym made.none) (later_is (inner s.store)))
+    subst (λ w. IsMomentLater (inner s.store) (loss_of w s.put_off (inner s.store))) (sym made.waits)
+    (subst (λ cs. IsMomentLater (inner s.store) (loss_of false cs (inner s.store))) (sym made.none) (later_is (inner s.store)))
 
 -- ---- after anything
 

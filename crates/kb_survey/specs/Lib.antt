@@ -1,4 +1,5 @@
 pub mod Changes
+pub mod Ending
 pub mod Listed
 pub mod Lost
 pub mod Postponed

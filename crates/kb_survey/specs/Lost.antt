@@ -24,7 +24,7 @@ abbrev pub loss_with : {S : Type 0} → (S → Loss) → Postponing S → Loss
 loss_with inner s = loss_of s.waits s.put_off (inner s.store)
 
 -- The same is left, each moment one later.
-pub record IsLater (old new : Loss) : Type 0 where
+pub record IsMomentLater (old new : Loss) : Type 0 where
   pub leaves : (found : Files) → new.leaves found → old.leaves found
   pub all : (found : Files) → old.leaves found → new.leaves found
   pub moment : new.moment ≡ old.moment + 1

@@ -11,14 +11,14 @@ going_on None find s = find (drop 1 s)
 going_on (Some b) find s = b ∷ find (drop (length b) s)
 
 -- in so many steps at most
-abbrev pub found_in : ℕ → List ℕ → List (List ℕ)
-found_in zero s = []
-found_in (suc n) [] = []
-found_in (suc n) (x ∷ s) = going_on (front (x ∷ s)) (found_in n) (x ∷ s)
+abbrev pub batches_within : ℕ → List ℕ → List (List ℕ)
+batches_within zero s = []
+batches_within (suc n) [] = []
+batches_within (suc n) (x ∷ s) = going_on (front (x ∷ s)) (batches_within n) (x ∷ s)
 
 -- The batches that stand in the bytes, one behind another, with any other bytes between them.
-abbrev pub batches_in : List ℕ → List (List ℕ)
-batches_in s = found_in (length s) s
+abbrev pub batches_among : List ℕ → List (List ℕ)
+batches_among s = batches_within (length s) s
 
 -- a record of the batch has that offset or a higher one
 abbrev pub ends_above : ℕ → List ℕ → Bool
@@ -29,10 +29,10 @@ whole_of bs = record { batches = length bs; bytes = length (concat bs) }
 
 -- How many of them end above a log's start, and how many bytes those have.
 abbrev pub whole_in : ℕ → List ℕ → Whole
-whole_in start s = whole_of (filter (ends_above start) (batches_in s))
+whole_in start s = whole_of (filter (ends_above start) (batches_among s))
 
 abbrev pub together : Whole → Whole → Whole
 together a b = record { batches = a.batches + b.batches; bytes = a.bytes + b.bytes }
 
-abbrev pub none : Whole
-none = record { batches = 0; bytes = 0 }
+abbrev pub no_batches : Whole
+no_batches = record { batches = 0; bytes = 0 }

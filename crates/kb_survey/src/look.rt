@@ -1,12 +1,12 @@
 //! What files say that are there to be read.
 ghost use Rattle.std.specs.Prelude.{◌≡◌, [], drop, map, None, Some, if◌then◌else◌, IfOk};
 ghost use Rattle.std.specs.FinMap.{keys};
-ghost use Rattle.kb_store.specs.Disk.{bytes_of, HasCause, Keeps};
+ghost use Rattle.kb_store.specs.Disk.{bytes_of, HasCause, IsThere, Keeps};
 ghost use Rattle.kb_segment.specs.Header.{header_in};
 ghost use Rattle.kb_survey.specs.Listed.{is_in};
 ghost use Rattle.kb_survey.specs.Stray.{stray_of};
 ghost use Rattle.kb_survey.specs.Snapshot.{snapshot_end};
-ghost use Rattle.kb_survey.specs.Whole.{none, whole_in};
+ghost use Rattle.kb_survey.specs.Whole.{no_batches, whole_in};
 
 use crate::snapshot::snapshot_end;
 use crate::stray::{Stray, read_stray};
@@ -80,6 +80,47 @@ pub fn bytes_among<S: Store>(
     read_file(alloc, store, file)
 }
 
+/// The bytes of a file from a place on, by the numbers of all that are there: none where the file is not there, or no longer than that.
+/// Room is asked for by how many these are, which the store answers.
+#[tactic(auto, using(crate::proofs::Listed::is_there))]
+pub fn tail_among<S: Store>(
+    alloc: Global,
+    store: &mut S,
+    listed: &[u64],
+    file: u64,
+    place: u64,
+) -> Result<Vec<u8>, StoreFault>
+    requires { listed.now ≡ keys (S.disk store.old).table }
+    ensures bytes { IfOk result (λ bytes. (S.disk store.new).honest
+        → bytes.items ≡ drop place (if is_in listed.now file then bytes_of (S.disk store.old) file else [])) }
+    ensures unchanged { Keeps (S.disk store.old) (S.disk store.new) }
+    ensures cause { HasCause (S.disk store.old) result (S.disk store.new) }
+{
+    if listed.contains(&file) {
+        return read_tail(alloc, store, file, place);
+    }
+    Ok(Vec::new(alloc))
+}
+
+/// The bytes of a file from a place on.
+fn read_tail<S: Store>(
+    alloc: Global,
+    store: &mut S,
+    file: u64,
+    place: u64,
+) -> Result<Vec<u8>, StoreFault>
+    requires { IsThere (S.disk store.old) file }
+    ensures bytes { IfOk result (λ bytes. (S.disk store.new).honest → bytes.items ≡ drop place (bytes_of (S.disk store.old) file)) }
+    ensures unchanged { Keeps (S.disk store.old) (S.disk store.new) }
+    ensures cause { HasCause (S.disk store.old) result (S.disk store.new) }
+{
+    let len = store.len(file)?;
+    let from = place.min(len);
+    let mut bytes = vec![in alloc; 0u8; (len - from) as usize]?;
+    store.read_at(file, from, &mut bytes)?;
+    Ok(bytes)
+}
+
 /// The whole batches that stand in a file from a place on and end above a start, by the numbers of all that are there: none where the
 /// file is not there, or no longer than that. Room is asked for by the file's length, which the store answers.
 #[tactic(auto, using(crate::proofs::Listed::is_there))]
@@ -93,7 +134,7 @@ pub fn whole_among<S: Store>(
 ) -> Result<Whole, StoreFault>
     requires { listed.now ≡ keys (S.disk store.old).table }
     ensures whole { IfOk result (λ whole. (S.disk store.new).honest
-        → whole ≡ (if is_in listed.now file then whole_in start (drop place (bytes_of (S.disk store.old) file)) else none)) }
+        → whole ≡ (if is_in listed.now file then whole_in start (drop place (bytes_of (S.disk store.old) file)) else no_batches)) }
     ensures unchanged { Keeps (S.disk store.old) (S.disk store.new) }
     ensures cause { HasCause (S.disk store.old) result (S.disk store.new) }
 {

@@ -1,6 +1,6 @@
 use Rattle.std.proofs.Common.{◌≡◌, ◌≤◌}
 use Rattle.std.specs.FinMap.{keys}
-use Rattle.kb_start.specs.Deleted.{Leaves}
+use Rattle.kb_start.specs.Deleted.{DeletesFirst}
 use Rattle.kb_start.proofs.deleted.remove_files.Given as goal
 
 -- the files so far are gone
@@ -11,5 +11,5 @@ invariant-loop-file g l =
     record {
       listed : l.listed.items ≡ keys now.table;
       later : old.failures ≤ now.failures;
-      gone : Leaves l.file-index l.files old now;
+      gone : DeletesFirst l.file-index l.files old now;
     }

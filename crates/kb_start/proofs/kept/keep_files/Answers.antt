@@ -15,7 +15,7 @@ loop-file-preserved g c =
       unchanged = kept_twice (disk c.args.store.now) (disk c.loop-file.store) (disk c.keep_file.new.store) i.unchanged same;
       told = λ honest is.
           let before = same.honest honest in
-          kept_next c.args.losses.now (disk c.args.store.now) (disk c.loop-file.store) c.args.files.now c.loop-file.file-index _
+          kept_next c.args.losses.now c.args.damaged.now (disk c.args.store.now) (disk c.loop-file.store) c.args.files.now c.loop-file.file-index _
           (kept c.loop-file.keeper) (kept c.keep_file.new.keeper) _ c.loop-file-test.true
           i.unchanged.table (i.unchanged.files before) (c.in_ok-keep_file.ensures.kept honest is)
           (i.told before (c.keep_file.ensures.honest is));

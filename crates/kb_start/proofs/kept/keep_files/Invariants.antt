@@ -12,6 +12,6 @@ invariant-loop-file g l =
     record {
       listed : l.listed ≡ keys now.table;
       unchanged : Keeps old now;
-      told : now.honest → g.K.Keeper.is_honest l.keeper ≡ true → g.K.Keeper.kept l.keeper ++ parts_of l.losses old (drop l.file-index l.files)
-          ≡ g.K.Keeper.kept l.initial.keeper ++ parts_of l.losses old l.files;
+      told : now.honest → g.K.Keeper.is_honest l.keeper ≡ true → g.K.Keeper.kept l.keeper ++ parts_of l.losses l.damaged old (drop l.file-index l.files)
+          ≡ g.K.Keeper.kept l.initial.keeper ++ parts_of l.losses l.damaged old l.files;
     }

@@ -1,6 +1,9 @@
 pub mod Counted
+pub mod FileNames
 pub mod Known
 pub mod Logged
+pub mod Seen
 pub mod Speaks
 pub mod Unlimited
 pub mod Visited
+pub mod Written

@@ -13,14 +13,14 @@ use Rattle.kb_operator.specs.Speaks.{Speaks}
 use Rattle.kb_operator.specs.declared.bucket.Bucket.{Bucket}
 use Rattle.kb_operator.specs.declared.journal.Account.{Account}
 use Rattle.kb_operator.specs.declared.journal.Journal.{Journal}
-use Rattle.kb_operator.proofs.Logged.{tells_both, tells_one}
+use Rattle.kb_operator.proofs.Logged.{tells_both, tells_none, tells_one}
 
 -- ---- the line of a second that has room
 
 tells_in : {A E : Type 0} (now second : ℕ) (words line : List ℕ) (b m : Bucket) (takes : Bool) (r : Result (String A) E)
     (x y z : Option (List LogLine)) → TellsTexts now (due_lines words second b) x y → m ≡ told_of second b
     → takes ≡ has_room (at_second second m) → takes ≡ true → IfOk r (λ t. string_bytes t ≡ line)
-    → Grows y z (record { moment = now; text = text_in r } ∷ []) → TellsTexts now (lines_in words line second b) x z
+    → Grows y z (record { moment = Some now; text = text_in r } ∷ []) → TellsTexts now (lines_in words line second b) x z
 tells_in now second words line b m takes r x y z t is room taking h g =
     let has : has_room (at_second second (told_of second b)) ≡ true =
     ap (λ k. has_room (at_second second k)) (sym is) ∙ sym room ∙ taking in
@@ -50,7 +50,7 @@ module _ {T : Type 0} (logged : T → Option (List LogLine)) (now : ℕ) where
       → TellsTexts now (due_lines (codes "login failed from others: ") second old.failed) (logged old.lines) (logged mid.lines)
       → mid ≡ record old { failed = told_of second old.failed; lines = mid.lines }
       → takes ≡ has_room (at_second second mid.failed) → takes ≡ true → taken ≡ with_line (at_second second mid.failed)
-      → IfOk r (λ t. string_bytes t ≡ line) → Grows (logged mid.lines) (logged l) (record { moment = now; text = text_in r } ∷ [])
+      → IfOk r (λ t. string_bytes t ≡ line) → Grows (logged mid.lines) (logged l) (record { moment = Some now; text = text_in r } ∷ [])
       → Speaks logged now (lines_in (codes "login failed from others: ") line second old.failed)
       (record old { failed = bucket_in second old.failed }) old (record mid { failed = taken; lines = l })
   speaks_failed second line old mid taken l takes r loud t is room taking left h g =
@@ -68,7 +68,7 @@ module _ {T : Type 0} (logged : T → Option (List LogLine)) (now : ℕ) where
       → TellsTexts now (due_lines (codes "closed others: ") second old.shut) (logged old.lines) (logged mid.lines)
       → mid ≡ record old { shut = told_of second old.shut; lines = mid.lines }
       → takes ≡ has_room (at_second second mid.shut) → takes ≡ true → taken ≡ with_line (at_second second mid.shut)
-      → IfOk r (λ t. string_bytes t ≡ line) → Grows (logged mid.lines) (logged l) (record { moment = now; text = text_in r } ∷ [])
+      → IfOk r (λ t. string_bytes t ≡ line) → Grows (logged mid.lines) (logged l) (record { moment = Some now; text = text_in r } ∷ [])
       → Speaks logged now (lines_in (codes "closed others: ") line second old.shut)
       (record old { shut = bucket_in second old.shut }) old (record mid { shut = taken; lines = l })
   speaks_shut second line old mid taken l takes r loud t is room taking left h g =
@@ -86,7 +86,7 @@ module _ {T : Type 0} (logged : T → Option (List LogLine)) (now : ℕ) where
       → TellsTexts now (due_lines (codes "login of others: ") second old.logins) (logged old.lines) (logged mid.lines)
       → mid ≡ record old { logins = told_of second old.logins; lines = mid.lines }
       → takes ≡ has_room (at_second second mid.logins) → takes ≡ true → taken ≡ with_line (at_second second mid.logins)
-      → IfOk r (λ t. string_bytes t ≡ login_line address k) → Grows (logged mid.lines) (logged l) (record { moment = now; text = text_in r } ∷ [])
+      → IfOk r (λ t. string_bytes t ≡ login_line address k) → Grows (logged mid.lines) (logged l) (record { moment = Some now; text = text_in r } ∷ [])
       → Speaks logged now (login_lines address (known_at old.users.items place) second old.logins)
       (record old { logins = login_bucket (known_at old.users.items place) second old.logins }) old (record mid { logins = taken; lines = l })
   speaks_login address place second k old mid taken l takes r at loud t is room taking left h g =
@@ -125,3 +125,27 @@ module _ {T : Type 0} (logged : T → Option (List LogLine)) (now : ℕ) where
       (tells_both now w1 w2 (logged old.lines) (logged a.lines) (logged b.lines) t1 second_told) third_told)
       (o3 ∙ ap (λ (j : Journal T). record j { shut = told_of second j.shut; lines = new.lines }) o2
       ∙ ap (λ (j : Journal T). record j { failed = told_of second j.failed; shut = told_of second j.shut; lines = new.lines }) o1)
+
+  -- a call that leaves all else as it was, of a journal that is quiet or not
+  pub announces_quiet : (texts : List (List ℕ)) (old : Journal T) → old.is_quiet ≡ true → Speaks logged now texts old old old
+  announces_quiet texts old q = record { quiet = λ _. refl; told = λ l. absurd cc; others = λ l. absurd cc }
+
+  pub announces_loud : (texts : List (List ℕ)) (old : Journal T) (l : T) → old.is_quiet ≡ false
+      → TellsTexts now texts (logged old.lines) (logged l) → Speaks logged now texts old old (record old { lines = l })
+  announces_loud texts old l loud t = speaks_loud texts old old (record old { lines = l }) loud t refl
+
+  -- nothing is told
+  pub announces_none : (old : Journal T) → Speaks logged now [] old old old
+  announces_none old = record { quiet = λ _. refl; told = λ _. tells_none now (logged old.lines); others = λ _. refl }
+
+  -- the one and then the other, of calls that leave all else as it was
+  pub announces_both : (ts us : List (List ℕ)) (a b c : Journal T) → Speaks logged now ts a a b → Speaks logged now us b b c → Speaks logged now (ts ++ us) a a c
+  announces_both ts us a b c p q = record {
+    quiet = λ e. let same : b ≡ a = p.quiet e in q.quiet (ap (λ (j : Journal T). j.is_quiet) same ∙ e) ∙ same;
+    told = λ e.
+        let loud : b.is_quiet ≡ false = ap (λ (j : Journal T). j.is_quiet) (p.others e) ∙ e in
+        tells_both now ts us (logged a.lines) (logged b.lines) (logged c.lines) (p.told e) (q.told loud);
+    others = λ e.
+        let loud : b.is_quiet ≡ false = ap (λ (j : Journal T). j.is_quiet) (p.others e) ∙ e in
+        q.others loud ∙ ap (λ (j : Journal T). record j { lines = c.lines }) (p.others e);
+  }

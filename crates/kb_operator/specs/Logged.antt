@@ -2,9 +2,9 @@
 use Rattle.std.specs.Prelude.{◌≡◌, ◌++◌, ℕ, List, [], ◌∷◌, Option, Some, None, Result, Ok, Err, string_bytes, option_map, IsSome}
 use Rattle.std.specs.declared.string.String.{String}
 
--- a line: the moment in front of it, and its text, or that there was no memory for it
+-- a line: the moment in front of it, if one stands there, and its text, or that there was no memory for it
 pub record LogLine : Type 0 where
-  pub moment : ℕ
+  pub moment : Option ℕ
   pub text : Option (List ℕ)
 
 -- a text as it is told, or that there was no memory for it
@@ -24,17 +24,25 @@ IsText text None = Unit {0}
 IsText text (Some told) = told ≡ text
 
 -- a line for each of some texts, in order
-abbrev pub AreLines : ℕ → List (List ℕ) → List LogLine → Type 0
-AreLines now [] [] = Unit {0}
-AreLines now [] (line ∷ lines) = ⊥
-AreLines now (text ∷ texts) [] = ⊥
-AreLines now (text ∷ texts) (line ∷ lines) = (line.moment ≡ now) × IsText text line.text × AreLines now texts lines
+abbrev pub AreLines : Option ℕ → List (List ℕ) → List LogLine → Type 0
+AreLines moment [] [] = Unit {0}
+AreLines moment [] (line ∷ lines) = ⊥
+AreLines moment (text ∷ texts) [] = ⊥
+AreLines moment (text ∷ texts) (line ∷ lines) = (line.moment ≡ moment) × IsText text line.text × AreLines moment texts lines
 
--- A log is told these texts at a moment, and nothing else.
-pub record TellsTexts (now : ℕ) (texts : List (List ℕ)) (old new : Option (List LogLine)) : Type 0 where
+-- A log is told these texts, with that in front of each, and nothing else.
+pub record TellsBehind (moment : Option ℕ) (texts : List (List ℕ)) (old new : Option (List LogLine)) : Type 0 where
   pub lines : List LogLine
-  pub are : AreLines now texts lines
+  pub are : AreLines moment texts lines
   pub grown : Grows old new lines
+
+-- .. at a moment
+abbrev pub TellsTexts : ℕ → List (List ℕ) → Option (List LogLine) → Option (List LogLine) → Type 0
+TellsTexts now = TellsBehind (Some now)
+
+-- .. without one
+abbrev pub TellsBare : List (List ℕ) → Option (List LogLine) → Option (List LogLine) → Type 0
+TellsBare = TellsBehind None
 
 -- the text that there is
 abbrev pub texts_of : Option (List ℕ) → List (List ℕ)

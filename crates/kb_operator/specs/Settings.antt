@@ -6,11 +6,11 @@ use Rattle.kb_operator.specs.declared.fault.OperatorFault.{OperatorFault}
 use Rattle.kb_operator.specs.declared.fault.OperatorFault.TheVariants as faults
 
 -- A text is no document, or that is its first wrong key; of memory nothing is said.
-abbrev pub IsFaultOf : List ℕ → OperatorFault → Type 0
-IsFaultOf text (faults.Settings why) = settings_of text ≡ None
-IsFaultOf text (faults.Field key why) = settings_of text ≡ Some (Err (string_bytes key))
-IsFaultOf text faults.Memory = Unit {0}
-IsFaultOf text other = ⊥
+abbrev pub IsSettingsFault : List ℕ → OperatorFault → Type 0
+IsSettingsFault text (faults.Settings why) = settings_of text ≡ None
+IsSettingsFault text (faults.Field key why) = settings_of text ≡ Some (Err (string_bytes key))
+IsSettingsFault text faults.Memory = Unit {0}
+IsSettingsFault text other = ⊥
 
 -- They name no data folder; of memory nothing is said.
 abbrev pub IsWithoutFolder : Settings → OperatorFault → Type 0

@@ -24,5 +24,5 @@ abbrev pub with_waits : ℕ → Tenant → Tenant
 with_waits waits t = record t { waits = record { told = waits } }
 
 -- each tenant is told of as it waits itself
-abbrev pub told_by : (ℕ → Unread) → Tenant → Tenant
-told_by unread t = with_waits (unread t.place).waits t
+abbrev pub with_unread : (ℕ → Unread) → Tenant → Tenant
+with_unread unread t = with_waits (unread t.place).waits t

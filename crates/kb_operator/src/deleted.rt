@@ -1,5 +1,10 @@
 //! Files of deleted topics, as a start finds and tells them.
 
+ghost use Rattle.std.specs.Prelude.{◌≡◌, ◌++◌, take, string_bytes, IfOk, OnOk};
+ghost use Rattle.std.specs.List.{flat_map};
+ghost use Rattle.kb_operator.specs.Found.{deleted_part, deleted_text, more_part};
+ghost use Rattle.kb_operator.specs.Logged.{MakesText};
+
 use crate::fault::OperatorFault;
 use crate::folder::store_to_read;
 use crate::refused::FolderJournal;
@@ -33,18 +38,52 @@ pub fn find_deleted<L: PartitionLog>(
 }
 
 /// How many files of deleted topics a start removes, and of which tenants; none where there are none.
-pub(crate) fn deleted_text(alloc: Global, deleted: &Deleted) -> Result<Option<String>, AllocError> {
+pub(crate) fn deleted_text(alloc: Global, deleted: &Deleted) -> Result<Option<String>, AllocError>
+    ensures { MakesText (deleted_text deleted.now) result }
+{
     if deleted.files.is_empty() {
         return Ok(None);
     }
-    let files = deleted.files.len();
+    let (files, tenants) = (deleted.files.len(), deleted.by_tenant.len());
     let mut text = format!(in alloc; "removes files of deleted topics: {files}")?;
-    for (tenant, files) in deleted.by_tenant.iter().take(TENANTS) {
-        text.push_str(&format!(in alloc; ", of tenant {tenant} {files}")?)?;
-    }
-    let more = deleted.by_tenant.len().saturating_sub(TENANTS);
-    if more > 0 {
-        text.push_str(&format!(in alloc; ", of {more} tenants more")?)?;
-    }
+    push_first(alloc, &mut text, &deleted.by_tenant)?;
+    push_more(alloc, &mut text, tenants.saturating_sub(TENANTS))?;
     Ok(Some(text))
+}
+
+/// Adds how many files the first tenants have.
+fn push_first(
+    alloc: Global,
+    text: &mut String,
+    by_tenant: &BTreeMap<String, u64>,
+) -> Result<(), AllocError>
+    ensures { OnOk result (string_bytes text.new ≡ string_bytes text.old ++ flat_map deleted_part (take 40 by_tenant.now.entries)) }
+{
+    let mut room = TENANTS;
+    for (tenant, files) in by_tenant {
+        if room == 0 {
+            return Ok(());
+        }
+        room -= 1;
+        let part = part_text(alloc, tenant, *files)?;
+        text.push_str(&part)?;
+    }
+    Ok(())
+}
+
+/// How many files a tenant has.
+fn part_text(alloc: Global, tenant: &String, files: u64) -> Result<String, AllocError>
+    ensures { IfOk result (λ text. string_bytes text ≡ deleted_part (tenant.now, files)) }
+{
+    format!(in alloc; ", of tenant {tenant} {files}")
+}
+
+/// Adds how many tenants are not named, if any are not.
+fn push_more(alloc: Global, text: &mut String, more: usize) -> Result<(), AllocError>
+    ensures { OnOk result (string_bytes text.new ≡ string_bytes text.old ++ more_part more) }
+{
+    if more == 0 {
+        return Ok(());
+    }
+    text.push_str(&format!(in alloc; ", of {more} tenants more")?)
 }

@@ -1,7 +1,10 @@
 //! The disk of a data folder, and whether it has room for what tenants may store.
 
-ghost use Rattle.std.specs.Prelude.{◌≡◌, ◌<◌, ◌^◌, IsSome, IsTrue, IfSome, ◌↔◌, Some};
-ghost use Rattle.kb_operator.specs.Device.{device_number, is_short};
+ghost use Rattle.std.specs.Prelude.{◌≡◌, ◌<◌, ◌^◌, ℕ, Option, IfOk, option_map, string_bytes};
+ghost use Rattle.kb_settings.specs.Values.{values_of};
+ghost use Rattle.kb_operator.specs.Device.{device_number, disk_text};
+ghost use Rattle.kb_operator.specs.Logged.{MakesText};
+ghost use Rattle.kb_operator.specs.Sums.{stored_at_most, told};
 
 use crate::lines::{LineLog, Lines};
 use crate::sums::stored_at_most;
@@ -21,15 +24,6 @@ struct Device {
     minor: u64,
 }
 
-/// A disk on which tenants may store more than it has.
-#[derive(Clone, Copy)]
-struct ShortDisk {
-    /// How many bytes the disk has.
-    disk: u64,
-    /// How many bytes all tenants may store.
-    stored: u64,
-}
-
 /// Tells where the disk of a data folder has less than all tenants may store together, as [`disk_text`] says it.
 pub fn tell_disk(rt: &HostRuntime, settings: &Settings, path: &str, lines: &mut Lines) {
     if let Some(text) = disk_text(rt, settings, path).transpose() {
@@ -45,30 +39,35 @@ pub fn disk_text(
     rt: &HostRuntime,
     settings: &Settings,
     path: &str,
-) -> Result<Option<String>, AllocError> {
+) -> Result<Option<String>, AllocError>
+    ensures { IfOk result (λ text. (disk : Option ℕ) × (option_map (λ it. string_bytes it) text
+        ≡ disk_text path.now (option_map told (stored_at_most (values_of settings.now))) disk)) }
+{
     let alloc = rt.alloc();
-    let Some(short) = shortage(stored_at_most(alloc, settings)?, disk_bytes(rt, path)?) else {
+    let (stored, disk) = (stored_at_most(alloc, settings)?, disk_bytes(rt, path)?);
+    let text = short_text(alloc, path, stored, disk)?;
+    Ok(text)
+}
+
+/// The text on a disk with too little: none where it has enough, or one of the two is not known.
+fn short_text(
+    alloc: Global,
+    path: &str,
+    stored: Option<u64>,
+    disk: Option<u64>,
+) -> Result<Option<String>, AllocError>
+    ensures { MakesText (disk_text path.now stored disk) result }
+{
+    let (Some(stored), Some(disk)) = (stored, disk) else {
         return Ok(None);
     };
-    Ok(Some(short_text(alloc, path, short)?))
-}
-
-/// The text on a disk with too little.
-fn short_text(alloc: Global, path: &str, short: ShortDisk) -> Result<String, AllocError> {
-    let ShortDisk { disk, stored } = short;
-    format!(in alloc; "the disk of {path} has {disk} bytes, and tenants may store {stored}")
-}
-
-/// What may be stored and what the disk has, where the disk has less.
-fn shortage(stored: Option<u64>, disk: Option<u64>) -> Option<ShortDisk>
-    ensures short { IsSome result ↔ IsTrue (is_short stored disk) }
-    ensures is { IfSome result (λ it. (stored ≡ Some it.stored) × (disk ≡ Some it.disk)) }
-{
-    let (stored, disk) = (stored?, disk?);
     if disk < stored {
-        Some(ShortDisk { disk, stored })
+        let text = format!(in alloc;
+            "the disk of {path} has {disk} bytes, and tenants may store {stored}"
+        )?;
+        Ok(Some(text))
     } else {
-        None
+        Ok(None)
     }
 }
 

@@ -1,12 +1,14 @@
 //! What is told on standard error while a data folder is open: a line each, with the time.
 
-ghost use Rattle.std.specs.Prelude.{◌≡◌, ◌≤◌, ◌^◌, ◌∷◌, [], codes, map, string_bytes, IfOk};
+ghost use Rattle.std.specs.Prelude.{◌≡◌, ◌≤◌, ◌∷◌, [], codes, map, string_bytes, IfOk};
+ghost use Rattle.kb_wire.specs.declared.clock.TheConstants.{MAX_CLOCK};
 ghost use Rattle.kb_operator.specs.Counted.{turned_away_line, turned_away_lines};
 ghost use Rattle.kb_operator.specs.Events.{commit_lines, lost_ids_line, notice_text, passed_over, passed_over_lines, turn_lines};
 ghost use Rattle.kb_operator.specs.Known.{known_account, known_user, known_users};
 ghost use Rattle.kb_operator.specs.Logged.{TellsTexts};
 ghost use Rattle.kb_operator.specs.Speaks.{Announces, Speaks};
 
+mod found;
 mod logins;
 mod refusals;
 mod shut;
@@ -14,11 +16,11 @@ mod unread;
 
 use crate::bucket::Bucket;
 use crate::counts::RefusalCounts;
-use crate::deleted::deleted_text;
 use crate::lines::{LineLog, Lines};
-use kb_server_log::{Change, Notice, Pace, Tally, time_text};
+pub(crate) use found::held_text;
+use kb_server_log::{Notice, Pace, Tally};
 use kb_settings::{Settings, Sync, User, tenant_names};
-use kb_start::{Deleted, StrayCounts, Total};
+use kb_start::Total;
 use std::alloc::{AllocError, Global};
 
 /// A tenant, and how much was told of its refusals, of its sockets that were closed, and of its waits.
@@ -144,77 +146,6 @@ impl<T: LineLog> Journal<T> {
         &mut self.lines
     }
 
-    /// What an opening dropped of the files that a folder had: a line for each.
-    pub fn tell_dropped(&mut self, now: u64, texts: Vec<String>) {
-        if self.is_quiet {
-            return;
-        }
-        for text in texts {
-            self.lines.tell(now, Ok(text));
-        }
-    }
-
-    /// So many parts of files are kept in the folder at a path: of those that an opening drops, and so many whole ones that the start sets
-    /// aside.
-    pub fn tell_kept(&mut self, alloc: Global, now: u64, parts: u64, aside: u64, path: &str) {
-        if self.is_quiet {
-            return;
-        }
-        let dropped = parts.saturating_sub(aside);
-        if dropped > 0 {
-            let text = format!(in alloc;
-                "kept what is dropped of damaged files: {dropped}, in {path}"
-            );
-            self.lines.tell(now, text);
-        }
-        if aside > 0 {
-            let text = format!(in alloc;
-                "set aside files that the settings do not fit: {aside}, in {path}"
-            );
-            self.lines.tell(now, text);
-        }
-    }
-
-    /// The files that an opening left aside: of tenants that no user names, a line each, of a first write that was cut short or whose
-    /// header cannot be read, and of catalogs' snapshots that were not finished.
-    pub fn tell_strays(&mut self, alloc: Global, now: u64, strays: &StrayCounts) {
-        if self.is_quiet {
-            return;
-        }
-        for (tenant, files) in &strays.of_nobody {
-            let text = format!(in alloc;
-                "stray files of tenant {tenant}, which no user names: {files}"
-            );
-            self.lines.tell(now, text);
-        }
-        if strays.short > 0 {
-            let short = strays.short;
-            let text = format!(in alloc; "stray files that are shorter than a header: {short}");
-            self.lines.tell(now, text);
-        }
-        if strays.unreadable > 0 {
-            let unreadable = strays.unreadable;
-            let text = format!(in alloc; "stray files whose header cannot be read: {unreadable}");
-            self.lines.tell(now, text);
-        }
-        if strays.unfinished > 0 {
-            let unfinished = strays.unfinished;
-            let text = format!(in alloc;
-                "stray files of catalogs' snapshots that were not finished: {unfinished}"
-            );
-            self.lines.tell(now, text);
-        }
-    }
-
-    /// The files of deleted topics that a start removes, if there are any.
-    pub fn tell_deleted(&mut self, alloc: Global, now: u64, deleted: &Deleted) {
-        if !self.is_quiet
-            && let Some(text) = deleted_text(alloc, deleted).transpose()
-        {
-            self.lines.tell(now, text);
-        }
-    }
-
     /// How many producer ids a tenant's catalog had lost, which are now given out to nobody.
     pub fn tell_lost_ids(&mut self, alloc: Global, now: u64, tenant: &str, lost: u64)
         ensures { Announces T.logged now (lost_ids_line tenant.now lost ∷ []) self.old self.new }
@@ -223,32 +154,6 @@ impl<T: LineLog> Journal<T> {
             return;
         }
         self.lines.tell(now, lost_ids_text(alloc, tenant, lost));
-    }
-
-    /// What was found in the folder, behind a word.
-    pub fn tell_found(&mut self, alloc: Global, now: u64, word: Word, held: Held) {
-        if self.is_quiet {
-            return;
-        }
-        let holds = held_text(alloc, held);
-        let connections = self.connections;
-        let sync = self.sync.name();
-        let text = match word {
-            Word::Start => format!(in alloc;
-                "start: {holds}, connections at most {connections}, sync {sync}"
-            ),
-            Word::Found => format!(in alloc; "found: {holds}"),
-        };
-        self.lines.tell(now, text);
-    }
-
-    /// Where the clock is, seen from the last change of a file: a line, unless that was within a day before.
-    pub fn tell_change(&mut self, alloc: Global, now: u64, changed: Option<u64>) {
-        if let (false, Some(changed)) = (self.is_quiet, changed)
-            && let Some(text) = change_text(alloc, now, changed).transpose()
-        {
-            self.lines.tell(now, text);
-        }
     }
 
     /// What the wall clock did.
@@ -327,7 +232,7 @@ impl<T: LineLog> Journal<T> {
         turned_away: u64,
         broker: &B,
     )
-        requires { moment ≤ 2 ^ 62 }
+        requires { moment ≤ MAX_CLOCK }
     {
         self.turned_away = self.turned_away.saturating_add(turned_away);
         if !self.is_quiet && self.pace.is_due(moment) {
@@ -444,32 +349,6 @@ fn account_of(alloc: Global, user: &User) -> Result<Account, AllocError>
         name: String::from_str(alloc, &user.name)?,
         tenant: String::from_str(alloc, &user.tenant)?,
     })
-}
-
-/// What was found, which is empty where there is no memory for it.
-pub(crate) fn held_text(alloc: Global, held: Held) -> String {
-    let Held {
-        tenants,
-        topics,
-        partitions,
-        strays,
-        files: Total { files, bytes },
-    } = held;
-    let text = format!(in alloc;
-        "tenants {tenants}, topics {topics}, partitions {partitions}, files {files}, bytes {bytes}, stray files {strays}"
-    );
-    text.unwrap_or(String::new(alloc))
-}
-
-/// Where a clock is that is before the last change of a file, or more than a day behind it.
-fn change_text(alloc: Global, now: u64, changed: u64) -> Result<Option<String>, AllocError> {
-    let text = match Change::at(now, changed) {
-        Change::Ahead => "the clock is before the last change of a file",
-        Change::Old => "the last change of a file is more than a day ago",
-        Change::Recent => return Ok(None),
-    };
-    let time = time_text(alloc, changed)?;
-    Ok(Some(format!(in alloc; "{text}: {time}")?))
 }
 
 /// How many producer ids a tenant's catalog had lost.

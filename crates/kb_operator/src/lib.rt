@@ -1,9 +1,9 @@
 //! What a broker's program asks of its operator and tells him: the settings, the data folder, and lines on standard error.
 //!
 //! [`settings_of`] reads the settings of a file, or says what is wrong with it, and [`look_at_start`] looks at what the process may have
-//! open. [`hold`] takes the data folder, [`tell_disk`] tells where its disk has too little, and [`store_in`] is the store of its files. A
-//! [`Journal`] tells what happens while it is open, and a [`FolderJournal`] what the system refuses to it, on [`Lines`] that wait for no
-//! reader. [`write_report`] tells what a start would find, and changes nothing.
+//! open. [`hold`] takes the data folder, [`tell_disk`] tells where its disk has too little, [`tell_reserve`] where there was no room for
+//! its reserve, and [`store_in`] is the store of its files. A [`Journal`] tells what happens while it is open, and a [`FolderJournal`] what
+//! the system refuses to it, on [`Lines`] that wait for no reader. [`write_report`] tells what a start would find, and changes nothing.
 #![tactic(auto)]
 
 mod address;
@@ -15,6 +15,7 @@ mod disk;
 mod dropped;
 mod entries;
 mod fault;
+mod fits;
 mod folder;
 mod journal;
 mod laws;
@@ -26,10 +27,13 @@ mod others;
 mod reasons;
 mod refused;
 mod report;
+mod reserve;
 mod settings;
 mod shown;
 mod start;
 mod sums;
+mod texts;
+mod write;
 
 pub use address::{address_text, addresses_text, listen_fault};
 pub use changed::last_change;
@@ -47,6 +51,7 @@ pub use look::look_at_start;
 pub use named::settings_of_files;
 pub use refused::FolderJournal;
 pub use report::write_report;
+pub use reserve::tell_reserve;
 pub use settings::{data_folder, settings_in, settings_of};
 pub use shown::write_settings;
 pub use start::examine;

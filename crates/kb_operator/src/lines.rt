@@ -1,7 +1,8 @@
 //! Lines on standard error that wait for no reader.
 
-ghost use Rattle.std.specs.Prelude.{ℕ, List, Option, [], ◌∷◌};
-ghost use Rattle.kb_operator.specs.Logged.{Grows, MakesText, TellsTexts, text_in, texts_of};
+ghost use Rattle.std.specs.Prelude.{◌++◌, ℕ, List, Option, Some, None, [], ◌∷◌};
+ghost use Rattle.kb_operator.specs.Found.{count_text};
+ghost use Rattle.kb_operator.specs.Logged.{Grows, MakesText, TellsBare, TellsTexts, text_in, texts_of};
 
 use kb_server_log::{Missed, Sink, time_text};
 use mio::unix::SourceFd;
@@ -24,7 +25,11 @@ pub trait LineLog {
 
     /// Tells a line with a moment of the wall clock in front. A text for which there was no memory is a line that was missed.
     fn tell(&mut self, now: u64, text: Result<String, AllocError>)
-        ensures { Grows (logged self.old) (logged self.new) (record { moment = now; text = text_in text } ∷ []) };
+        ensures { Grows (logged self.old) (logged self.new) (record { moment = Some now; text = text_in text } ∷ []) };
+
+    /// Tells a line as it is, without a moment.
+    fn tell_bare(&mut self, text: Result<String, AllocError>)
+        ensures { Grows (logged self.old) (logged self.new) (record { moment = None; text = text_in text } ∷ []) };
 
     /// Tells how many lines were missed, if any were.
     fn catch_up(&mut self, now: u64)
@@ -41,6 +46,35 @@ pub(crate) fn tell_if<T: LineLog>(now: u64, text: Result<Option<String>, AllocEr
         Ok(None) => {}
         Err(e) => lines.tell(now, Err(e)),
     }
+}
+
+/// Tells a text without a moment, if there is one.
+pub(crate) fn tell_bare_if<T: LineLog>(text: Result<Option<String>, AllocError>, lines: &mut T)
+    ensures { (wanted : Option (List ℕ)) → MakesText wanted text
+        → TellsBare (texts_of wanted) (T.logged lines.old) (T.logged lines.new) }
+{
+    match text {
+        Ok(Some(text)) => lines.tell_bare(Ok(text)),
+        Ok(None) => {}
+        Err(e) => lines.tell_bare(Err(e)),
+    }
+}
+
+/// A count in front of two words, behind another: none where it is zero.
+pub(crate) fn count_text(
+    alloc: Global,
+    front: &str,
+    count: u64,
+    link: &str,
+    behind: &str,
+) -> Result<Option<String>, AllocError>
+    ensures { MakesText (count_text front.now count (link.now ++ behind.now)) result }
+{
+    if count == 0 {
+        return Ok(None);
+    }
+    let text = format!(in alloc; "{front}{count}{link}{behind}")?;
+    Ok(Some(text))
 }
 
 /// Lines on standard error. One that the system does not take at once is passed over, and the next one that it takes is how many
@@ -88,8 +122,7 @@ impl Lines {
 
     /// Tells a line as it is, without a moment.
     pub fn tell_alone(&mut self, text: Result<String, AllocError>) {
-        self.output.now = None;
-        self.offer(text);
+        self.tell_bare(text);
     }
 
     /// Tells a line.
@@ -104,6 +137,11 @@ impl Lines {
 impl LineLog for Lines {
     fn tell(&mut self, now: u64, text: Result<String, AllocError>) {
         self.output.now = Some(now);
+        self.offer(text);
+    }
+
+    fn tell_bare(&mut self, text: Result<String, AllocError>) {
+        self.output.now = None;
         self.offer(text);
     }
 

@@ -1,5 +1,7 @@
 //! What the system refuses to a data folder.
 
+ghost use Rattle.std.specs.Prelude.{◌≡◌, string_bytes};
+
 use crate::fault::{OperatorFault, behind_it};
 use crate::lines::{LineLog, Lines};
 use kb_folder::{FolderCall, FolderFault, Refusal, Refusals, file_name, is_full};
@@ -33,7 +35,9 @@ impl FolderJournal {
     }
 
     /// The path of the folder.
-    pub fn folder(&self) -> &str {
+    pub fn folder(&self) -> &str
+        ensures { result.now ≡ string_bytes self.now.folder }
+    {
         self.folder.as_str()
     }
 

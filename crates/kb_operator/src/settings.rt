@@ -5,19 +5,24 @@ ghost use Rattle.std.specs.Option.{option_map};
 ghost use Rattle.kb_settings.specs.Values.{values_of};
 ghost use Rattle.kb_settings.specs.Reading as read;
 ghost use Rattle.kb_settings.specs.Reading.{settings_of};
-ghost use Rattle.kb_operator.specs.Settings.{IsFaultOf, IsWithoutFolder};
+ghost use Rattle.kb_operator.specs.Fits.{misfit};
+ghost use Rattle.kb_operator.specs.Settings.{IsSettingsFault, IsWithoutFolder};
 
 use crate::fault::{OperatorFault, behind_it};
+use crate::fits::fitting;
 use crate::reasons::field_reason;
 use kb_settings::{Settings, SettingsFault};
 use std::alloc::{AllocError, Global};
 use std::{fs, io};
 
-/// The settings of a file. A fault names the file and the line, or the key, or the user, and says what is wrong.
-pub fn settings_of(rt: &HostRuntime, path: &str) -> Result<Settings, OperatorFault> {
+/// The settings of a file. A fault names the file and the line, or the key, or the user, and says what is wrong. So is a key that does not
+/// fit: a data folder without a name, a host with a port, or metrics where the broker listens.
+pub fn settings_of(rt: &HostRuntime, path: &str) -> Result<Settings, OperatorFault>
+    ensures { IfOk result (λ settings. misfit (values_of settings) ≡ None) }
+{
     let alloc = rt.alloc();
     match fs::read_to_string(rt, path) {
-        Ok(text) => settings_in(alloc, path, &text),
+        Ok(text) => fitting(alloc, settings_in(alloc, path, &text)?),
         Err(e) if e.kind() == io::ErrorKind::OutOfMemory => Err(OperatorFault::Memory),
         Err(e) => {
             let text = behind(alloc, path, cause_of(alloc, &e));
@@ -29,7 +34,7 @@ pub fn settings_of(rt: &HostRuntime, path: &str) -> Result<Settings, OperatorFau
 /// The settings of a text that stands in the file at a path.
 pub fn settings_in(alloc: Global, path: &str, text: &str) -> Result<Settings, OperatorFault>
     ensures ok { IfOk result (λ settings. settings_of text.now ≡ Some (Ok (values_of settings))) }
-    ensures err { IfErr result (IsFaultOf text.now) }
+    ensures err { IfErr result (IsSettingsFault text.now) }
 {
     match Settings::read(alloc, text) {
         Ok(settings) => Ok(settings),
@@ -40,7 +45,7 @@ pub fn settings_in(alloc: Global, path: &str, text: &str) -> Result<Settings, Op
 /// The fault of a text of settings, with what is wrong behind it.
 fn explained(alloc: Global, path: &str, text: &str, fault: SettingsFault) -> OperatorFault
     requires { read.IsFaultOf text.now fault }
-    ensures { IsFaultOf text.now result }
+    ensures { IsSettingsFault text.now result }
 {
     match fault {
         SettingsFault::Text => {

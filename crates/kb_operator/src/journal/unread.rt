@@ -2,7 +2,7 @@
 
 ghost use Rattle.std.specs.Prelude.{◌≡◌, false, true, map, string_bytes, IfOk};
 ghost use Rattle.kb_operator.specs.Logged.{TellsTexts, MakesText};
-ghost use Rattle.kb_operator.specs.Unread.{told_by, unread_text, unread_texts, waits_line};
+ghost use Rattle.kb_operator.specs.Unread.{with_unread, unread_text, unread_texts, waits_line};
 
 use crate::counts::RefusalCounts;
 use crate::journal::{Journal, Tenant};
@@ -17,7 +17,7 @@ impl<T: LineLog> Journal<T> {
             → TellsTexts now (unread_texts (B.unread broker.now) self.old.tenants.items)
             (T.logged self.old.lines) (T.logged self.new.lines) }
         ensures told { self.old.is_quiet ≡ false
-            → self.new.tenants.items ≡ map (told_by (B.unread broker.now)) self.old.tenants.items }
+            → self.new.tenants.items ≡ map (with_unread (B.unread broker.now)) self.old.tenants.items }
         ensures others { self.new ≡ record self.old { tenants = self.new.tenants; lines = self.new.lines } }
     {
         if self.is_quiet {
@@ -36,7 +36,7 @@ fn tell_each<B: RefusalCounts, T: LineLog>(
     lines: &mut T,
 )
     ensures lines { TellsTexts now (unread_texts (B.unread broker.now) tenants.old) (T.logged lines.old) (T.logged lines.new) }
-    ensures told { tenants.new ≡ map (told_by (B.unread broker.now)) tenants.old }
+    ensures told { tenants.new ≡ map (with_unread (B.unread broker.now)) tenants.old }
 {
     for tenant in tenants.iter_mut() {
         tell_if(now, unread_text(alloc, tenant, broker), lines);
@@ -50,7 +50,7 @@ fn unread_text<B: RefusalCounts>(
     broker: &B,
 ) -> Result<Option<String>, AllocError>
     ensures text { MakesText (unread_text (B.unread broker.now tenant.old.place) tenant.old) result }
-    ensures told { tenant.new ≡ told_by (B.unread broker.now) tenant.old }
+    ensures told { tenant.new ≡ with_unread (B.unread broker.now) tenant.old }
 {
     let unread = broker.unread_of_tenant(tenant.place);
     if tenant.waits.grown(unread.waits) == 0 {

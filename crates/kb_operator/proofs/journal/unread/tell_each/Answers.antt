@@ -1,7 +1,7 @@
 use Rattle.std.proofs.Common.{◌∙◌, ◌<◌, ap, arith, length, set, subst, sym, take}
 use Rattle.std.proofs.lemmas.List.Edits.{map_over_more}
 use Rattle.kb_operator.specs.Logged.{MakesText, TellsTexts, texts_of}
-use Rattle.kb_operator.specs.Unread.{told_by, unread_text, unread_texts}
+use Rattle.kb_operator.specs.Unread.{with_unread, unread_text, unread_texts}
 use Rattle.kb_operator.specs.declared.journal.Tenant.{Tenant}
 use Rattle.kb_operator.proofs.Logged.{tells_both}
 use Rattle.kb_operator.proofs.Visited.{item_at, put_more}
@@ -11,7 +11,7 @@ pub loop-tenant-preserved : goal.loop-tenant-preserved
 loop-tenant-preserved g c =
     let before = c.loop-tenant in
     let unread = g.B.RefusalCounts.unread c.args.broker.now in
-    let tell : Tenant → Tenant = told_by unread in
+    let tell : Tenant → Tenant = with_unread unread in
     let tenants = c.args.tenants.now in
     let i = before.tenant-index in
     let item = c.tenant-item.result in

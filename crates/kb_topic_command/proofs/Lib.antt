@@ -1,2 +1,5 @@
+pub mod Asked
+pub mod Building
 pub mod Going
+pub mod Said
 pub mod Spelled

@@ -36,11 +36,25 @@ abbrev pub sent_after : List (List ℕ) → Session → List ℕ
 sent_after [] s = []
 sent_after (p ∷ ps) s = next_text (heard_from p s) (session_after p s) ++ sent_after ps (session_after p s)
 
+-- neither an answer nor a fault ends it
+abbrev pub IsPending : Result Heard AdminFault → Type 0
+IsPending (Ok hears.More) = Unit {0}
+IsPending (Ok hears.Next) = Unit {0}
+IsPending (Ok hears.Done) = ⊥
+IsPending (Ok (hears.Topics topics)) = ⊥
+IsPending (Err fault) = ⊥
+
+-- none of some pieces ends it
+abbrev pub ArePending : List (List ℕ) → Session → Type 0
+ArePending [] s = Unit {0}
+ArePending (p ∷ ps) s = IsPending (heard_from p s) × ArePending ps (session_after p s)
+
 -- A session sends its first request. It takes pieces, and sends each request that they call for. With a last piece comes the answer.
 pub record Answers (s : Session) (answer : Result Heard AdminFault) (from to before behind : Option (List ℕ)) : Type 0 where
   pub pieces : List (List ℕ)
   pub last : List ℕ
   pub came : Consumes from to (concat pieces ++ last)
+  pub on : ArePending pieces s
   pub sent : Appends before behind (asked_text s.stage s ++ sent_after pieces s)
   pub answered : heard_from last (after_all pieces s) ≡ answer
 
@@ -58,9 +72,16 @@ pub record Receives (s : Session) (answer : Result Heard AdminFault) (from to : 
   pub answered : heard_from piece s ≡ answer
   pub behind : new ≡ session_after piece s
 
+-- No answer comes: none of the pieces that come ends it.
+pub record Waits (s : Session) (from to : Option (List ℕ)) : Type 0 where
+  pub pieces : List (List ℕ)
+  pub came : Consumes from to (concat pieces)
+  pub on : ArePending pieces s
+
 -- a piece comes, and the request that it calls for is sent
 pub record Steps (s : Session) (from to before behind : Option (List ℕ)) (new : Session) : Type 0 where
   pub answer : Result Heard AdminFault
+  pub on : IsPending answer
   pub hears : Receives s answer from to new
   pub sent : Appends before behind (next_text answer new)
 
@@ -73,18 +94,18 @@ Turns s (Some heard) from to before behind new = IsLast heard × Receives s (Ok 
 abbrev pub FailsAt : Session → AdminFault → Option (List ℕ) → Option (List ℕ) → Option (List ℕ) → Option (List ℕ) → Session → Type 0
 FailsAt s fault from to before behind new = Receives s (Err fault) from to new × (behind ≡ before)
 
--- A fault is the program's own, as no memory or no bytes; or the broker's, of which a statement holds.
-abbrev pub BlamesBroker : (AdminFault → Type 0) → TopicFault → Type 0
-BlamesBroker P (faults.Admin (Refused code) None) = P (Refused code)
-BlamesBroker P (faults.Admin Protocol None) = P Protocol
-BlamesBroker P (faults.Admin Memory None) = ⊥
-BlamesBroker P (faults.Admin fault (Some meaning)) = ⊥
-BlamesBroker P faults.Memory = Unit {0}
-BlamesBroker P faults.Silent = Unit {0}
-BlamesBroker P (faults.Words text) = ⊥
-BlamesBroker P (faults.Connect address) = ⊥
-BlamesBroker P faults.Write = ⊥
+-- A fault is the program's own, as no memory, or that no answer comes; or the broker's. Of the last two a statement holds.
+abbrev pub BlamesBroker : (AdminFault → Type 0) → Type 0 → TopicFault → Type 0
+BlamesBroker Fails Waiting (faults.Admin (Refused code) None) = Fails (Refused code)
+BlamesBroker Fails Waiting (faults.Admin Protocol None) = Fails Protocol
+BlamesBroker Fails Waiting (faults.Admin Memory None) = ⊥
+BlamesBroker Fails Waiting (faults.Admin fault (Some meaning)) = ⊥
+BlamesBroker Fails Waiting faults.Memory = Unit {0}
+BlamesBroker Fails Waiting faults.Silent = Waiting
+BlamesBroker Fails Waiting (faults.Words text) = ⊥
+BlamesBroker Fails Waiting (faults.Connect address) = ⊥
+BlamesBroker Fails Waiting faults.Write = ⊥
 
 -- the program's own
 abbrev pub IsOwn : TopicFault → Type 0
-IsOwn fault = BlamesBroker (λ _. ⊥) fault
+IsOwn fault = BlamesBroker (λ _. ⊥) (Unit {0}) fault

@@ -1,6 +1,9 @@
+pub mod Usage
+pub mod Words
 pub mod Wrong
 pub mod Meaning
 pub mod Faults
 pub mod Printing
 pub mod Exchange
 pub mod Telling
+pub mod Topic

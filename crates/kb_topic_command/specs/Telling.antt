@@ -7,7 +7,7 @@ use Rattle.kb_admin.specs.declared.task.Task.{Task}
 use Rattle.kb_admin.specs.Session.{Session}
 use Rattle.kb_topic_command.specs.declared.fault.TopicFault.{TopicFault}
 use Rattle.kb_topic_command.specs.declared.fault.TopicFault.TheVariants as faults
-use Rattle.kb_topic_command.specs.Exchange.{Answers, IsLast}
+use Rattle.kb_topic_command.specs.Exchange.{Answers, IsLast, Waits}
 use Rattle.kb_topic_command.specs.Meaning.{meaning}
 use Rattle.kb_topic_command.specs.Printing.{answer_text}
 
@@ -41,7 +41,14 @@ Explains task (faults.Connect address) new = new ≡ faults.Connect address
 Explains task faults.Silent new = new ≡ faults.Silent
 Explains task faults.Write new = new ≡ faults.Write
 
--- A refusal that is told is what the broker answered, and what stands behind it is what its code says of the task.
+-- the broker answered
+pub record IsAnswered (s : Session) (from to before behind : Option (List ℕ)) : Type 0 where
+  pub heard : Heard
+  pub last : IsLast heard
+  pub answered : Answers s (Ok heard) from to before behind
+
+-- A refusal that is told is what the broker answered, and what stands behind it is what its code says of the task. The broker is told to be
+-- silent where no answer came, and a fault of printing where one came.
 abbrev pub TellsFault : Session → Option (List ℕ) → Option (List ℕ) → Option (List ℕ) → Option (List ℕ) → TopicFault → Type 0
 TellsFault s from to before behind (faults.Admin (Refused code) None) = Answers s (Err (Refused code)) from to before behind
 TellsFault s from to before behind (faults.Admin (Refused code) (Some text)) =
@@ -50,7 +57,7 @@ TellsFault s from to before behind (faults.Admin Protocol None) = Answers s (Err
 TellsFault s from to before behind (faults.Admin Protocol (Some text)) = ⊥
 TellsFault s from to before behind (faults.Admin Memory text) = ⊥
 TellsFault s from to before behind faults.Memory = Unit {0}
-TellsFault s from to before behind faults.Silent = Unit {0}
-TellsFault s from to before behind faults.Write = Unit {0}
+TellsFault s from to before behind faults.Silent = Waits s from to
+TellsFault s from to before behind faults.Write = IsAnswered s from to before behind
 TellsFault s from to before behind (faults.Words text) = ⊥
 TellsFault s from to before behind (faults.Connect address) = ⊥

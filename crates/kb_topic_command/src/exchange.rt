@@ -1,9 +1,9 @@
 //! What goes to and fro between a session and a broker.
 
-ghost use Rattle.std.specs.Prelude.{◌≡◌, ◌≤◌, length, take, IfOk, IfErr, OnOk, Ok, Err};
+ghost use Rattle.std.specs.Prelude.{◌≡◌, ◌≤◌, [], length, take, IfOk, IfErr, OnOk, Ok, Err};
 ghost use Rattle.std.specs.Io.KnownBytes.{Appends, Consumes};
 ghost use Rattle.kb_admin.specs.Session.{asked_text};
-ghost use Rattle.kb_topic_command.specs.Exchange.{Answers, Receives, Turns, FailsAt, BlamesBroker, IsLast, IsOwn};
+ghost use Rattle.kb_topic_command.specs.Exchange.{Answers, Receives, Turns, FailsAt, Waits, BlamesBroker, IsLast, IsOwn};
 
 use crate::fault::TopicFault;
 use kb_admin::{Heard, Session};
@@ -28,7 +28,7 @@ pub(crate) fn exchange<R: Read, W: Write>(
         (W.contents writer.old) (W.contents writer.new)) }
     ensures fault { IfErr result (BlamesBroker (λ fault.
         Answers session.old (Err fault) (R.remaining reader.old) (R.remaining reader.new)
-        (W.contents writer.old) (W.contents writer.new))) }
+        (W.contents writer.old) (W.contents writer.new)) (Waits session.old (R.remaining reader.old) (R.remaining reader.new))) }
     ensures task { session.new.task ≡ session.old.task }
 {
     let mut buffer = vec![in alloc; 0; BUFFER_BYTES]?;
@@ -52,8 +52,10 @@ fn turn<R: Read, W: Write>(
 ) -> Result<Option<Heard>, TopicFault>
     ensures turn { IfOk result (λ answer. Turns session.old answer (R.remaining reader.old) (R.remaining reader.new)
         (W.contents writer.old) (W.contents writer.new) session.new) }
-    ensures fault { IfErr result (BlamesBroker (λ fault. FailsAt session.old fault (R.remaining reader.old) (R.remaining reader.new)
-        (W.contents writer.old) (W.contents writer.new) session.new)) }
+    ensures fault { IfErr result (BlamesBroker (λ fault.
+        FailsAt session.old fault (R.remaining reader.old) (R.remaining reader.new)
+        (W.contents writer.old) (W.contents writer.new) session.new)
+        (Waits session.old (R.remaining reader.old) (R.remaining reader.new))) }
     ensures task { session.new.task ≡ session.old.task }
 {
     let heard = take_in(reader, buffer, session)?;
@@ -88,7 +90,8 @@ fn take_in<R: Read>(
 ) -> Result<Heard, TopicFault>
     ensures heard { IfOk result (λ heard. Receives session.old (Ok heard) (R.remaining reader.old) (R.remaining reader.new) session.new) }
     ensures fault { IfErr result (BlamesBroker (λ fault.
-        Receives session.old (Err fault) (R.remaining reader.old) (R.remaining reader.new) session.new)) }
+        Receives session.old (Err fault) (R.remaining reader.old) (R.remaining reader.new) session.new)
+        (Consumes (R.remaining reader.old) (R.remaining reader.new) [])) }
     ensures task { session.new.task ≡ session.old.task }
 {
     let n = receive(reader, buffer)?;
@@ -99,7 +102,7 @@ fn take_in<R: Read>(
 fn receive<R: Read>(reader: &mut R, buffer: &mut [u8]) -> Result<usize, TopicFault>
     ensures room { IfOk result (λ n. n ≤ length buffer.new) }
     ensures came { IfOk result (λ n. Consumes (R.remaining reader.old) (R.remaining reader.new) (take n buffer.new)) }
-    ensures fault { IfErr result (λ fault. fault ≡ TopicFault.Silent) }
+    ensures fault { IfErr result (λ fault. (fault ≡ TopicFault.Silent) × Consumes (R.remaining reader.old) (R.remaining reader.new) []) }
 {
     match reader.read(buffer) {
         Ok(n) if n > 0 => Ok(n),

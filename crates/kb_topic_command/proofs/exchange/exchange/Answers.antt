@@ -1,20 +1,22 @@
 use Rattle.std.proofs.Common.{◌∙◌, Err, Ok, refl}
-use Rattle.kb_topic_command.specs.Exchange.{Answers, FailsAt}
-use Rattle.kb_topic_command.proofs.Going.{goes_first, goes_turn, answers_last, fails_weaker, fails_memory}
+use Rattle.std.proofs.KnownBytes.{Consumes-nil}
+use Rattle.kb_topic_command.specs.Exchange.{Answers, FailsAt, Waits}
+use Rattle.kb_topic_command.proofs.Going.{goes_first, goes_turn, answers_last, waits_first, waits_goes, fails_weaker, fails_memory}
 use Rattle.kb_topic_command.proofs.exchange.exchange.Goals as goal
 
 pub returns-in_err-buffer-clause-fault : goal.returns-in_err-buffer-clause-fault
 returns-in_err-buffer-clause-fault g c =
     let r = g.R.Read.remaining c.args.reader.now in
     let w = g.W.Write.contents c.args.writer.now in
-    fails_memory (λ f. Answers c.args.session.now (Err f) r r w w) c.from_residual.result c.from_residual.ensures.1
+    fails_memory (λ f. Answers c.args.session.now (Err f) r r w w) (Waits c.args.session.now r r) c.from_residual.result c.from_residual.ensures.1
 
 pub returns-in_err-send-clause-fault : goal.returns-in_err-send-clause-fault
 returns-in_err-send-clause-fault g c =
     let r = g.R.Read.remaining c.args.reader.now in
     let w = g.W.Write.contents c.args.writer.now in
-    fails_weaker (λ _. ⊥) (λ f. Answers c.args.session.now (Err f) r r w (g.W.Write.contents c.send.new.writer)) _ c.from_residual-in_err-send.result
-    c.from_residual-in_err-send.ensures.1 (λ f b. absurd b) c.in_err-send.ensures.fault
+    let s = c.args.session.now in
+    fails_weaker (λ _. ⊥) (λ f. Answers s (Err f) r r w (g.W.Write.contents c.send.new.writer)) (Unit {0}) (Waits s r r) _
+    c.from_residual-in_err-send.result c.from_residual-in_err-send.ensures.1 (λ f b. absurd b) (λ _. waits_first s r r (Consumes-nil r)) c.in_err-send.ensures.fault
 
 pub loop-init : goal.loop-init
 loop-init g c = record {
@@ -32,10 +34,11 @@ returns-in_err-answer-clause-fault g c =
     let w = g.W.Write.contents c.args.writer.now in
     let w1 = g.W.Write.contents c.loop.writer in
     let w2 = g.W.Write.contents c.turn.new.writer in
-    fails_weaker (λ f. FailsAt c.loop.session f r1 r2 w1 w2 on) (λ f. Answers s (Err f) r r2 w w2) _ c.from_residual-in_err-answer.result
+    fails_weaker (λ f. FailsAt c.loop.session f r1 r2 w1 w2 on) (λ f. Answers s (Err f) r r2 w w2) (Waits c.loop.session r1 r2) (Waits s r r2) _
+    c.from_residual-in_err-answer.result
     c.from_residual-in_err-answer.ensures.1
     (λ f h. answers_last s c.loop.session on (Err f) r r1 r2 w w1 w2 c.loop.invariant.goes h.0 h.1)
-    c.in_err-answer.ensures.fault
+    (waits_goes s c.loop.session r r1 r2 w w1 c.loop.invariant.goes) c.in_err-answer.ensures.fault
 
 pub returns-in_err-answer-clause-task : goal.returns-in_err-answer-clause-task
 returns-in_err-answer-clause-task g c = c.in_err-answer.ensures.task ∙ c.loop.invariant.task

@@ -1,6 +1,7 @@
-use Rattle.std.proofs.Common.{Err, Ok, refl}
-use Rattle.kb_topic_command.specs.Exchange.{Receives, FailsAt}
-use Rattle.kb_topic_command.proofs.Going.{steps_more, steps_next, fails_weaker}
+use Rattle.std.proofs.Common.{Err, [], refl}
+use Rattle.std.specs.Io.KnownBytes.{Consumes}
+use Rattle.kb_topic_command.specs.Exchange.{Receives, FailsAt, Waits}
+use Rattle.kb_topic_command.proofs.Going.{steps_more, steps_next, waits_first, waits_next, fails_weaker}
 use Rattle.kb_topic_command.proofs.exchange.turn.Goals as goal
 
 pub returns-in_err-heard-clause-fault : goal.returns-in_err-heard-clause-fault
@@ -10,8 +11,8 @@ returns-in_err-heard-clause-fault g c =
     let r = g.R.Read.remaining c.args.reader.now in
     let r1 = g.R.Read.remaining c.take_in.new.reader in
     let w = g.W.Write.contents c.args.writer.now in
-    fails_weaker (λ f. Receives s (Err f) r r1 on) (λ f. FailsAt s f r r1 w w on) _ c.from_residual.result c.from_residual.ensures.1 (λ f h. (h, refl))
-    c.in_err-heard.ensures.fault
+    fails_weaker (λ f. Receives s (Err f) r r1 on) (λ f. FailsAt s f r r1 w w on) (Consumes r r1 []) (Waits s r r1) _ c.from_residual.result
+    c.from_residual.ensures.1 (λ f h. (h, refl)) (waits_first s r r1) c.in_err-heard.ensures.fault
 
 pub returns-in-More-clause-turn : goal.returns-in-More-clause-turn
 returns-in-More-clause-turn g c =
@@ -23,8 +24,11 @@ returns-in_err-send-in-Next-clause-fault g c =
     let r = g.R.Read.remaining c.args.reader.now in
     let r1 = g.R.Read.remaining c.take_in.new.reader in
     let w = g.W.Write.contents c.args.writer.now in
-    fails_weaker (λ _. ⊥) (λ f. FailsAt c.args.session.now f r r1 w (g.W.Write.contents c.send.new.writer) c.take_in.new.session) _
-    c.from_residual-in_err-send-in-Next.result c.from_residual-in_err-send-in-Next.ensures.1 (λ f b. absurd b) c.in_err-send-in-Next.ensures.fault
+    let s = c.args.session.now in
+    let on = c.take_in.new.session in
+    fails_weaker (λ _. ⊥) (λ f. FailsAt s f r r1 w (g.W.Write.contents c.send.new.writer) on) (Unit {0}) (Waits s r r1) _
+    c.from_residual-in_err-send-in-Next.result c.from_residual-in_err-send-in-Next.ensures.1 (λ f b. absurd b)
+    (λ _. waits_next s on r r1 (rw c.in-Next.is at c.in_ok-heard.ensures.heard)) c.in_err-send-in-Next.ensures.fault
 
 pub returns-in_ok-send-in-Next-clause-turn : goal.returns-in_ok-send-in-Next-clause-turn
 returns-in_ok-send-in-Next-clause-turn g c =

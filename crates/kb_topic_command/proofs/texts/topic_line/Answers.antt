@@ -1,6 +1,5 @@
 use Rattle.std.proofs.Common.{◌≡◌, ◌∙◌, ◌++◌, ℕ, List, ap, append_assoc, codes, subst, sym}
 use Rattle.std.specs.Prelude.{IfOk, string_bytes}
-use Rattle.kb_topic_command.specs.Printing.{topic_has, topic_line}
 use Rattle.kb_topic_command.proofs.texts.topic_line.Goals as goal
 
 -- the words of the line, one behind the other

@@ -11,7 +11,7 @@ use Rattle.std.proofs.lemmas.List.Elements.{All-append, filter_more}
 use Rattle.std.proofs.lemmas.List.Folds.{list_any_at}
 use Rattle.kb_store.specs.Disk.{Disk, Files, IsThere, Keeps}
 use Rattle.kb_segment.specs.Header.{header_in}
-use Rattle.kb_move.specs.Copied.{is_owned, names, placed}
+use Rattle.kb_move.specs.Copied.{is_owned, names, with_files_from}
 
 -- what is listed is there
 pub is_listed : (d : Disk) (numbers : List ℕ) (k other : ℕ) → numbers ≡ keys d.table → k < length numbers → IsThere d (get_or numbers k other)
@@ -50,27 +50,27 @@ noted_more tenant had now ks old new i other b lt same is was more =
 
 -- one file more, behind the others
 pub placed_more : (bs : List (List ℕ)) (n : ℕ) (b : List ℕ) (f : Files)
-    → placed n (bs ++ b ∷ []) f ≡ insert (placed n bs f) (n + length bs) b
-unfolding placed
+    → with_files_from n (bs ++ b ∷ []) f ≡ insert (with_files_from n bs f) (n + length bs) b
+unfolding with_files_from
 placed_more [] n b f = ap (λ k. insert f k b) (omega arith)
-placed_more (c ∷ bs) n b f = placed_more bs (suc n) b (insert f n c) ∙ ap (λ k. insert (placed (suc n) bs (insert f n c)) k b) (omega arith)
+placed_more (c ∷ bs) n b f = placed_more bs (suc n) b (insert f n c) ∙ ap (λ k. insert (with_files_from (suc n) bs (insert f n c)) k b) (omega arith)
 
-pub placed_none : (n : ℕ) (bytes : ℕ → List ℕ) (ns : List ℕ) (f : Files) → f ≡ placed n (map bytes (take 0 ns)) f
-unfolding placed
+pub placed_none : (n : ℕ) (bytes : ℕ → List ℕ) (ns : List ℕ) (f : Files) → f ≡ with_files_from n (map bytes (take 0 ns)) f
+unfolding with_files_from
 placed_none n bytes ns f = refl
 
 -- the next of some files, behind those before it
 pub placed_next : (first i other : ℕ) (bytes : ℕ → List ℕ) (ns : List ℕ) (b : List ℕ) (old now new : Files) → i < length ns
-    → now ≡ placed first (map bytes (take i ns)) old → b ≡ bytes (get_or ns i other) → new ≡ insert now (first + i) b
-    → new ≡ placed first (map bytes (take (i + 1) ns)) old
+    → now ≡ with_files_from first (map bytes (take i ns)) old → b ≡ bytes (get_or ns i other) → new ≡ insert now (first + i) b
+    → new ≡ with_files_from first (map bytes (take (i + 1) ns)) old
 placed_next first i other bytes ns b old now new lt was is more =
     let n = get_or ns i other in
     let done = map bytes (take i ns) in
     let len : length done ≡ i = length-map (take i ns) bytes ∙ length-take i ns ∙ omega (arith, lt) in
     more
     ∙ ap (λ f. insert f (first + i) b) was
-    ∙ ap (λ k. insert (placed first done old) (first + k) b) (sym len)
+    ∙ ap (λ k. insert (with_files_from first done old) (first + k) b) (sym len)
     ∙ sym (placed_more done first b old)
-    ∙ ap (λ x. placed first (done ++ x ∷ []) old) is
-    ∙ ap (λ xs. placed first xs old) (sym (map-append bytes (take i ns) (n ∷ [])))
-    ∙ ap (λ xs. placed first (map bytes xs) old) (sym (take_more ns i other lt))
+    ∙ ap (λ x. with_files_from first (done ++ x ∷ []) old) is
+    ∙ ap (λ xs. with_files_from first xs old) (sym (map-append bytes (take i ns) (n ∷ [])))
+    ∙ ap (λ xs. with_files_from first (map bytes xs) old) (sym (take_more ns i other lt))

@@ -8,7 +8,7 @@ use Rattle.std.proofs.Math.Seq.{take-add, take-append_seam}
 use Rattle.std.proofs.lemmas.Bool.{cases_eq}
 use Rattle.kb_store.proofs.Maps.{get_inserted, get_other}
 use Rattle.kb_store.specs.Disk.{Appends, AppendsSome, Becomes, Creates, Disk, IsThere, Keeps, MayCreate, bytes_of}
-use Rattle.kb_move.specs.Copied.{IsAlone, Spares}
+use Rattle.kb_move.specs.Copied.{IsAlone, KeepsFiles}
 
 put_twice : {X : Type 0} (t : FinMap nat_cmp X) (k : ℕ) (v w : X) → insert (insert t k v) k w ≡ insert t k w
 put_twice t k v w = same_map nat_cmp_total nat_cmp-IsAntisymmetric (insert (insert t k v) k w) (insert t k w) (λ q.
@@ -61,7 +61,7 @@ free_then n old new alone below file there =
     (λ (ne : file ≢ n). let le : file < n = below file (subst IsSome (alone.table file ne) there) in omega (arith, le))
     (cases_eq file n)
 
-pub spares_then : (n first : ℕ) (a b c : Disk) → ((file : ℕ) → IsThere a file → file < first) → first ≤ n → Spares a b → IsAlone n b c → Spares a c
+pub spares_then : (n first : ℕ) (a b c : Disk) → ((file : ℕ) → IsThere a file → file < first) → first ≤ n → KeepsFiles a b → IsAlone n b c → KeepsFiles a c
 spares_then n first a b c below le p q = record {
   honest = λ h. p.honest (q.honest h);
   files = λ h file there.
@@ -70,7 +70,7 @@ spares_then n first a b c below le p q = record {
       q.files h file ne ∙ p.files (q.honest h) file there;
 }
 
-pub spares_behind : (a b c : Disk) → Keeps a b → Spares b c → Spares a c
+pub spares_behind : (a b c : Disk) → Keeps a b → KeepsFiles b c → KeepsFiles a c
 spares_behind a b c p q = record {
   honest = λ h. p.honest (q.honest h);
   files = λ h file there.

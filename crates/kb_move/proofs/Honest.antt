@@ -14,8 +14,8 @@ use Rattle.kb_segment_log.specs.SegmentLog.{bytes_at}
 use Rattle.kb_opening.specs.Owners.{passes, says}
 use Rattle.kb_topics.specs.Known.{Known}
 use Rattle.kb_tenant_state.specs.Logs.{Logs}
-use Rattle.kb_move.specs.Alike.{Opens, is_named, joined, owned_in}
-use Rattle.kb_move.specs.Copied.{copied, first_number, is_owned, names, owned, placed}
+use Rattle.kb_move.specs.Alike.{Opens, is_named, with_owned_files, owned_in}
+use Rattle.kb_move.specs.Copied.{copied, first_number, is_owned, names, owned, with_files_from}
 use Rattle.kb_move.proofs.Joined.{opens_beside, opens_joined}
 
 -- ---- the numbers of both
@@ -90,8 +90,8 @@ all_under [] n le = tt
 all_under (m ∷ ns) n le = (omega (arith, le), all_under ns n (omega (arith, le)))
 
 module _ (tenant : List ℕ) (from to : Disk) (here : IsLawfulDisk from) (there : IsLawfulDisk to) (true_here : from.honest) (true_there : to.honest) where
-  is_joined : copied tenant from to ≡ joined (first_number from to) tenant from.files to.files
-  is_joined = ap (λ ns. placed (first_number from to) (map (bytes_at from.files) ns) to.files) (owned_is tenant from here true_here)
+  is_joined : copied tenant from to ≡ with_owned_files (first_number from to) tenant from.files to.files
+  is_joined = ap (λ ns. with_files_from (first_number from to) (map (bytes_at from.files) ns) to.files) (owned_is tenant from here true_here)
 
   under : AllByRecursion (λ m. m < first_number from to) (keys to.files)
   under = subst (AllByRecursion (λ m. m < first_number from to)) (same_numbers to there true_there)

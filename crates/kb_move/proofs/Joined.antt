@@ -15,13 +15,13 @@ use Rattle.kb_opening.specs.Opened.{IsOpened}
 use Rattle.kb_opening.specs.Owners.{is_of_catalog, is_of_partition, passes, says}
 use Rattle.kb_topics.specs.Known.{Known}
 use Rattle.kb_tenant_state.specs.Logs.{Logs}
-use Rattle.kb_move.specs.Alike.{AreAlike, Opens, is_named, joined, numbers_here, numbers_there, owned_in, owners_of}
+use Rattle.kb_move.specs.Alike.{AreAlike, Opens, is_named, with_owned_files, numbers_here, numbers_there, owned_in, owners_of}
 use Rattle.kb_move.proofs.Alike.{filter_alike, filter_map, opened_alike, there_of}
 use Rattle.kb_move.proofs.Placed.{all_so, bytes_before, keys_placed, keys_rise, pairs, pairs_here, pairs_there, placed_alike}
 
 -- ---- a test that asks for more
 
-filter_narrow : {X : Type 0} (p q : X → Bool) → ((x : X) → p x ≡ true → q x ≡ true) → (xs : List X) → filter p (filter q xs) ≡ filter p xs
+pub filter_narrow : {X : Type 0} (p q : X → Bool) → ((x : X) → p x ≡ true → q x ≡ true) → (xs : List X) → filter p (filter q xs) ≡ filter p xs
 filter_narrow p q so [] = refl
 filter_narrow p q so (x ∷ xs) = by (filter_narrow p q so xs) (p x) (q x) refl refl
   where
@@ -40,17 +40,17 @@ passed : (test more : Header → Bool) → ((h : Header) → test h ≡ true →
 passed test more so None e = e
 passed test more so (Some h) e = so h e
 
-of_catalog_named : (name : List ℕ) (g : ℕ) (h : Header) → is_of_catalog name g h ≡ true → is_named name h ≡ true
+pub of_catalog_named : (name : List ℕ) (g : ℕ) (h : Header) → is_of_catalog name g h ≡ true → is_named name h ≡ true
 of_catalog_named name g h e = both_left _ _ (both_left _ _ e)
 
-of_partition_named : (name : List ℕ) (i p : ℕ) (h : Header) → is_of_partition name i p h ≡ true → is_named name h ≡ true
+pub of_partition_named : (name : List ℕ) (i p : ℕ) (h : Header) → is_of_partition name i p h ≡ true → is_named name h ≡ true
 of_partition_named name i p h e = both_left _ _ (both_left _ _ (both_left _ _ (both_left _ _ e)))
 
 -- ---- one log's files
 
 module _ (n : ℕ) (name : List ℕ) (from to : Files) (under : AllByRecursion (λ m. m < n) (keys to)) (alone : owned_in name to ≡ []) where
   abbrev all : Files
-  all = joined n name from to
+  all = with_owned_files n name from to
 
   abbrev new : List ℕ
   new = range_with_len n (length (owned_in name from))
@@ -91,10 +91,10 @@ module _ (n : ℕ) (name : List ℕ) (from to : Files) (under : AllByRecursion (
   }
 
 pub opens_joined : (from to : Files) (name : List ℕ) (n : ℕ) (k : Known) (logs : Logs) → AllByRecursion (λ m. m < n) (keys to)
-    → owned_in name to ≡ [] → Opens from name k logs → Opens (joined n name from to) name k logs
+    → owned_in name to ≡ [] → Opens from name k logs → Opens (with_owned_files n name from to) name k logs
 opens_joined from to name n k logs under alone o =
     let xs = owned_in name from in
-    let all = joined n name from to in
+    let all = with_owned_files n name from to in
     let rise = IsStrictlySortedBy-filter nat_cmp (says from (is_named name)) (keys from) (keys_rise from) in
     let here = subst (λ w. IsOpened from w k logs) (owners_here n name from to under alone) o in
     let paired = subst (λ ns. IsOpened from (owners_of from ns name) k logs) (sym (pairs_here n xs)) here in
@@ -117,12 +117,12 @@ no_pair : (ps : List (ℕ × ℕ)) → numbers_here ps ≡ [] → numbers_there 
 no_pair [] e = refl
 no_pair (p ∷ ps) e = absurd cc
 
-same_pairs : List ℕ → List (ℕ × ℕ)
+unfoldable pub same_pairs : List ℕ → List (ℕ × ℕ)
 same_pairs ms = map (λ m. (m, m)) ms
 
 module _ (n : ℕ) (name other : List ℕ) (from to : Files) (under : AllByRecursion (λ m. m < n) (keys to)) (apart : bytes_eq name other ≡ false) where
   abbrev with : Files
-  with = joined n name from to
+  with = with_owned_files n name from to
 
   not_both : (h : Header) → is_named other h ≡ true → is_named name h ≡ true → ⊥
   not_both h a b =
@@ -173,20 +173,20 @@ module _ (n : ℕ) (name other : List ℕ) (from to : Files) (under : AllByRecur
         (λ k d lt. All-map (λ (q : ℕ × ℕ). nat_cmp (get_or (keys to) k d) q.1 ≡ nat_cmp (get_or (keys to) k d) q.0) (λ m. (m, m)) (keys to) (λ j e le. refl));
   }
 
-same_here : (ms : List ℕ) → numbers_here (same_pairs ms) ≡ ms
+pub same_here : (ms : List ℕ) → numbers_here (same_pairs ms) ≡ ms
 unfolding same_pairs
 same_here [] = refl
 same_here (m ∷ ms) = ap (λ ys. m ∷ ys) (same_here ms)
 
-same_there : (ms : List ℕ) → numbers_there (same_pairs ms) ≡ ms
+pub same_there : (ms : List ℕ) → numbers_there (same_pairs ms) ≡ ms
 unfolding same_pairs
 same_there [] = refl
 same_there (m ∷ ms) = ap (λ ys. m ∷ ys) (same_there ms)
 
 pub opens_beside : (from to : Files) (name other : List ℕ) (n : ℕ) (k : Known) (logs : Logs) → AllByRecursion (λ m. m < n) (keys to)
-    → bytes_eq name other ≡ false → Opens to other k logs → Opens (joined n name from to) other k logs
+    → bytes_eq name other ≡ false → Opens to other k logs → Opens (with_owned_files n name from to) other k logs
 opens_beside from to name other n k logs under apart o =
-    let all = joined n name from to in
+    let all = with_owned_files n name from to in
     let paired = subst (λ ns. IsOpened to (owners_of to ns other) k logs) (sym (same_here (keys to))) o in
     let there = opened_alike to all (same_pairs (keys to)) other k logs (same_alike n name other from to under apart) paired in
     subst (λ w. IsOpened all w k logs) (others_there n name other from to under apart)

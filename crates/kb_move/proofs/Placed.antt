@@ -15,7 +15,7 @@ use Rattle.kb_store.proofs.Maps.{get_inserted, get_other}
 use Rattle.kb_store.specs.Disk.{Files}
 use Rattle.kb_segment_log.specs.SegmentLog.{bytes_at}
 use Rattle.kb_move.specs.Alike.{AreAlike, numbers_here, numbers_there}
-use Rattle.kb_move.specs.Copied.{placed}
+use Rattle.kb_move.specs.Copied.{with_files_from}
 
 -- ---- lists
 
@@ -71,8 +71,8 @@ module _ {X : Type 0} where
 -- ---- files that were placed
 
 pub keys_placed : (bs : List (List ℕ)) (n : ℕ) (f : Files) → AllByRecursion (λ m. m < n) (keys f)
-    → keys (placed n bs f) ≡ keys f ++ range_with_len n (length bs)
-unfolding placed
+    → keys (with_files_from n bs f) ≡ keys f ++ range_with_len n (length bs)
+unfolding with_files_from
 keys_placed [] n f below = sym (append-nil (keys f))
 keys_placed (b ∷ bs) n f below =
     let added : keys (insert f n b) ≡ keys f ++ n ∷ [] = keys_last f n b below in
@@ -84,8 +84,8 @@ keys_placed (b ∷ bs) n f below =
     ∙ append_assoc (keys f) (n ∷ []) (range_with_len (suc n) (length bs))
     ∙ ap (λ m. keys f ++ n ∷ range_with_len m (length bs)) (sym (add-one n))
 
-pub bytes_before : (bs : List (List ℕ)) (n m : ℕ) (f : Files) → m < n → bytes_at (placed n bs f) m ≡ bytes_at f m
-unfolding placed
+pub bytes_before : (bs : List (List ℕ)) (n m : ℕ) (f : Files) → m < n → bytes_at (with_files_from n bs f) m ≡ bytes_at f m
+unfolding with_files_from
 bytes_before [] n m f lt = refl
 bytes_before (b ∷ bs) n m f lt =
     bytes_before bs (suc n) m (insert f n b) (omega (arith, lt))
@@ -109,8 +109,8 @@ pairs_there n [] = refl
 pairs_there n (x ∷ xs) = ap (λ ys. n ∷ ys) (pairs_there (suc n) xs) ∙ ap (λ m. n ∷ range_with_len m (length xs)) (sym (add-one n))
 
 bytes_alike : (bytes : ℕ → List ℕ) (n : ℕ) (xs : List ℕ) (f : Files)
-    → AllByRecursion (λ p. bytes_at (placed n (map bytes xs) f) p.1 ≡ bytes p.0) (pairs n xs)
-unfolding pairs placed
+    → AllByRecursion (λ p. bytes_at (with_files_from n (map bytes xs) f) p.1 ≡ bytes p.0) (pairs n xs)
+unfolding pairs with_files_from
 bytes_alike bytes n [] f = tt
 bytes_alike bytes n (x ∷ xs) f = (
   bytes_before (map bytes xs) (suc n) n (insert f n (bytes x)) (omega arith) ∙ ap (λ o. unwrap_or o []) (get_inserted f n (bytes x)),
@@ -146,9 +146,9 @@ order_alike n (x ∷ xs) h =
           (λ p. AllByRecursion (λ q. nat_cmp p.1 q.1 ≡ nat_cmp p.0 q.0) ((x, n) ∷ rest)) (λ p a b. (a, b)) rest before (order_alike (suc n) xs h.1),
     )
 
-pub placed_alike : (n : ℕ) (xs : List ℕ) (f g : Files) → IsStrictlySortedBy nat_cmp xs → AreAlike f (placed n (map (bytes_at f) xs) g) (pairs n xs)
+pub placed_alike : (n : ℕ) (xs : List ℕ) (f g : Files) → IsStrictlySortedBy nat_cmp xs → AreAlike f (with_files_from n (map (bytes_at f) xs) g) (pairs n xs)
 placed_alike n xs f g rise = record {
-  bytes = All-from_recursion (λ p. bytes_at (placed n (map (bytes_at f) xs) g) p.1 ≡ bytes_at f p.0) (pairs n xs) (bytes_alike (bytes_at f) n xs g);
+  bytes = All-from_recursion (λ p. bytes_at (with_files_from n (map (bytes_at f) xs) g) p.1 ≡ bytes_at f p.0) (pairs n xs) (bytes_alike (bytes_at f) n xs g);
   order = All-from_recursion (λ p. All (λ q. nat_cmp p.1 q.1 ≡ nat_cmp p.0 q.0) (pairs n xs)) (pairs n xs)
       (all_so (λ p. AllByRecursion (λ q. nat_cmp p.1 q.1 ≡ nat_cmp p.0 q.0) (pairs n xs)) (λ p. All (λ q. nat_cmp p.1 q.1 ≡ nat_cmp p.0 q.0) (pairs n xs))
       (λ p h. All-from_recursion (λ q. nat_cmp p.1 q.1 ≡ nat_cmp p.0 q.0) (pairs n xs) h) (pairs n xs) (order_alike n xs rise));

@@ -10,7 +10,7 @@ use Rattle.kb_opening.specs.Opened.{IsOpened, Owners}
 use Rattle.kb_opening.specs.Owners.{catalog_of, partition_of, says}
 use Rattle.kb_topics.specs.Known.{Known}
 use Rattle.kb_tenant_state.specs.Logs.{Logs}
-use Rattle.kb_move.specs.Copied.{placed}
+use Rattle.kb_move.specs.Copied.{with_files_from}
 
 -- of pairs of numbers those on this side, and those on the other
 abbrev pub numbers_here : List (ℕ × ℕ) → List ℕ
@@ -46,5 +46,5 @@ abbrev pub Opens : Files → List ℕ → Known → Logs → Type 0
 Opens files name k logs = IsOpened files (owners_of files (keys files) name) k logs
 
 -- the files of a store with its files of another one behind them, from a number on
-abbrev pub joined : ℕ → List ℕ → Files → Files → Files
-joined n name from to = placed n (map (bytes_at from) (owned_in name from)) to
+abbrev pub with_owned_files : ℕ → List ℕ → Files → Files → Files
+with_owned_files n name from to = with_files_from n (map (bytes_at from) (owned_in name from)) to

@@ -29,16 +29,16 @@ first_number from to = max (one_above (keys from.table)) (one_above (keys to.tab
 -- ---- the copy
 
 -- files with these added, under the numbers from one on
-unfoldable pub placed : ℕ → List (List ℕ) → Files → Files
-placed n [] f = f
-placed n (b ∷ bs) f = placed (suc n) bs (insert f n b)
+unfoldable pub with_files_from : ℕ → List (List ℕ) → Files → Files
+with_files_from n [] f = f
+with_files_from n (b ∷ bs) f = with_files_from (suc n) bs (insert f n b)
 
 -- the files of a store with a tenant's files of another copied behind them, in order, byte for byte
 abbrev pub copied : List ℕ → Disk → Disk → Files
-copied tenant from to = placed (first_number from to) (map (bytes_of from) (owned tenant from)) to.files
+copied tenant from to = with_files_from (first_number from to) (map (bytes_of from) (owned tenant from)) to.files
 
 -- Where it is honest a store has each file that it had, as it was.
-pub record Spares (old new : Disk) : Type 0 where
+pub record KeepsFiles (old new : Disk) : Type 0 where
   pub honest : new.honest → old.honest
   pub files : new.honest → (file : ℕ) → IsThere old file → get new.files file ≡ get old.files file
 

@@ -6,7 +6,7 @@ ghost use Rattle.kb_store.specs.Disk.{IsThere, Keeps, bytes_of, HasCause};
 ghost use Rattle.kb_tenant_state.specs.Logs.{Logs};
 ghost use Rattle.kb_topics.specs.Known.{Known};
 ghost use Rattle.kb_move.specs.Alike.{Opens};
-ghost use Rattle.kb_move.specs.Copied.{IsAlone, Spares, copied, first_number, owned, placed};
+ghost use Rattle.kb_move.specs.Copied.{IsAlone, KeepsFiles, copied, first_number, owned, with_files_from};
 
 use crate::fault::MoveFault;
 use crate::owned::tenant_files;
@@ -45,7 +45,7 @@ pub fn copy_tenant<F: Store, T: Store>(
     ensures occupied { result ≡ Err MoveFault.Occupied → (T.disk to.new).honest → 1 ≤ length (owned tenant.now (T.disk to.old)) }
     ensures alone { OnOk result ((T.disk to.new).honest → owned tenant.now (T.disk to.old) ≡ []) }
     ensures unchanged { Keeps (F.disk from.old) (F.disk from.new) }
-    ensures spared { Spares (T.disk to.old) (T.disk to.new) }
+    ensures spared { KeepsFiles (T.disk to.old) (T.disk to.new) }
     // The tenant opens there to what it opens to here, and each other tenant to what it had.
     ensures opens { OnOk result ((F.disk from.new).honest → (T.disk to.new).honest → (k : Known) (logs : Logs)
         → Opens (F.disk from.old).files tenant.now k logs → Opens (T.disk to.new).files tenant.now k logs) }
@@ -96,9 +96,9 @@ fn copy_all<F: Store, T: Store>(
     requires free { (file : ℕ) → IsThere (T.disk to.old) file → file < first }
     requires room { first + length numbers.now < 2 ^ 64 }
     ensures copied { OnOk result ((F.disk from.new).honest → (T.disk to.new).honest
-        → (T.disk to.new).files ≡ placed first (map (bytes_of (F.disk from.old)) numbers.now) (T.disk to.old).files) }
+        → (T.disk to.new).files ≡ with_files_from first (map (bytes_of (F.disk from.old)) numbers.now) (T.disk to.old).files) }
     ensures unchanged { Keeps (F.disk from.old) (F.disk from.new) }
-    ensures spared { Spares (T.disk to.old) (T.disk to.new) }
+    ensures spared { KeepsFiles (T.disk to.old) (T.disk to.new) }
 {
     let mut next = first;
     let mut bytes = 0u64;

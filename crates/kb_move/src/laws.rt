@@ -6,7 +6,7 @@ ghost use Rattle.kb_store.specs.Disk.{Files, Table};
 ghost use Rattle.kb_topics.specs.Known.{Known};
 ghost use Rattle.kb_tenant_state.specs.Logs.{Logs};
 ghost use Rattle.kb_opening.specs.Opened.{IsOpened};
-ghost use Rattle.kb_move.specs.Alike.{AreAlike, Opens, joined, numbers_here, numbers_there, owned_in, owners_of};
+ghost use Rattle.kb_move.specs.Alike.{AreAlike, Opens, with_owned_files, numbers_here, numbers_there, owned_in, owners_of};
 ghost use Rattle.kb_move.specs.Backup.{AreLengths, HaveGrown, IsBackup};
 
 /// Files that say the same, in the same order, open to the same: a tenant's topics, their logs and all that groups committed.
@@ -21,14 +21,14 @@ pub fn alike_files_open_alike()
 #[tactic(auto, using(crate::proofs::Joined::opens_joined))]
 pub fn copies_open_alike()
     ensures { (from to : Files) (name : List ℕ) (n : ℕ) (k : Known) (logs : Logs) → AllByRecursion (λ m. m < n) (keys to)
-        → owned_in name to ≡ [] → Opens from name k logs → Opens (joined n name from to) name k logs }
+        → owned_in name to ≡ [] → Opens from name k logs → Opens (with_owned_files n name from to) name k logs }
 {}
 
 /// Each other tenant of that store has there what it had.
 #[tactic(auto, using(crate::proofs::Joined::opens_beside))]
 pub fn copies_leave_the_others()
     ensures { (from to : Files) (name other : List ℕ) (n : ℕ) (k : Known) (logs : Logs) → AllByRecursion (λ m. m < n) (keys to)
-        → bytes_eq name other ≡ false → Opens to other k logs → Opens (joined n name from to) other k logs }
+        → bytes_eq name other ≡ false → Opens to other k logs → Opens (with_owned_files n name from to) other k logs }
 {}
 
 /// The files of a moment, copied later while they grow, each up to the length that it had then, are those of that moment. So each tenant

@@ -4,15 +4,19 @@
 //! `kb_start`. No broker serves the folders meanwhile. What comes of it is printed.
 #![tactic(auto)]
 
+mod files;
+mod laws;
+
 use clap::{Arg, ArgAction, ArgMatches, Command};
+use files::{copy_to_last, remove_tenant};
 use kb_folder::{FolderFault, FolderStore, HostFolder};
-use kb_move::{Copied, MoveFault, copy_tenant, tenant_files};
+use kb_move::{Copied, MoveFault, tenant_files};
 use kb_operator::{
     DataStore, FolderJournal, OperatorFault, hold, is_folder, look_into, store_to_read,
     store_to_serve,
 };
-use kb_start::remove_files;
-use kb_store::{Store, StoreFault};
+use kb_store::StoreFault;
+pub use laws::removals_leave_the_others;
 use std::alloc::{AllocError, Global};
 use std::fs::File;
 use std::io;
@@ -206,19 +210,11 @@ fn remove(
     let _held = hold(rt, data)?;
     let journal = FolderJournal::new(alloc, data, true)?;
     let mut store = store_to_fill(rt, &journal)?;
-    match removed(alloc, &mut store, tenant) {
+    match remove_tenant(alloc, &mut store, tenant) {
         Ok(0) => Err(files_fault(alloc, tenant, MoveFault::Absent, data)?),
         Ok(files) => Ok(files),
         Err(fault) => Err(TenantFault::Operator(journal.of_store(alloc, fault))),
     }
-}
-
-/// Removes all files of a tenant for good, and answers how many.
-fn removed<S: Store>(alloc: Global, store: &mut S, tenant: &str) -> Result<usize, StoreFault> {
-    let held = tenant_files(alloc, store, tenant)?;
-    remove_files(alloc, store, &held.numbers)?;
-    store.sync()?;
-    Ok(held.numbers.len())
 }
 
 /// A folder from which a tenant's files are copied. It is held open meanwhile, so that no broker begins to serve it.
@@ -262,7 +258,7 @@ impl Source {
         there: &FolderJournal,
         mut target: DataStore,
     ) -> Result<Copied, TenantFault> {
-        match copied(alloc, &mut self.store, tenant, &mut target) {
+        match copy_to_last(alloc, &mut self.store, tenant, &mut target) {
             Ok(copied) => Ok(copied),
             Err(MoveFault::Store(fault)) => {
                 let said = fault_of(alloc, &self.journal, there, fault);
@@ -271,18 +267,6 @@ impl Source {
             Err(fault) => Err(files_fault(alloc, tenant, fault, there.folder())?),
         }
     }
-}
-
-/// Copies a tenant's files, and makes the copies last through a loss of power.
-fn copied<F: Store, T: Store>(
-    alloc: Global,
-    from: &mut F,
-    tenant: &str,
-    to: &mut T,
-) -> Result<Copied, MoveFault> {
-    let copied = copy_tenant(alloc, from, tenant, to)?;
-    to.sync()?;
-    Ok(copied)
 }
 
 /// The fault of whichever folder refused something.

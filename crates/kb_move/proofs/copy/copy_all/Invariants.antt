@@ -1,6 +1,6 @@
 use Rattle.std.proofs.Common.{◌≡◌, ◌<◌, ◌+◌, ℕ, length, map, take}
 use Rattle.kb_store.specs.Disk.{IsThere, Keeps, bytes_of}
-use Rattle.kb_move.specs.Copied.{Spares, placed}
+use Rattle.kb_move.specs.Copied.{KeepsFiles, with_files_from}
 use Rattle.kb_move.proofs.copy.copy_all.Given as goal
 
 -- the first files are copied, and all numbers from the next one on are free
@@ -15,7 +15,7 @@ invariant-loop-number g l =
       room : length l.buffer ≡ length l.fn.buffer;
       next : l.next ≡ l.fn.first + l.number-index;
       free : (file : ℕ) → IsThere now file → file < l.next;
-      spared : Spares old now;
+      spared : KeepsFiles old now;
       copied : has.honest → now.honest
-          → now.files ≡ placed l.fn.first (map (bytes_of had) (take l.number-index l.fn.numbers)) old.files;
+          → now.files ≡ with_files_from l.fn.first (map (bytes_of had) (take l.number-index l.fn.numbers)) old.files;
     }

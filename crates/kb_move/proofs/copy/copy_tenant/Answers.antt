@@ -5,7 +5,7 @@ use Rattle.kb_store.specs.Disk.{Files, bytes_of}
 use Rattle.kb_log.specs.Shelf.{next_number, one_above}
 use Rattle.kb_log.proofs.Numbers.{tidy}
 use Rattle.kb_move.specs.Alike.{Opens}
-use Rattle.kb_move.specs.Copied.{first_number, owned, placed}
+use Rattle.kb_move.specs.Copied.{first_number, owned, with_files_from}
 use Rattle.kb_move.proofs.Disks.{spares_behind}
 use Rattle.kb_move.proofs.Honest.{copy_opens, copy_spares, none_told}
 use Rattle.kb_move.proofs.copy.copy_tenant.Goals as goal
@@ -40,11 +40,11 @@ returns-clause-copied g c h k =
     ∙ ap (λ n. max n c.in-Some-Some.next_there) here
     ∙ ap (max (one_above (keys from.table))) there in
     e.copied h k
-    ∙ ap (λ ns. placed first (map (bytes_of mid) ns) now.files) c.deref.ensures.value
-    ∙ ap (placed first (map (bytes_of mid) numbers)) (c.in_ok-there.ensures.unchanged.files (e.spared.honest k))
-    ∙ ap (λ (f : Files). placed first (map (λ n. unwrap_or (get f n) []) numbers) to.files) files
-    ∙ ap (λ ns. placed first (map (bytes_of from) ns) to.files) (c.in_ok-found.ensures.numbers before)
-    ∙ ap (λ n. placed n (map (bytes_of from) (owned c.args.tenant.now from)) to.files) begins
+    ∙ ap (λ ns. with_files_from first (map (bytes_of mid) ns) now.files) c.deref.ensures.value
+    ∙ ap (with_files_from first (map (bytes_of mid) numbers)) (c.in_ok-there.ensures.unchanged.files (e.spared.honest k))
+    ∙ ap (λ (f : Files). with_files_from first (map (λ n. unwrap_or (get f n) []) numbers) to.files) files
+    ∙ ap (λ ns. with_files_from first (map (bytes_of from) ns) to.files) (c.in_ok-found.ensures.numbers before)
+    ∙ ap (λ n. with_files_from n (map (bytes_of from) (owned c.args.tenant.now from)) to.files) begins
 
 pub returns-clause-spared : goal.returns-clause-spared
 returns-clause-spared g c = spares_behind _ _ _ c.in_ok-there.ensures.unchanged c.in_ok-bytes.ensures.spared

@@ -8,7 +8,7 @@ use Rattle.std.specs.List.{flat_map}
 use Rattle.std.specs.Io.KnownBytes.{Appends, Consumes}
 use Rattle.kb_store.specs.Disk.{Disk}
 use Rattle.kb_isolation_spec.specs.Machine.{Closes, Comes}
-use Rattle.kb_isolation_spec.specs.Calls.{output_of, taken}
+use Rattle.kb_isolation_spec.specs.Calls.{output_of, output_taken}
 use Rattle.kb_broker.specs.Hosts.{OnStore}
 use Rattle.kb_node.specs.declared.socket.Socket.{Socket}
 use Rattle.kb_node.specs.Traffic.{Along, AreAbout, Deed, IsDone, Event, Happens, IsUsed, Read, Take, Write, connection_of, handed_by, is_telling, is_write, read_by, taken_by, written_by}
@@ -207,7 +207,7 @@ module _ {S T : Type 0} {known : Deed → S → Type 0} (disk : S → Disk) (con
 
   -- the output was taken, where all was written
   pub takes : (old new : Socket T) (from to : OnStore S) → known (Take old.connection (output_of old.connection from.state)) to.store
-      → to ≡ record from { state = taken from.state old.connection } → new.stream ≡ old.stream
+      → to ≡ record from { state = output_taken from.state old.connection } → new.stream ≡ old.stream
       → unwritten_of old ≡ [] → unwritten_of new ≡ output_of old.connection from.state → unhanded_of new ≡ unhanded_of old
       → (old.is_over ≡ true → new.is_over ≡ true) → new.is_lost ≡ old.is_lost → CarriesWith disk known contents remaining old new from to
   takes old new from to lasts host stream none out in_ over lost = record {
@@ -340,7 +340,7 @@ module _ {S T : Type 0} {known : Deed → S → Type 0} (disk : S → Disk) (con
 
   -- the output was taken, where all was written
   pub takes_told : (old new : Socket T) (from to : OnStore S) → known (Take old.connection (output_of old.connection from.state)) to.store
-      → to ≡ record from { state = taken from.state old.connection } → new.stream ≡ old.stream → unwritten_of old ≡ [] → unwritten_of new ≡ output_of old.connection from.state
+      → to ≡ record from { state = output_taken from.state old.connection } → new.stream ≡ old.stream → unwritten_of old ≡ [] → unwritten_of new ≡ output_of old.connection from.state
       → unhanded_of new ≡ unhanded_of old → (old.is_over ≡ true → new.is_over ≡ true) → new.is_lost ≡ old.is_lost
       → TellsWith disk known contents remaining old new from to
   unfolding takes

@@ -7,7 +7,7 @@ use Rattle.std.specs.declared.vec.Vec.{Vec}
 use Rattle.std.proofs.lemmas.List.{map-append}
 use Rattle.kb_store.specs.Disk.{Disk}
 use Rattle.kb_isolation_spec.specs.Machine.{Closes, Comes, Happening, Moment, Opens}
-use Rattle.kb_isolation_spec.specs.Broker.{IsRun, last_after}
+use Rattle.kb_isolation_spec.specs.Broker.{IsEventRun, last_after}
 use Rattle.kb_broker.specs.Hosts.{OnStore}
 use Rattle.kb_node.specs.declared.socket.Socket.{Socket}
 use Rattle.kb_node.specs.Traffic.{Along, AreAbout, AreDone, Commit, Deed, Event, Fail, Happens, IsDone, Take, connection_of, events_of, is_moment, moments_of, tried_after}
@@ -248,7 +248,7 @@ timeless n [] all = tt
 timeless n (d ∷ ds) all = (no_moment n d all.0, timeless n ds all.1)
 
 -- what a socket does opens nothing, so no number is tried in it
-pub run_about : (n t : ℕ) (deeds : List Deed) → AreAbout n deeds → IsRun t (events_of deeds)
+pub run_about : (n t : ℕ) (deeds : List Deed) → AreAbout n deeds → IsEventRun t (events_of deeds)
 run_about n t [] all = tt
 run_about n t (Event (Opens k) ∷ ds) all = absurd (let no : None ≡ Some n = all.0 in cc)
 run_about n t (Event (Comes k piece) ∷ ds) all = run_about n t ds all.1
@@ -270,7 +270,7 @@ tried_about n t (Fail ∷ ds) all = tried_about n t ds all.1
 
 -- 3. Events, one list after another
 
-run_then : (t : ℕ) (es fs : List Happening) → IsRun t es → IsRun (tried_after t es) fs → IsRun t (es ++ fs)
+run_then : (t : ℕ) (es fs : List Happening) → IsEventRun t es → IsEventRun (tried_after t es) fs → IsEventRun t (es ++ fs)
 run_then t [] fs h k = k
 run_then t (Opens n ∷ es) fs h k = (h.0, run_then n es fs h.1 k)
 run_then t (Comes n piece ∷ es) fs h k = run_then t es fs h k
@@ -309,10 +309,10 @@ no_moments (Commit ∷ ds) all = no_moments ds all.1
 no_moments (Fail ∷ ds) all = no_moments ds all.1
 
 -- a run goes on by another where that has its numbers above those of the first
-pub runs_then : (a b : ℕ) (ds es : List Deed) → IsRun a (events_of ds) → b ≡ tried_after a (events_of ds) → IsRun b (events_of es)
-    → IsRun a (events_of (ds ++ es))
-runs_then a b ds es one is two = subst (λ x. IsRun a x) (sym (events_then ds es))
-    (run_then a (events_of ds) (events_of es) one (subst (λ t. IsRun t (events_of es)) is two))
+pub runs_then : (a b : ℕ) (ds es : List Deed) → IsEventRun a (events_of ds) → b ≡ tried_after a (events_of ds) → IsEventRun b (events_of es)
+    → IsEventRun a (events_of (ds ++ es))
+runs_then a b ds es one is two = subst (λ x. IsEventRun a x) (sym (events_then ds es))
+    (run_then a (events_of ds) (events_of es) one (subst (λ t. IsEventRun t (events_of es)) is two))
 
 pub tries_then : (a b c : ℕ) (ds es : List Deed) → b ≡ tried_after a (events_of ds) → c ≡ tried_after b (events_of es)
     → c ≡ tried_after a (events_of (ds ++ es))
@@ -326,7 +326,7 @@ pub record AreTimeless {S : Type 0} (disk : S → Disk) (known : Deed → S → 
   pub deeds : List Deed
   pub timeless : AllByRecursion (λ d. is_moment d ≡ false) deeds
   pub done : AreDone disk known deeds from.broker to.broker
-  pub is_run : IsRun from.tried (events_of deeds)
+  pub is_run : IsEventRun from.tried (events_of deeds)
   pub tried : to.tried ≡ tried_after from.tried (events_of deeds)
 
 -- what was done was made to last, or that was refused
@@ -384,7 +384,7 @@ run_of {S} {T} {disk} {known} {contents} {remaining} {now} {from} {to} turn =
       deeds = all.deeds;
       timeless = all.timeless;
       done = all.done;
-      is_run = (turn.moment.within.0, subst (λ t. IsRun t (events_of all.deeds)) turn.tried all.is_run);
+      is_run = (turn.moment.within.0, subst (λ t. IsEventRun t (events_of all.deeds)) turn.tried all.is_run);
       tried = all.tried ∙ ap (λ t. tried_after t (events_of all.deeds)) turn.tried;
     }
 

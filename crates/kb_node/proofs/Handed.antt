@@ -7,14 +7,14 @@ use Rattle.kb_isolation_spec.specs.Broker.{BrokerState}
 use Rattle.kb_broker.specs.declared.script.ScriptFault.{ScriptFault}
 use Rattle.kb_broker.specs.declared.script.ScriptFault.TheVariants as script_faults
 use Rattle.kb_broker.specs.Script.{Script, said_by, script}
-use Rattle.kb_broker.specs.ScriptRun.{IsWritten, IsWrittenInPart, IsPlayed, IsEnded, HavePlayed, IsStopped}
+use Rattle.kb_broker.specs.ScriptRun.{AreStepsWritten, IsWrittenInPart, IsPlayed, IsEnded, HavePlayed, IsStopped}
 use Rattle.kb_node.specs.declared.fault.NodeFault.{NodeFault}
 use Rattle.kb_node.specs.declared.fault.NodeFault.TheVariants as faults
-use Rattle.kb_node.specs.Node.{IsRun, IsHalted, IsHaltedAt, IsFaultOf}
+use Rattle.kb_node.specs.Node.{IsScriptRun, IsHalted, IsHaltedAt, IsScriptFault}
 
 -- ---- what was written stands after a flush
 
-written-kept : (b : BrokerState) (es : List Happening) (from mid to : Option (List ℕ)) → IsWritten b es from mid → Keeps mid to → IsWritten b es from to
+written-kept : (b : BrokerState) (es : List Happening) (from mid to : Option (List ℕ)) → AreStepsWritten b es from mid → Keeps mid to → AreStepsWritten b es from to
 written-kept b es from mid to w k = (w.0, w.1, Appends-kept from mid to _ w.2 k)
 
 in-part-kept : (b : BrokerState) (es : List Happening) (from mid to : Option (List ℕ)) → IsWrittenInPart b es from mid → Keeps mid to → IsWrittenInPart b es from to
@@ -60,7 +60,7 @@ answered-ok (Ok x) (Ok y) b (Some text) from mid to run k ok = played-kept b (sc
 
 -- a run is known whatever it answered
 run-known : {A : Type 0} (ran : Result A ScriptFault) (b : BrokerState) (text : List ℕ) (from mid to : Option (List ℕ))
-    → RunOk ran b (Some text) from mid → RunErr ran b (Some text) from mid → Keeps mid to → IsRun b (script b text) from to
+    → RunOk ran b (Some text) from mid → RunErr ran b (Some text) from mid → Keeps mid to → IsScriptRun b (script b text) from to
 run-known (Ok x) b text from mid to ok err k = inl (played-kept b (script b text) from mid to ok k)
 run-known (Err e) b text from mid to ok err k = inr (e, ended-kept b (script b text) e from mid to err k)
 
@@ -70,13 +70,13 @@ fault-known ran fault b text from mid to is err k =
     ended-kept b (script b text) fault from mid to (subst (λ r. RunErr r b (Some text) from mid) is err) k
 
 halted : {A : Type 0} (ran : Result A ScriptFault) (fault : NodeFault) (b : BrokerState) (text : List ℕ) (from mid to : Option (List ℕ))
-    → RunOk ran b (Some text) from mid → RunErr ran b (Some text) from mid → Keeps mid to → IsFaultOf fault ran → IsHalted b (script b text) fault from to
+    → RunOk ran b (Some text) from mid → RunErr ran b (Some text) from mid → Keeps mid to → IsScriptFault fault ran → IsHalted b (script b text) fault from to
 halted ran (faults.Script fault) b text from mid to ok err k is = fault-known ran fault b text from mid to is err k
 halted ran faults.Write b text from mid to ok err k is = run-known ran b text from mid to ok err k
 halted ran faults.Memory b text from mid to ok err k is = absurd is
 
 pub answered-err : {A B : Type 0} (ran : Result A ScriptFault) (answer : Result B NodeFault) (b : BrokerState) (left from mid to : Option (List ℕ))
-    → RunOk ran b left from mid → RunErr ran b left from mid → Keeps mid to → IfErr answer (λ fault. IsFaultOf fault ran)
+    → RunOk ran b left from mid → RunErr ran b left from mid → Keeps mid to → IfErr answer (λ fault. IsScriptFault fault ran)
     → IfErr answer (λ fault. IfSome left (λ text. IsHalted b (script b text) fault from to))
 answered-err ran (Ok y) b left from mid to ok err k is = tt
 answered-err ran (Err e) b None from mid to ok err k is = tt
@@ -93,14 +93,14 @@ stop-known (Ok x) b text left from mid to ok stopped k = inl (played-kept b (scr
 stop-known (Err e) b text left from mid to ok stopped k = inr (e, stopped-kept b text left e from mid to stopped k)
 
 halted-at : {A : Type 0} (ran : Result A ScriptFault) (fault : NodeFault) (b : BrokerState) (text : List ℕ) (left from mid to : Option (List ℕ))
-    → RunOk ran b (Some text) from mid → RunStopped ran b (Some text) left from mid → Keeps mid to → IsFaultOf fault ran → IsHaltedAt b text left fault from to
+    → RunOk ran b (Some text) from mid → RunStopped ran b (Some text) left from mid → Keeps mid to → IsScriptFault fault ran → IsHaltedAt b text left fault from to
 halted-at ran (faults.Script fault) b text left from mid to ok stopped k is =
     stopped-kept b text left fault from mid to (subst (λ r. RunStopped r b (Some text) left from mid) is stopped) k
 halted-at ran faults.Write b text left from mid to ok stopped k is = stop-known ran b text left from mid to ok stopped k
 halted-at ran faults.Memory b text left from mid to ok stopped k is = absurd is
 
 pub answered-stopped : {A B : Type 0} (ran : Result A ScriptFault) (answer : Result B NodeFault) (b : BrokerState) (text left from mid to : Option (List ℕ))
-    → RunOk ran b text from mid → RunStopped ran b text left from mid → Keeps mid to → IfErr answer (λ fault. IsFaultOf fault ran)
+    → RunOk ran b text from mid → RunStopped ran b text left from mid → Keeps mid to → IfErr answer (λ fault. IsScriptFault fault ran)
     → IfErr answer (λ fault. IfSome text (λ t. IsHaltedAt b t left fault from to))
 answered-stopped ran (Ok y) b text left from mid to ok stopped k is = tt
 answered-stopped ran (Err e) b None left from mid to ok stopped k is = tt

@@ -3,12 +3,12 @@ use Rattle.std.proofs.Common.{◌≡◌, ◌≢◌, ◌<◌, ◌≤◌, ◌⊎�
 use Rattle.std.specs.List.{AllByRecursion}
 use Rattle.std.proofs.lemmas.Bool.Decides.{nat_tests}
 use Rattle.kb_store.specs.Disk.{Disk}
-use Rattle.kb_isolation_spec.specs.Session.{Session, fresh}
+use Rattle.kb_isolation_spec.specs.Session.{Session, new_session}
 use Rattle.kb_isolation_spec.specs.Greeting.{Setup}
-use Rattle.kb_isolation_spec.specs.Machine.{Happening, Opens, Comes, Closes, Moment, Line, Sent, View, each, find_line, leaving, on, run, sent, stepped, those, those_sent}
-use Rattle.kb_isolation_spec.specs.Owners.{Pairwise, concerns, heard, destiny, purge}
-use Rattle.kb_isolation_spec.specs.Broker.{BrokerState, Grows, IsCalmFor, IsRun, IsStep, Mine, Rising, last_after, only, owned_by, view_of}
-use Rattle.kb_isolation_spec.specs.Calls.{closed, is_open, open_in, opened, other_than, output_in, output_of, taken, without_output}
+use Rattle.kb_isolation_spec.specs.Machine.{Happening, Opens, Comes, Closes, Moment, Line, Sent, View, each_line, find_line, leaving, on, run, sent, stepped, those, those_sent}
+use Rattle.kb_isolation_spec.specs.Owners.{Pairwise, concerns, greeted_so_far, destiny, purge}
+use Rattle.kb_isolation_spec.specs.Broker.{BrokerState, Grows, IsCalmFor, IsEventRun, IsStep, Mine, Rising, last_after, only, owned_by, view_of}
+use Rattle.kb_isolation_spec.specs.Calls.{closed, is_open, open_in, opened, other_than, output_in, output_of, output_taken, without_output}
 use Rattle.kb_isolation_spec.proofs.Laws.{those-each}
 use Rattle.kb_isolation_spec.proofs.Owned.{calm-nobody, found, not-found, owned-mine, unowned-mine}
 use Rattle.kb_isolation_spec.proofs.Owners.{SameFate, owns-fates}
@@ -24,7 +24,7 @@ use Rattle.kb_node.proofs.PutBack.{IsNew, all_back, back-destiny, back-heard, ba
 
 abbrev IsMade : Deed → BrokerState → BrokerState → Type 0
 IsMade (Event e) x y = IsStep e x y × ((ended : List Sent) × Leads e x y ended)
-IsMade (Take n bytes) x y = (y ≡ taken x n) × (bytes ≡ output_of n x)
+IsMade (Take n bytes) x y = (y ≡ output_taken x n) × (bytes ≡ output_of n x)
 IsMade Commit x y = y ≡ x
 IsMade Fail x y = y ≡ x
 
@@ -49,7 +49,7 @@ made_all disk known [] a b h honest = ap (λ x. x.state) h
 made_all disk known (d ∷ ds) a b h honest =
     (h.0.state, made_one disk known d a h.0 h.1 (honest_all disk known ds h.0 b h.2 honest), made_all disk known ds h.0 b h.2 honest)
 
-grows_taken : (x : BrokerState) (k : ℕ) → Grows x (taken x k)
+grows_taken : (x : BrokerState) (k : ℕ) → Grows x (output_taken x k)
 grows_taken x k = record { setup = refl; names = refl; own = λ t. omega arith; unbound = omega arith }
 
 grows_one : (d : Deed) (x y : BrokerState) → IsMade d x y → Grows x y
@@ -124,12 +124,12 @@ open_numbers n (l ∷ ls) (m ∷ ms) e =
     by true h = refl
     by false h = h
 
-open_taken : (n k : ℕ) (ls : List Line) → open_in (find_line n (each (on k without_output) ls)) ≡ open_in (find_line n ls)
+open_taken : (n k : ℕ) (ls : List Line) → open_in (find_line n (each_line (on k without_output) ls)) ≡ open_in (find_line n ls)
 open_taken n k [] = refl
 open_taken n k (l ∷ ls) = by (eqb l.number n) (open_taken n k ls)
   where
-    by : (b : Bool) → open_in (find_line n (each (on k without_output) ls)) ≡ open_in (find_line n ls)
-        → open_in (cond b (Some (on k without_output l.number l.session)) (find_line n (each (on k without_output) ls)))
+    by : (b : Bool) → open_in (find_line n (each_line (on k without_output) ls)) ≡ open_in (find_line n ls)
+        → open_in (cond b (Some (on k without_output l.number l.session)) (find_line n (each_line (on k without_output) ls)))
         ≡ open_in (cond b (Some l.session) (find_line n ls))
     by true h = refl
     by false h = h
@@ -188,7 +188,7 @@ cleared k before j = cond (eqb j k) [] (before j)
 -- where the output of a connection is taken, and then put back in front, the lines are as before
 back_taken : (k : ℕ) (bytes : List ℕ) (before : ℕ → List ℕ) (mine : ℕ → Bool) (all ls : List Line) → bytes ≡ output_in (find_line k all)
     → AllByRecursion (λ l. find_line l.number all ≡ Some l.session) ls
-    → all_back (and_more k bytes before) (those mine (each (on k without_output) ls)) ≡ all_back before (those mine ls)
+    → all_back (and_more k bytes before) (those mine (each_line (on k without_output) ls)) ≡ all_back before (those mine ls)
 back_taken k bytes before mine all [] b f = refl
 back_taken k bytes before mine all (l ∷ ls) b f = by (mine l.number) (back_taken k bytes before mine all ls b f.1)
   where
@@ -200,10 +200,10 @@ back_taken k bytes before mine all (l ∷ ls) b f = by (mine l.number) (back_tak
         ap (λ x. let s : Session = record l.session { output = x } in s) (append-nil (before l.number ++ bytes) ∙ ap (λ x. before l.number ++ x) is)
     same false e = refl
 
-    by : (m : Bool) → all_back (and_more k bytes before) (those mine (each (on k without_output) ls)) ≡ all_back before (those mine ls)
-        → all_back (and_more k bytes before) (cond m (record { number = l.number; session = on k without_output l.number l.session } ∷ those mine (each (on k without_output) ls)) (those mine (each (on k without_output) ls)))
+    by : (m : Bool) → all_back (and_more k bytes before) (those mine (each_line (on k without_output) ls)) ≡ all_back before (those mine ls)
+        → all_back (and_more k bytes before) (cond m (record { number = l.number; session = on k without_output l.number l.session } ∷ those mine (each_line (on k without_output) ls)) (those mine (each_line (on k without_output) ls)))
         ≡ all_back before (cond m (l ∷ those mine ls) (those mine ls))
-    by true rest = ap (λ s. let x : Line = record { number = l.number; session = s } in x ∷ all_back (and_more k bytes before) (those mine (each (on k without_output) ls))) (same (eqb l.number k) refl)
+    by true rest = ap (λ s. let x : Line = record { number = l.number; session = s } in x ∷ all_back (and_more k bytes before) (those mine (each_line (on k without_output) ls))) (same (eqb l.number k) refl)
         ∙ ap (λ xs. let x : Line = record { number = l.number; session = put_back (before l.number) l.session } in x ∷ xs) rest
     by false rest = rest
 
@@ -238,19 +238,19 @@ fate_taken setup k l = by (eqb l.number k)
     by : (b : Bool) → SameFate setup l (record { number = l.number; session = cond b (without_output l.session) l.session })
     by true = record {
       number = refl;
-      fate = λ es. sym (back-destiny l.session.output setup l.number (heard setup (without_output l.session)) es)
-          ∙ ap (λ s. destiny setup l.number s es) (sym (back-heard l.session.output setup (without_output l.session)) ∙ ap (heard setup) whole);
+      fate = λ es. sym (back-destiny l.session.output setup l.number (greeted_so_far setup (without_output l.session)) es)
+          ∙ ap (λ s. destiny setup l.number s es) (sym (back-heard l.session.output setup (without_output l.session)) ∙ ap (greeted_so_far setup) whole);
     }
     by false = record { number = refl; fate = λ es. refl }
 
-fates_taken : (setup : Setup) (k : ℕ) (ls : List Line) → Pairwise (SameFate setup) ls (each (on k without_output) ls)
+fates_taken : (setup : Setup) (k : ℕ) (ls : List Line) → Pairwise (SameFate setup) ls (each_line (on k without_output) ls)
 fates_taken setup k [] = tt
 fates_taken setup k (l ∷ ls) = (fate_taken setup k l, fates_taken setup k ls)
 
-mine_taken : (t k : ℕ) (mine : ℕ → Bool) (es : List Happening) (x : BrokerState) → Mine t mine es x → Mine t mine es (taken x k)
-mine_taken t k mine es x m = owns-fates x.setup t mine x.last es x.lines (each (on k without_output) x.lines) (fates_taken x.setup k x.lines) m
+mine_taken : (t k : ℕ) (mine : ℕ → Bool) (es : List Happening) (x : BrokerState) → Mine t mine es x → Mine t mine es (output_taken x k)
+mine_taken t k mine es x m = owns-fates x.setup t mine x.last es x.lines (each_line (on k without_output) x.lines) (fates_taken x.setup k x.lines) m
 
-rises_taken : (k low last : ℕ) (ls : List Line) → Rising low last ls → Rising low last (each (on k without_output) ls)
+rises_taken : (k low last : ℕ) (ls : List Line) → Rising low last ls → Rising low last (each_line (on k without_output) ls)
 rises_taken k low last [] r = r
 rises_taken k low last (l ∷ ls) r = (r.0, rises_taken k l.number last ls r.1)
 
@@ -427,7 +427,7 @@ module _ (t n : ℕ) (mine : ℕ → Bool) (own : mine n ≡ true) where
           (ap (λ c. cond c [] (before n)) e) (λ le closed. (le, after false e closed))
 
   got_taken : (k tried : ℕ) (bytes : List ℕ) (before : ℕ → List ℕ) (more : List ℕ) (x to : BrokerState) (got later : List Sent) → bytes ≡ output_of k x
-      → IsToldOn n tried (and_more k bytes before n) more (taken x k) to later → got ≡ later
+      → IsToldOn n tried (and_more k bytes before n) more (output_taken x k) to later → got ≡ later
       → IsToldOn n tried (before n) (cond (eqb n k) (bytes ++ more) more) x to got
   got_taken k tried bytes before more x to got later is rest same = record {
     gone = λ le closed. let r = rest.gone le (open_taken n k x.lines ∙ closed) in (same ∙ r.0, empty (eqb n k) refl closed r.1, r.2);
@@ -446,7 +446,7 @@ module _ (t n : ℕ) (mine : ℕ → Bool) (own : mine n ≡ true) where
           ap (λ b. b ++ more) nothing ∙ none
       empty false e closed none = none
 
-  told_on : (ds : List Deed) (tried : ℕ) (before : ℕ → List ℕ) (x to : BrokerState) → Along IsMade ds x to → IsRun tried (events_of ds) → Rising 0 tried x.lines
+  told_on : (ds : List Deed) (tried : ℕ) (before : ℕ → List ℕ) (x to : BrokerState) → Along IsMade ds x to → IsEventRun tried (events_of ds) → Rising 0 tried x.lines
       → NoneBefore before x → Mine t mine (events_of ds) x → IsCalmFor t x to
       → IsToldOn n tried (before n) (taken_of n ds) x to (sent_on (events_of ds) before x)
   told_on [] tried before x to h in_order rises none m calm =
@@ -457,12 +457,12 @@ module _ (t n : ℕ) (mine : ℕ → Bool) (own : mine n ≡ true) where
       told_on ds tried before x to (subst (λ y. Along IsMade ds y to) h.1 h.2) in_order rises none m calm
   told_on (Take k bytes ∷ ds) tried before x to h in_order rises none m calm =
       let after = and_more k bytes before in
-      let rest = told_on ds tried after (taken x k) to (subst (λ y. Along IsMade ds y to) h.1.0 h.2) in_order (rises_taken k 0 tried x.lines rises)
+      let rest = told_on ds tried after (output_taken x k) to (subst (λ y. Along IsMade ds y to) h.1.0 h.2) in_order (rises_taken k 0 tried x.lines rises)
       (λ j closed. clear j (eqb j k) refl (sym (open_taken j k x.lines) ∙ closed)) (mine_taken t k mine (events_of ds) x m)
       (record { own = calm.own; unbound = calm.unbound }) in
-      let same : view_back after (view_of t mine (taken x k)) ≡ view_back before (view_of t mine x) =
+      let same : view_back after (view_of t mine (output_taken x k)) ≡ view_back before (view_of t mine x) =
       ap (λ ls. let w : View = record (view_of t mine x) { lines = ls } in w) (back_taken k bytes before mine x.lines x.lines h.1.1 (found 0 tried x.lines rises)) in
-      got_taken k tried bytes before (taken_of n ds) x to (sent_on (events_of ds) before x) (sent_on (events_of ds) after (taken x k)) h.1.1 rest
+      got_taken k tried bytes before (taken_of n ds) x to (sent_on (events_of ds) before x) (sent_on (events_of ds) after (output_taken x k)) h.1.1 rest
       (ap (λ w. those_sent (only n) (run (purge mine (events_of ds)) w)) (sym same))
     where
       clear : (j : ℕ) (b : Bool) → eqb j k ≡ b → is_open j x ≡ false → cond b (before j ++ bytes) (before j) ≡ []
@@ -486,20 +486,20 @@ module _ (t n : ℕ) (mine : ℕ → Bool) (own : mine n ≡ true) where
     where
       risen : Leads (Opens k) x h.0 h.1.1.0 → Rising 0 k h.0.lines
       risen leads = elim leads [
-        | inl o ↦ subst (λ (y : BrokerState). Rising 0 k y.lines) (sym o.0) (rises_opened 0 tried k (fresh x.setup.request_bytes) x.lines in_order.0 rises)
+        | inl o ↦ subst (λ (y : BrokerState). Rising 0 k y.lines) (sym o.0) (rises_opened 0 tried k (new_session x.setup.request_bytes) x.lines in_order.0 rises)
         | inr o ↦ subst (λ (y : BrokerState). Rising 0 k y.lines) (sym o.0.is) (rises_higher 0 tried k x.lines (let lt = in_order.0 in omega (arith, lt)) rises)
       ]
 
       was : (j : ℕ) → is_open j h.0 ≡ false → Leads (Opens k) x h.0 h.1.1.0 → is_open j x ≡ false
       was j closed leads = elim leads [
-        | inl o ↦ open_before j k (fresh x.setup.request_bytes) x.lines (subst (λ (y : BrokerState). is_open j y ≡ false) o.0 closed)
+        | inl o ↦ open_before j k (new_session x.setup.request_bytes) x.lines (subst (λ (y : BrokerState). is_open j y ≡ false) o.0 closed)
         | inr o ↦ subst (λ (y : BrokerState). is_open j y ≡ false) o.0.is closed
       ]
 
       stays : n ≤ tried → is_open n x ≡ false → Leads (Opens k) x h.0 h.1.1.0 → is_open n h.0 ≡ false
       stays le closed leads = elim leads [
         | inl o ↦ subst (λ (y : BrokerState). is_open n y ≡ false) (sym o.0)
-            (open_behind n k (fresh x.setup.request_bytes) x.lines (let lt = in_order.0 in grind (arith, nat_tests, le, lt)) closed)
+            (open_behind n k (new_session x.setup.request_bytes) x.lines (let lt = in_order.0 in grind (arith, nat_tests, le, lt)) closed)
         | inr o ↦ subst (λ (y : BrokerState). is_open n y ≡ false) (sym o.0.is) closed
       ]
   told_on (Event (Comes k piece) ∷ ds) tried before x to h in_order rises none m calm =
@@ -557,7 +557,7 @@ none_back [] = refl
 none_back (l ∷ ls) = ap (λ ms. l ∷ ms) (none_back ls)
 
 pub isolated : {S : Type 0} (disk : S → Disk) (known : Deed → S → Type 0) (tried : ℕ) (deeds : List Deed) (a b : OnStore S)
-    → AreDone disk known deeds a b → IsRun tried (events_of deeds)
+    → AreDone disk known deeds a b → IsEventRun tried (events_of deeds)
     → Rising 0 a.state.last a.state.lines → a.state.last ≤ tried → is_honest disk b → AreIsolated deeds a.state b.state
 isolated disk known tried deeds a b done in_order rises le honest = record {
   owned = λ t calm n own. got t n (owned_by t (events_of deeds) a.state) own (owned-mine t (events_of deeds) a.state rises) calm;

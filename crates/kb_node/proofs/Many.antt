@@ -17,7 +17,7 @@ use Rattle.std.proofs.lemmas.Map.Made.{nil_from_lookup}
 use Rattle.kb_node.specs.declared.socket.Socket.{Socket}
 use Rattle.kb_node.specs.Commits.{Host}
 use Rattle.kb_node.specs.Numbers.{Rise}
-use Rattle.kb_node.specs.SocketShares.{Counted, Seats, count_of, holder_of, seat_among, without}
+use Rattle.kb_node.specs.SocketShares.{Counted, Seats, count_of, holder_of, seat_among, without_socket}
 use Rattle.kb_node.specs.Seats.{AreSeated, is_let_in_by, open_strangers, open_with, seat_in}
 use Rattle.kb_node.proofs.Counts.{apart}
 use Rattle.kb_node.proofs.Numbers.{is_it, is_not, none_below}
@@ -53,7 +53,7 @@ tied : (n x y : ℕ) → is_at (nat_cmp n) x ≡ true → is_at (nat_cmp n) y �
 tied n x y is = grind (arith, nat_tests, unsigned_tied)
 
 -- nobody has it any more, and all others have what they had
-left_of : (n k : ℕ) (es : Counted) → IsDistinct same (keys_of es) → holder_of k (without n es) ≡ cond (is_at (nat_cmp n) k) None (holder_of k es)
+left_of : (n k : ℕ) (es : Counted) → IsDistinct same (keys_of es) → holder_of k (without_socket n es) ≡ cond (is_at (nat_cmp n) k) None (holder_of k es)
 left_of n k es d = lookup-remove_entry (eq_by_cmp_equiv nat_cmp_total) (is_at (nat_cmp n)) (tied n) k es d
 
 itself : (n : ℕ) → is_at (nat_cmp n) n ≡ true
@@ -71,12 +71,12 @@ as_many number f holder low last es [] none d r all = ap (count_of holder) (nil_
 as_many number f holder low last es (x ∷ xs) none d r all =
     let n = number x in
     let here : holder_of n es ≡ f (Some x) = all n ∙ ap f (is_it number n x xs refl) in
-    let rest = as_many number f holder n last (without n es) xs none (apart_without (is_at (nat_cmp n)) es d) r.1 (λ k. ⊎_elim
+    let rest = as_many number f holder n last (without_socket n es) xs none (apart_without (is_at (nat_cmp n)) es d) r.1 (λ k. ⊎_elim
     (λ e. left_of n k es d ∙ ap (λ b. cond b None (holder_of k es)) (subst (λ j. is_at (nat_cmp n) j ≡ true) (sym e.1) (itself n)) ∙ sym none
     ∙ ap f (sym (none_below number n last k xs r.1 (omega (arith, e.1)))))
     (λ e. left_of n k es d ∙ ap (λ b. cond b None (holder_of k es)) (apart n k e.1) ∙ all k ∙ ap f (is_not number k x xs (λ f. e.1 (sym f))))
     (eqb_tells k n)) in
-    let whole : count_of holder (without n es) + its holder (holder_of n es) ≡ count_of holder es =
+    let whole : count_of holder (without_socket n es) + its holder (holder_of n es) ≡ count_of holder es =
     sum_by-remove_entry (λ h. if nat_eq h holder then 1 else 0) (is_at (nat_cmp n)) es in
     let its_here : its holder (holder_of n es) ≡ its holder (f (Some x)) = ap (its holder) here in
     let one : sum_by (λ x. its holder (f (Some x))) (x ∷ xs) ≡ its holder (f (Some x)) + sum_by (λ x. its holder (f (Some x))) xs =

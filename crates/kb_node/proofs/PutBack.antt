@@ -12,12 +12,12 @@ use Rattle.kb_tenant_api.specs.Replies.{Reaction, Plain, Rebalances}
 use Rattle.kb_isolation_spec.specs.declared.shut.Shut.TheVariants as causes
 use Rattle.kb_isolation_spec.specs.declared.head.Head.{Head}
 use Rattle.kb_isolation_spec.specs.declared.login.Known.{Known}
-use Rattle.kb_isolation_spec.specs.Tenant.{Wait, Awaited, answer, ready}
+use Rattle.kb_isolation_spec.specs.Tenant.{Wait, Awaited, reaction_to, ready}
 use Rattle.kb_isolation_spec.specs.Requests.{Asked, Versions, OtherVersions, Handshake, Authenticate, Another, Malformed, request}
-use Rattle.kb_isolation_spec.specs.Session.{Greeting, Unshaken, Shaken, Bare, Stage, Greets, BoundTo, Session, can, fed, fresh, in_front, replied, room, shut_down, throttled, unanswerable, waiting, without_wait}
+use Rattle.kb_isolation_spec.specs.Session.{Greeting, Unshaken, Shaken, Bare, Stage, Greets, BoundTo, Session, can, fed, new_session, in_front, replied, room, shut_down, throttled, unanswerable, waiting, without_wait}
 use Rattle.kb_isolation_spec.specs.Greeting.{Setup, authenticated, bare_login, bound, empty_frame, failed, failed_reply, for_tenant, greeted, greeted_at, greeted_by, greeted_frame, greeting_after, logged_in, login, shaken}
-use Rattle.kb_isolation_spec.specs.Machine.{Happening, Opens, Comes, Closes, Moment, Line, View, after_reaction, after_turn, again, all_woken, each, find_line, first_able, kept_closed, kept_fed, on, plainly, put, served_at, served_by, step, stepped, those, told, turn, turn_at, turn_of, turns, woken, woken_by, work}
-use Rattle.kb_isolation_spec.specs.Owners.{destiny, greet_turn, greet_turn_at, heard, whose}
+use Rattle.kb_isolation_spec.specs.Machine.{Happening, Opens, Comes, Closes, Moment, Line, View, after_reaction, after_turn, again, all_woken, each_line, find_line, first_able, kept_closed, kept_fed, on, plainly, kept_by_turn, served_at, served_by, step, stepped, those, told, turn, turn_at, turn_of, turns, woken, woken_by, work}
+use Rattle.kb_isolation_spec.specs.Owners.{destiny, greet_turn, greet_turn_at, greeted_so_far, whose}
 use Rattle.kb_isolation_spec.proofs.Laws.{those-each}
 
 -- 1. A connection
@@ -111,21 +111,21 @@ back-again : (p : List ℕ) (setup : Setup) (n : ℕ) (s : Session) → again (g
 back-again p setup zero s = refl
 back-again p setup (suc n) s = ap (again (greet_turn setup) n) (back-greet_turn p setup s) ∙ back-again p setup n (greet_turn setup s)
 
-pub back-heard : (p : List ℕ) (setup : Setup) (s : Session) → heard setup (put_back p s) ≡ put_back p (heard setup s)
-unfolding heard
+pub back-heard : (p : List ℕ) (setup : Setup) (s : Session) → greeted_so_far setup (put_back p s) ≡ put_back p (greeted_so_far setup s)
+unfolding greeted_so_far
 back-heard p setup s = back-again p setup (length s.unread) s
 
 pub back-destiny : (p : List ℕ) (setup : Setup) (n : ℕ) (s : Session) (es : List Happening) → destiny setup n (put_back p s) es ≡ destiny setup n s es
 back-destiny p setup n s [] = refl
 back-destiny p setup n s (Opens m ∷ es) = back-destiny p setup n s es
 back-destiny p setup n s (Comes m piece ∷ es) = by (eqb m n)
-    (ap (λ x. destiny setup n x es) (ap (heard setup) (back-fed p piece s) ∙ back-heard p setup (fed piece s)) ∙ back-destiny p setup n (heard setup (fed piece s)) es)
+    (ap (λ x. destiny setup n x es) (ap (greeted_so_far setup) (back-fed p piece s) ∙ back-heard p setup (fed piece s)) ∙ back-destiny p setup n (greeted_so_far setup (fed piece s)) es)
     (back-destiny p setup n s es)
   where
-    by : (b : Bool) → destiny setup n (heard setup (fed piece (put_back p s))) es ≡ destiny setup n (heard setup (fed piece s)) es
+    by : (b : Bool) → destiny setup n (greeted_so_far setup (fed piece (put_back p s))) es ≡ destiny setup n (greeted_so_far setup (fed piece s)) es
         → destiny setup n (put_back p s) es ≡ destiny setup n s es
-        → cond b (destiny setup n (heard setup (fed piece (put_back p s))) es) (destiny setup n (put_back p s) es)
-        ≡ cond b (destiny setup n (heard setup (fed piece s)) es) (destiny setup n s es)
+        → cond b (destiny setup n (greeted_so_far setup (fed piece (put_back p s))) es) (destiny setup n (put_back p s) es)
+        ≡ cond b (destiny setup n (greeted_so_far setup (fed piece s)) es) (destiny setup n s es)
     by true here rest = here
     by false here rest = rest
 back-destiny p setup n s (Closes m ∷ es) = by (eqb m n) (back-destiny p setup n s es)
@@ -157,7 +157,7 @@ back-served_by p setup kept clock n head Versions s = back-replied p head _ s
 back-served_by p setup kept clock n head OtherVersions s = back-replied p head _ s
 back-served_by p setup kept clock n head (Handshake version mechanism) s = back-replied p head _ s
 back-served_by p setup kept clock n head (Authenticate message) s = back-replied p head _ s
-back-served_by p setup kept clock n head (Another key version body) s = back-reaction p (answer setup.node kept clock n key version body) head version body s
+back-served_by p setup kept clock n head (Another key version body) s = back-reaction p (reaction_to setup.node kept clock n key version body) head version body s
 back-served_by p setup kept clock n head Malformed s = refl
 
 back-served_at : (p : List ℕ) (setup : Setup) (kept : Kept) (clock n : ℕ) (s : Session) (f : Front)
@@ -188,7 +188,7 @@ back-woken_by p kept clock n s (BoundTo tenant (Some wait)) = back-told p (ready
 
 -- what was taken of each is put back
 abbrev pub all_back : (ℕ → List ℕ) → List Line → List Line
-all_back before ls = each (λ n s. put_back (before n) s) ls
+all_back before ls = each_line (λ n s. put_back (before n) s) ls
 
 abbrev pub view_back : (ℕ → List ℕ) → View → View
 view_back before w = record w { lines = all_back before w.lines }
@@ -197,10 +197,10 @@ abbrev line_back : (ℕ → List ℕ) → Line → Line
 line_back before l = record { number = l.number; session = put_back (before l.number) l.session }
 
 back-each : (before : ℕ → List ℕ) (g : ℕ → Session → Session) → ((n : ℕ) (s : Session) → g n (put_back (before n) s) ≡ put_back (before n) (g n s))
-    → (ls : List Line) → each g (all_back before ls) ≡ all_back before (each g ls)
+    → (ls : List Line) → each_line g (all_back before ls) ≡ all_back before (each_line g ls)
 back-each before g same [] = refl
 back-each before g same (l ∷ ls) =
-    ap (λ s. let m : Line = record { number = l.number; session = s } in m ∷ each g (all_back before ls)) (same l.number l.session)
+    ap (λ s. let m : Line = record { number = l.number; session = s } in m ∷ each_line g (all_back before ls)) (same l.number l.session)
     ∙ ap (λ ms. let m : Line = record { number = l.number; session = put_back (before l.number) (g l.number l.session) } in m ∷ ms) (back-each before g same ls)
 
 back-on : (before : ℕ → List ℕ) (n : ℕ) (f : Session → Session) → ((p : List ℕ) (s : Session) → f (put_back p s) ≡ put_back p (f s))
@@ -250,10 +250,10 @@ module _ (before : ℕ → List ℕ) where
       (back-each before (on n (greeted w.setup greeting)) (back-on before n (greeted w.setup greeting) (λ p s. back-greeted p w.setup greeting s)) w.lines)
   back-turn_at w n f (BoundTo tenant wait) =
       let setup = for_tenant w.setup tenant in
-      let kept = put setup w.kept w.clock n f in
+      let kept = kept_by_turn setup w.kept w.clock n f in
       ap (λ ls. all_woken (let v : View = record w { kept = kept; lines = ls } in v))
       (back-each before (on n (after_turn setup w.kept w.clock n)) (back-on before n (after_turn setup w.kept w.clock n) (λ p s. back-after_turn p setup w.kept w.clock n s)) w.lines)
-      ∙ back-woken (record w { kept = kept; lines = each (on n (after_turn setup w.kept w.clock n)) w.lines })
+      ∙ back-woken (record w { kept = kept; lines = each_line (on n (after_turn setup w.kept w.clock n)) w.lines })
 
   back-turn_of : (w : View) (o : Option Line) → turn_of (view_back before w) (option_map (line_back before) o) ≡ view_back before (turn_of w o)
   back-turn_of w None = refl
@@ -290,12 +290,12 @@ module _ (before : ℕ → List ℕ) where
 
   pub back-step : (e : Happening) (w : View) → IsNew e → step e (view_back before w) ≡ view_back before (step e w)
   back-step (Opens n) w new = ap (λ ls. let v : View = record w { lines = ls } in v)
-      (ap (λ p. let l : Line = record { number = n; session = put_back p (fresh w.setup.request_bytes) } in all_back before w.lines ++ l ∷ []) (sym new)
-      ∙ sym (map-append (line_back before) w.lines (record { number = n; session = fresh w.setup.request_bytes } ∷ [])))
+      (ap (λ p. let l : Line = record { number = n; session = put_back p (new_session w.setup.request_bytes) } in all_back before w.lines ++ l ∷ []) (sym new)
+      ∙ sym (map-append (line_back before) w.lines (record { number = n; session = new_session w.setup.request_bytes } ∷ [])))
   back-step (Comes n piece) w new =
-      let lines = each (on n (fed piece)) w.lines in
+      let lines = each_line (on n (fed piece)) w.lines in
       let kept = kept_fed piece w.clock n (find_line n w.lines) w.kept in
-      ap (λ k. turns (let v : View = record w { kept = k; lines = each (on n (fed piece)) (all_back before w.lines) } in v))
+      ap (λ k. turns (let v : View = record w { kept = k; lines = each_line (on n (fed piece)) (all_back before w.lines) } in v))
       (ap (λ o. kept_fed piece w.clock n o w.kept) (back-find before n w.lines) ∙ back-kept_fed piece w.clock n n (find_line n w.lines) w.kept)
       ∙ ap (λ ls. turns (let v : View = record w { kept = kept; lines = ls } in v))
       (back-each before (on n (fed piece)) (back-on before n (fed piece) (λ p s. back-fed p piece s)) w.lines)

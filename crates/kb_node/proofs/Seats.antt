@@ -11,8 +11,8 @@ use Rattle.kb_node.specs.Commits.{Host}
 use Rattle.kb_node.specs.Cores.{seen}
 use Rattle.kb_node.specs.Numbers.{IsInOrder, Rise, socket_of}
 use Rattle.kb_node.specs.Waiting.{socket_at}
-use Rattle.kb_node.specs.SocketShares.{IsGiven, Seats, holder_of, seat_among}
-use Rattle.kb_node.specs.Seats.{AreSeated, IsLeft, IsReseated, KeepsSeat, seat_in, seat_of}
+use Rattle.kb_node.specs.SocketShares.{IsSeated, Seats, holder_of, seat_among}
+use Rattle.kb_node.specs.Seats.{AreSeated, FreesSeat, IsReseated, KeepsSeat, seat_in, seat_of}
 use Rattle.kb_node.proofs.Counts.{given_again}
 use Rattle.kb_node.proofs.Cores.{item_at}
 use Rattle.kb_node.proofs.Numbers.{behind_here, behind_other, find_here, find_is, left_out, none_above, numbers_of, remove_here, remove_other, rise_append, rise_filter, rise_remove, rise_set, rise_up, set_here, set_other}
@@ -54,7 +54,7 @@ module _ {T : Type 0} where
   kept_then s t u one two = (two.0 ∙ one.0, two.1 ∙ one.1)
 
   -- its connection has a seat, and another socket takes its place
-  pub given_seat : (a b : Seats) (s t : Socket T) (o : Option ℕ) → IsGiven s.connection o a b → seat_of a.tenants t ≡ o → IsReseated s t a b
+  pub given_seat : (a b : Seats) (s t : Socket T) (o : Option ℕ) → IsSeated s.connection o a b → seat_of a.tenants t ≡ o → IsReseated s t a b
   given_seat a b s t o given is = record { tenants = given.tenants; seat = λ had. given.seat ∙ sym is; others = given.others }
 
   -- what was seen of it where branches joined
@@ -77,7 +77,7 @@ module _ {T : Type 0} where
   closed_seat : (tenants : ℕ) (s : Socket T) → s.is_ended ≡ true → seat_in tenants (Some s) ≡ None
   closed_seat tenants s is = ap (λ c. if c then None else seat_of tenants s) is
 
-  left_seat : (b c : Seats) (t : Socket T) → holder_of t.connection b.sockets ≡ seat_of b.tenants t → IsLeft t b c
+  left_seat : (b c : Seats) (t : Socket T) → holder_of t.connection b.sockets ≡ seat_of b.tenants t → FreesSeat t b c
       → holder_of t.connection c.sockets ≡ seat_in c.tenants (Some t)
   left_seat b c t had left = left.seat ∙ ap (λ o. if t.is_ended then None else o) had
       ∙ ap (λ m. seat_in m (Some t)) (sym left.tenants)
@@ -87,8 +87,8 @@ is_not true h = refl
 is_not false h = absurd (let no : true ≡ false = h in cc)
 
 -- whichever it was that was answered
-pub given_any : {A E : Type 0} (r : Result A E) (n m : ℕ) (a b : Seats) → OnOk r (IsGiven n (Some m) a b) → OnErr r (IsGiven n None a b)
-    → (o : Option ℕ) × IsGiven n o a b
+pub given_any : {A E : Type 0} (r : Result A E) (n m : ℕ) (a b : Seats) → OnOk r (IsSeated n (Some m) a b) → OnErr r (IsSeated n None a b)
+    → (o : Option ℕ) × IsSeated n o a b
 given_any (Ok x) n m a b ok err = (Some m, ok)
 given_any (Err e) n m a b ok err = (None, err)
 
@@ -152,7 +152,7 @@ module _ {S T : Type 0} where
 
   -- it was served, and seated, and left its seat where it is closed
   pub served : (h k : Host S) (a b c : Seats) (v : Vec (Socket T) Global) (p : ℕ) (s t : Socket T) → p < vec_len v → s ≡ slice_index_or v.items p s
-      → t.connection ≡ s.connection → k.tried ≡ h.tried → s.is_ended ≡ false → IsReseated s t a b → IsLeft t b c
+      → t.connection ≡ s.connection → k.tried ≡ h.tried → s.is_ended ≡ false → IsReseated s t a b → FreesSeat t b c
       → AreSeated h a v.items → AreSeated k c (slice_set v.items p t)
   served h k a b c v p s t lt is same tried is_open seats left w = changed h k a c v p s t lt is same tried (left.tenants ∙ seats.tenants)
       (λ n ne. left.others n (λ e. ne (e ∙ same)) ∙ seats.others n ne)
@@ -162,7 +162,7 @@ module _ {S T : Type 0} where
 
   -- it told what there was to say, and left its seat where it is closed
   pub told : (h k : Host S) (a c : Seats) (v : Vec (Socket T) Global) (p : ℕ) (s t : Socket T) → p < vec_len v → s ≡ slice_index_or v.items p s
-      → t.connection ≡ s.connection → k.tried ≡ h.tried → s.is_ended ≡ false → KeepsSeat s t → IsLeft t a c
+      → t.connection ≡ s.connection → k.tried ≡ h.tried → s.is_ended ≡ false → KeepsSeat s t → FreesSeat t a c
       → AreSeated h a v.items → AreSeated k c (slice_set v.items p t)
   told h k a c v p s t lt is same tried is_open stays left w = served h k a a c v p s t lt is same tried is_open (stays_seated a s t stays) left w
 
@@ -173,7 +173,7 @@ module _ {S T : Type 0} where
       (ap (λ m. if m.1 then None else (if m.2 then seat_among a.tenants m.3 else Some a.tenants)) same) w
 
   -- a seat is given back by a connection that has none
-  pub given_back : (h : Host S) (a b : Seats) (n : ℕ) (xs : List (Socket T)) → IsGiven n None a b → seat_in a.tenants (socket_of n xs) ≡ None
+  pub given_back : (h : Host S) (a b : Seats) (n : ℕ) (xs : List (Socket T)) → IsSeated n None a b → seat_in a.tenants (socket_of n xs) ≡ None
       → AreSeated h a xs → AreSeated h b xs
   given_back h a b n xs given none w = record {
     in_order = w.in_order;
@@ -185,7 +185,7 @@ module _ {S T : Type 0} where
   }
 
   -- by one that was never tried
-  pub untried : (h : Host S) (a b : Seats) (n : ℕ) (xs : List (Socket T)) → IsGiven n None a b → h.tried < n → AreSeated h a xs → AreSeated h b xs
+  pub untried : (h : Host S) (a b : Seats) (n : ℕ) (xs : List (Socket T)) → IsSeated n None a b → h.tried < n → AreSeated h a xs → AreSeated h b xs
   untried h a b n xs given lt w = given_back h a b n xs given
       (ap (seat_in a.tenants) (none_above number 0 h.tried n xs (rising h xs w.in_order) lt)) w
 
@@ -196,7 +196,7 @@ module _ {S T : Type 0} where
   nobody_seated h a [] none is = none_yet h a is
   nobody_seated h a (x ∷ xs) none is = absurd (omega (arith, none))
 
-  pub comes : (h k : Host S) (a b : Seats) (xs : List (Socket T)) (n : ℕ) (s : Socket T) → h.tried < n → k.tried ≡ n → IsGiven n (Some a.tenants) a b
+  pub comes : (h k : Host S) (a b : Seats) (xs : List (Socket T)) (n : ℕ) (s : Socket T) → h.tried < n → k.tried ≡ n → IsSeated n (Some a.tenants) a b
       → s.connection ≡ n → s.is_ended ≡ false → s.is_bound ≡ false → AreSeated h a xs → AreSeated k b (xs ++ s ∷ [])
   comes h k a b xs n s lt tried given is is_open is_new w =
       let r = rising h xs w.in_order in
@@ -239,7 +239,7 @@ module _ {S T : Type 0} where
   -- The socket of a connection is closed, and has no seat.
   pub closed : (h k : Host S) (a b : Seats) (v : Vec (Socket T) Global) (p n : ℕ) (s t : Socket T) → p < vec_len v → s ≡ slice_index_or v.items p s
       → t.connection ≡ s.connection → k.tried ≡ h.tried → (IsInOrder (seen h v.items) → slice_get v.items p ≡ socket_of n v.items)
-      → t.is_ended ≡ true → IsGiven n None a b → AreSeated h a v.items → AreSeated k b (slice_set v.items p t)
+      → t.is_ended ≡ true → IsSeated n None a b → AreSeated h a v.items → AreSeated k b (slice_set v.items p t)
   closed h k a b v p n s t lt is same tried found ended given w =
       let at = item_at v p s lt is in
       let its : s.connection ≡ n = find_is number n v.items s (sym (found w.in_order) ∙ at) in
@@ -247,7 +247,7 @@ module _ {S T : Type 0} where
       (λ had. ap (λ m. holder_of m b.sockets) its ∙ given.seat ∙ sym (closed_seat b.tenants t ended)) w
 
   -- No socket carries a connection that has no seat, or a closed one.
-  pub nobody : (h : Host S) (a b : Seats) (xs : List (Socket T)) (n : ℕ) (o : Option ℕ) → IsGiven n None a b
+  pub nobody : (h : Host S) (a b : Seats) (xs : List (Socket T)) (n : ℕ) (o : Option ℕ) → IsSeated n None a b
       → (IsInOrder (seen h xs) → socket_at o xs ≡ socket_of n xs) → seat_in a.tenants (socket_at o xs) ≡ None → AreSeated h a xs → AreSeated h b xs
   nobody h a b xs n o given found none w = given_back h a b n xs given (ap (seat_in a.tenants) (sym (found w.in_order)) ∙ none) w
 
@@ -260,12 +260,12 @@ module _ {S T : Type 0} where
 
   pub served_as : (h k : Host S) (a b c : Seats) (v : Vec (Socket T) Global) (p : ℕ) (s t u : Socket T) → p < vec_len v
       → s ≡ slice_index_or v.items p s → t.connection ≡ s.connection → k.tried ≡ h.tried → s.is_ended ≡ false
-      → IsReseated s t a b → mark u ≡ mark t → IsLeft u b c → AreSeated h a v.items → AreSeated k c (slice_set v.items p u)
+      → IsReseated s t a b → mark u ≡ mark t → FreesSeat u b c → AreSeated h a v.items → AreSeated k c (slice_set v.items p u)
   served_as h k a b c v p s t u lt is same tried is_open seats alike left w = served h k a b c v p s u lt is (ap (λ m. m.0) alike ∙ same) tried is_open
       (seated_then s t u a b b same seats (stays_seated b t u (ap (λ m. m.2) alike, ap (λ m. m.3) alike))) left w
 
   pub told_as : (h k : Host S) (a c : Seats) (v : Vec (Socket T) Global) (p : ℕ) (s t u : Socket T) → p < vec_len v → s ≡ slice_index_or v.items p s
-      → t.connection ≡ s.connection → k.tried ≡ h.tried → s.is_ended ≡ false → KeepsSeat s t → mark u ≡ mark t → IsLeft u a c
+      → t.connection ≡ s.connection → k.tried ≡ h.tried → s.is_ended ≡ false → KeepsSeat s t → mark u ≡ mark t → FreesSeat u a c
       → AreSeated h a v.items → AreSeated k c (slice_set v.items p u)
   told_as h k a c v p s t u lt is same tried is_open stays alike left w =
       served_as h k a a c v p s t u lt is same tried is_open (stays_seated a s t stays) alike left w
@@ -276,13 +276,13 @@ module _ {S T : Type 0} where
       (leaves h a ys p s (subst (λ ws. slice_get ws p ≡ Some s) same (slice_get-get_or xs p s lt ∙ sym (ap (λ y. Some y) is))) ended w)
 
   pub comes_behind : (h k : Host S) (a b : Seats) (old mid new : List (Socket T)) (n : ℕ) (s : Socket T) → new ≡ mid ++ s ∷ [] → mid ≡ old
-      → h.tried < n → k.tried ≡ n → IsGiven n (Some a.tenants) a b → s.connection ≡ n → s.is_ended ≡ false → s.is_bound ≡ false
+      → h.tried < n → k.tried ≡ n → IsSeated n (Some a.tenants) a b → s.connection ≡ n → s.is_ended ≡ false → s.is_bound ≡ false
       → AreSeated h a old → AreSeated k b new
   comes_behind h k a b old mid new n s behind same lt tried given is is_open is_new w = subst (λ xs. AreSeated k b xs)
       (sym (behind ∙ ap (λ xs. xs ++ s ∷ []) same)) (comes h k a b old n s lt tried given is is_open is_new w)
 
   -- it could not be kept
   pub not_kept : (h k : Host S) (a b c : Seats) (xs ys : List (Socket T)) (n : ℕ) (o : Option ℕ) → ys ≡ xs → h.tried < n → h.tried ≤ k.tried
-      → IsGiven n o a b → IsGiven n None b c → AreSeated h a xs → AreSeated k c ys
+      → IsSeated n o a b → IsSeated n None b c → AreSeated h a xs → AreSeated k c ys
   not_kept h k a b c xs ys n o same lt le one two w = subst (λ zs. AreSeated k c zs) (sym same)
       (with_host h k c xs le (untried h a c n xs (given_again n o None a b c one two) lt w))

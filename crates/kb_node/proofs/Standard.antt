@@ -6,7 +6,7 @@ use Rattle.kb_isolation_spec.specs.Greeting.{User as Login}
 use Rattle.kb_isolation_spec.specs.Broker.{BrokerState}
 use Rattle.kb_settings.specs.declared.settings.User.{User}
 use Rattle.kb_settings.specs.declared.settings.Settings.{Settings}
-use Rattle.kb_settings.specs.Names.{in_order, place_of}
+use Rattle.kb_settings.specs.Names.{in_order, place_of_name}
 use Rattle.kb_settings.specs.Values.{Account, Values, account_of, values_of, standard}
 use Rattle.kb_broker.specs.Nodes.{node_named, node_unnamed}
 use Rattle.kb_broker.specs.declared.opening.Listing.TheVariants as listings
@@ -17,7 +17,7 @@ abbrev names_of : List Account → List (List ℕ)
 names_of accounts = in_order (map (λ (a : Account). a.tenant) accounts)
 
 abbrev login_in : List (List ℕ) → Account → Login
-login_in names a = record { name = a.name; password = a.password; tenant = place_of a.tenant names }
+login_in names a = record { name = a.name; password = a.password; tenant = place_of_name a.tenant names }
 
 abbrev broker_of : Values → List (List ℕ) → List Login → BrokerState
 broker_of v names logins = record { setup = record { versions = served_versions; users = logins; nodes = map (node_named listings.Served v) names; node = node_unnamed listings.Served v; request_bytes = v.requests.request_bytes }; tenants = map new_tenant names; unbound_refusals = 0; clock = 0; last = 0; lines = [] }

@@ -5,7 +5,7 @@ use Rattle.std.proofs.lemmas.Grind.{flat_map-append}
 use Rattle.std.proofs.lemmas.Bool.Decides.{eqb_tells, nat_tests}
 use Rattle.kb_store.specs.Disk.{Disk}
 use Rattle.kb_isolation_spec.specs.Machine.{Closes, Comes, Happening, Moment, Opens}
-use Rattle.kb_isolation_spec.specs.Broker.{IsRun}
+use Rattle.kb_isolation_spec.specs.Broker.{IsEventRun}
 use Rattle.kb_broker.specs.Hosts.{OnStore}
 use Rattle.kb_node.specs.declared.socket.Socket.{Socket}
 use Rattle.kb_node.specs.Traffic.{Along, AreAbout, Commit, Deed, Event, Fail, IsUsed, Take, connection_in, connection_of, events_of, handed_by, piece_in, read_by, taken_by, tried_after, written_by}
@@ -474,7 +474,7 @@ module _ {S T : Type 0} (disk : S → Disk) (known : Deed → S → Type 0) (con
 
 -- 6. Turns
 
-rises_after : (t : ℕ) (es : List Happening) → IsRun t es → t ≤ tried_after t es
+rises_after : (t : ℕ) (es : List Happening) → IsEventRun t es → t ≤ tried_after t es
 rises_after t [] h = omega arith
 rises_after t (Opens n ∷ es) h = let rest = rises_after n es h.1 in omega (arith, h.0, rest)
 rises_after t (Comes n piece ∷ es) h = rises_after t es h

@@ -5,7 +5,7 @@ use Rattle.std.specs.List.{AllByRecursion}
 use Rattle.std.specs.Io.KnownBytes.{Appends, Consumes}
 use Rattle.kb_store.specs.Disk.{Disk}
 use Rattle.kb_isolation_spec.specs.Machine.{Opens}
-use Rattle.kb_isolation_spec.specs.Calls.{opened, IsRefused}
+use Rattle.kb_isolation_spec.specs.Calls.{opened, IsRefusedUnbound}
 use Rattle.kb_broker.specs.Hosts.{OnStore, StepsTo}
 use Rattle.kb_broker.specs.Runs.{unkept}
 use Rattle.kb_node.specs.Traffic.{Along, AreDone, Commit, Deed, Event, Fail, Happens, IsDone, Take}
@@ -69,7 +69,7 @@ consumes_none (Some xs) = refl
 
 -- a connection that opens, or could not be kept
 pub opens : {S A E : Type 0} (disk : S → Disk) (n : ℕ) (a b : OnStore S) (r : Result A E) → b.store ≡ a.store → StepsTo disk (Opens n) a b
-    → a.state.last < n → OnOk r (b.state ≡ opened a.state n) → OnErr r (IsRefused a.state b.state) → Happens disk (Opens n) a b
+    → a.state.last < n → OnOk r (b.state ≡ opened a.state n) → OnErr r (IsRefusedUnbound a.state b.state) → Happens disk (Opens n) a b
 opens disk n a b (Ok done) store step rises is refused = record {
   step = step;
   honest = λ honest. subst (λ s. (disk s).honest) store honest;

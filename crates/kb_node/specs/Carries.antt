@@ -49,7 +49,7 @@ Carries disk contents remaining old new from to = CarriesWith disk silent conten
 
 -- What was carried was told alone: output was taken and written, or the connection was closed. Nothing was read, no piece came, and the
 -- store stays.
-pub record IsTold {S T : Type 0} {disk : S → Disk} {known : Deed → S → Type 0} {contents remaining : T → Option (List ℕ)}
+pub record OnlyTells {S T : Type 0} {disk : S → Disk} {known : Deed → S → Type 0} {contents remaining : T → Option (List ℕ)}
     {old new : Socket T} {from to : OnStore S} (carries : CarriesWith disk known contents remaining old new from to) : Type 0 where
   pub deeds : AllByRecursion (λ d. is_telling d ≡ true) carries.deeds
   pub uses : AllByRecursion (λ u. is_write u ≡ true) carries.uses
@@ -59,12 +59,12 @@ pub record IsTold {S T : Type 0} {disk : S → Disk} {known : Deed → S → Typ
 pub record TellsWith {S T : Type 0} (disk : S → Disk) (known : Deed → S → Type 0) (contents remaining : T → Option (List ℕ))
     (old new : Socket T) (from to : OnStore S) : Type 0 where
   pub carries : CarriesWith disk known contents remaining old new from to
-  pub told : IsTold carries
+  pub told : OnlyTells carries
 
 -- The same, and no output was taken: it wrote what was taken before, or its connection was closed.
-abbrev pub Tells : {S T : Type 0} → (S → Disk) → (T → Option (List ℕ)) → (T → Option (List ℕ)) → Socket T → Socket T
+abbrev pub WritesTaken : {S T : Type 0} → (S → Disk) → (T → Option (List ℕ)) → (T → Option (List ℕ)) → Socket T → Socket T
     → OnStore S → OnStore S → Type 0
-Tells disk contents remaining old new from to = TellsWith disk silent contents remaining old new from to
+WritesTaken disk contents remaining old new from to = TellsWith disk silent contents remaining old new from to
 
 -- A piece was read where so much was kept: what of both was handed on is in front, as pieces on its own connection.
 pub record HandsOn {S T : Type 0} (disk : S → Disk) (old new : Socket T) (piece : List ℕ) (from to : OnStore S) : Type 0 where

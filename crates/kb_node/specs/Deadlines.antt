@@ -1,7 +1,9 @@
 -- Until when a socket may keep silent, and which one is closed.
-use Rattle.std.specs.Prelude.{ℕ, ◌+◌, ◌-◌, ◌^◌, ◌==◌, ◌&&◌, ◌||◌, min, List, [], ◌∷◌, Bool, true, false, nat_le, slice_get, if◌then◌else◌, Option, Some, None}
+use Rattle.std.specs.Prelude.{ℕ, ◌+◌, ◌-◌, ◌^◌, ◌==◌, ◌&&◌, ◌||◌, min, List, [], ◌∷◌, Bool, true, false, nat_eq, nat_le, slice_get, if◌then◌else◌}
+use Rattle.std.specs.Prelude.{Option, Some, None}
 use Rattle.std.specs.BTreeMap.{is_at}
 use Rattle.std.specs.BTreeSet.{BTreeSet, keys_between, insert_key}
+use Rattle.std.specs.Map.{remove_entry}
 use Rattle.std.specs.Set.{remove_key}
 use Rattle.std.specs.declared.ops.Bound.TheVariants.{Included, Unbounded}
 use Rattle.std.specs.declared.cmp.Ordering.{Ordering}
@@ -36,6 +38,10 @@ first_deadline (stranger ∷ others) = stranger.1
 abbrev pub due : ℕ → Strangers → Option ℕ
 due now [] = None
 due now (stranger ∷ others) = if nat_le stranger.1 now then Some stranger.0 else None
+
+-- those behind one that has logged in or is closed
+abbrev pub without_stranger : ℕ → Strangers → Strangers
+without_stranger n strangers = remove_entry (is_at (nat_cmp n)) strangers
 
 -- 2. Replies
 
@@ -89,6 +95,14 @@ with_since connection (Some since) moments = insert_key by_moment moments (since
 abbrev pub without_since : ℕ → Option ℕ → Moments → Moments
 without_since connection None moments = moments
 without_since connection (Some since) moments = remove_key (is_at (by_moment (since, connection))) moments
+
+-- since when a socket took nothing of so many bytes, where that is since some moment: it is not silent where there are none
+abbrev pub silent_since : ℕ → ℕ → Option ℕ
+silent_since unwritten moment = if nat_eq unwritten 0 then None else Some moment
+
+-- those that are silent, where the silence of a connection ended or began anew: it was so since then, and is so since now
+abbrev pub silences_noted : Bool → ℕ → Option ℕ → Option ℕ → Moments → Moments
+silences_noted has_moved n since now moments = if has_moved then with_since n now (without_since n since moments) else moments
 
 -- 4. Replies of each holder
 

@@ -3,14 +3,14 @@ use Rattle.std.specs.Prelude.{◌≡◌, ◌<◌, ◌⊎◌, ℕ, List, [], ◌�
 use Rattle.std.specs.List.{AllByRecursion, remove}
 use Rattle.kb_store.specs.Disk.{Disk}
 use Rattle.kb_isolation_spec.specs.Machine.{Opens, Moment}
-use Rattle.kb_isolation_spec.specs.Broker.{IsRun}
-use Rattle.kb_isolation_spec.specs.Calls.{IsRefused, opened}
+use Rattle.kb_isolation_spec.specs.Broker.{IsEventRun}
+use Rattle.kb_isolation_spec.specs.Calls.{IsRefusedUnbound, opened}
 use Rattle.kb_broker.specs.Hosts.{OnStore}
 use Rattle.kb_node.specs.Commits.{Host}
 use Rattle.kb_node.specs.declared.socket.Socket.{Socket}
 use Rattle.kb_node.specs.Traffic.{Along, AreDone, Commit, Deed, Fail, Happens, IsDone, events_of, is_moment, moments_of, tried_after}
 use Rattle.kb_node.specs.Known.{silent}
-use Rattle.kb_node.specs.Carries.{CarriesWith, IsTold}
+use Rattle.kb_node.specs.Carries.{CarriesWith, OnlyTells}
 use Rattle.kb_node.specs.Cores.{Core, Seen, core, open_ones}
 
 -- A connection opens, and its socket joins the others. Or a socket carries for its connection, all leave whose connections are closed, or
@@ -33,7 +33,7 @@ pub record IsTakenIn {S T : Type 0} (stream : T) (n : ℕ) (from to : Seen S T) 
 
 -- The broker could not keep a connection, and no socket is there for it.
 pub record IsLeftOut {S T : Type 0} (from to : Seen S T) : Type 0 where
-  pub refused : IsRefused from.host.broker.state to.host.broker.state
+  pub refused : IsRefusedUnbound from.host.broker.state to.host.broker.state
   pub sockets : to.sockets ≡ from.sockets
 
 -- A connection opens, of a number above all that were tried before. Its socket joins the others, and carries that connection and no other; or
@@ -101,7 +101,7 @@ pub record IsAdmitted {S T : Type 0} (disk : S → Disk) (contents remaining : T
 pub record HasTold {S T : Type 0} (disk : S → Disk) (known : Deed → S → Type 0) (contents remaining : T → Option (List ℕ)) (n : ℕ)
     (from to : Seen S T) : Type 0 where
   pub carried : HasCarried disk known contents remaining n from to
-  pub told : IsTold carried.carries
+  pub told : OnlyTells carried.carries
 
 -- Sockets told what there was to say, one after another, or none did. Nothing was read of any, no piece came, and the store stays.
 pub record GoesTellingWith {S T : Type 0} (disk : S → Disk) (known : Deed → S → Type 0) (contents remaining : T → Option (List ℕ))
@@ -133,7 +133,7 @@ pub record IsRunOf {S : Type 0} (disk : S → Disk) (known : Deed → S → Type
   pub deeds : List Deed
   pub timeless : AllByRecursion (λ d. is_moment d ≡ false) deeds
   pub done : AreDone disk known deeds begun to.broker
-  pub is_run : IsRun from.tried (Moment now ∷ events_of deeds)
+  pub is_run : IsEventRun from.tried (Moment now ∷ events_of deeds)
   pub tried : to.tried ≡ tried_after from.tried (events_of deeds)
 
 -- A list of deeds whose events are a run leads from one to the other. Its moments are those.
@@ -141,5 +141,5 @@ pub record IsRunThrough {S : Type 0} (disk : S → Disk) (known : Deed → S →
   pub deeds : List Deed
   pub done : AreDone disk known deeds from.broker to.broker
   pub moments : moments_of deeds ≡ nows
-  pub is_run : IsRun from.tried (events_of deeds)
+  pub is_run : IsEventRun from.tried (events_of deeds)
   pub tried : to.tried ≡ tried_after from.tried (events_of deeds)

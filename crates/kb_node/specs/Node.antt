@@ -58,14 +58,14 @@ standard_script text = script standard_broker text
 -- 2. A program that plays a script
 
 -- a script was played, or it ended with some fault
-abbrev pub IsRun : BrokerState → Script → Option (List ℕ) → Option (List ℕ) → Type 0
-IsRun b s from to = IsPlayed b s from to ⊎ ((fault : ScriptFault) × IsEnded b s fault from to)
+abbrev pub IsScriptRun : BrokerState → Script → Option (List ℕ) → Option (List ℕ) → Type 0
+IsScriptRun b s from to = IsPlayed b s from to ⊎ ((fault : ScriptFault) × IsEnded b s fault from to)
 
 -- the program ended with a fault: at a refused write what was written is that of a run all the same, and with no memory for the
 -- settings it is nothing
 abbrev pub IsHalted : BrokerState → Script → NodeFault → Option (List ℕ) → Option (List ℕ) → Type 0
 IsHalted b s (faults.Script fault) from to = IsEnded b s fault from to
-IsHalted b s faults.Write from to = IsRun b s from to
+IsHalted b s faults.Write from to = IsScriptRun b s from to
 IsHalted b s faults.Memory from to = Keeps from to
 
 -- Which lines of a text were played by then, where the reader has so much of it left: those before the one at which it ended. At a
@@ -91,7 +91,7 @@ IsScriptStopped text left fault from to = IsHaltedAt standard_broker text left f
 -- 3. How a run is answered
 
 -- a script's fault is that of the run, and no memory is asked for then
-abbrev pub IsFaultOf : {A : Type 0} → NodeFault → Result A ScriptFault → Type 0
-IsFaultOf (faults.Script fault) ran = ran ≡ Err fault
-IsFaultOf faults.Write ran = Unit {0}
-IsFaultOf faults.Memory ran = ⊥
+abbrev pub IsScriptFault : {A : Type 0} → NodeFault → Result A ScriptFault → Type 0
+IsScriptFault (faults.Script fault) ran = ran ≡ Err fault
+IsScriptFault faults.Write ran = Unit {0}
+IsScriptFault faults.Memory ran = ⊥

@@ -10,7 +10,7 @@ use Rattle.kb_broker.specs.Speakers.{speakers}
 use Rattle.kb_node.specs.declared.lanes.Lanes.{Lanes}
 use Rattle.kb_node.specs.declared.socket.Socket.{Socket}
 use Rattle.kb_node.specs.Numbers.{socket_of}
-use Rattle.kb_node.specs.Replies.{place_of}
+use Rattle.kb_node.specs.Replies.{holder_place}
 use Rattle.kb_node.specs.SocketShares.{Seats}
 use Rattle.kb_node.specs.Waiting.{in_lane, is_long, may_be_asked}
 
@@ -89,4 +89,4 @@ IsLinedUp false lanes n old new = StaysReady n old new
 abbrev pub LinesUp : {T : Type 0} → Bool → Seats → Pool → Pool → List (Socket T) → ℕ → Standing → Standing → Type 0
 LinesUp is_for_all shares replies inputs sockets n old new =
     IsLinedUp (is_for_all || may_be_asked shares replies inputs sockets n)
-    (in_lane (is_long (socket_of n sockets)) (min (place_of n shares) 256) n old.lanes) n old new
+    (in_lane (is_long (socket_of n sockets)) (min (holder_place n shares) 256) n old.lanes) n old new

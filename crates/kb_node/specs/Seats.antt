@@ -47,7 +47,7 @@ abbrev pub KeepsSeat : {T : Type 0} → Socket T → Socket T → Type 0
 KeepsSeat s t = (t.is_bound ≡ s.is_bound) × (t.tenant ≡ s.tenant)
 
 -- the connection of a socket has no seat where that is closed, and no other seat changes
-pub record IsLeft {T : Type 0} (s : Socket T) (old new : Seats) : Type 0 where
+pub record FreesSeat {T : Type 0} (s : Socket T) (old new : Seats) : Type 0 where
   pub tenants : new.tenants ≡ old.tenants
   pub seat : holder_of s.connection new.sockets ≡ (if s.is_ended then None else holder_of s.connection old.sockets)
   pub others : (n : ℕ) → n ≢ s.connection → holder_of n new.sockets ≡ holder_of n old.sockets

@@ -1,7 +1,7 @@
 -- When a socket's connection is asked, and when it is closed.
-use Rattle.std.specs.Prelude.{ℕ, Bool, not, ◌==◌, ◌&&◌, ◌||◌, true, false, Option, Some, None}
+use Rattle.std.specs.Prelude.{ℕ, length, Bool, not, ◌==◌, ◌&&◌, ◌||◌, true, false, Option, Some, None}
 use Rattle.kb_isolation_spec.specs.Broker.{BrokerState}
-use Rattle.kb_isolation_spec.specs.Calls.{is_shut, why_of}
+use Rattle.kb_isolation_spec.specs.Calls.{is_shut, output_of, why_of}
 use Rattle.kb_isolation_spec.specs.Machine.{find_line}
 use Rattle.kb_isolation_spec.specs.declared.shut.Shut.{Shut}
 use Rattle.kb_isolation_spec.specs.declared.shut.Shut.TheVariants.{Denied}
@@ -10,6 +10,10 @@ use Rattle.kb_broker.specs.Places.{waits_in}
 -- the connection waits for the answer to a request
 abbrev pub is_waiting : ℕ → BrokerState → Bool
 is_waiting n b = waits_in (find_line n b.lines)
+
+-- the broker has something to say to the connection, or shut it
+abbrev pub speaks_of : ℕ → BrokerState → Bool
+speaks_of n b = not (length (output_of n b) == 0) || is_shut n b
 
 -- A request may be handed on: the peer is there, all output is written, the broker did not shut the connection, and it does
 -- not wait.

@@ -32,8 +32,8 @@ noted_from seen piece h = record {
   key = key_or (key_in seen h.high piece) h.key;
 }
 
-abbrev pub noted : Bool → Bool → List ℕ → Heading → Heading
-noted is_begun is_bare piece h = noted_from (seen_before is_begun is_bare h.seen) piece h
+abbrev pub noted_piece : Bool → Bool → List ℕ → Heading → Heading
+noted_piece is_begun is_bare piece h = noted_from (seen_before is_begun is_bare h.seen) piece h
 
 -- 2. What is counted
 

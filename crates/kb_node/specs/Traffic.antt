@@ -4,8 +4,8 @@ use Rattle.std.specs.List.{AllByRecursion}
 use Rattle.std.specs.Io.KnownBytes.{Appends, Consumes}
 use Rattle.kb_store.specs.Disk.{Disk}
 use Rattle.kb_isolation_spec.specs.Machine.{Happening, Opens, Comes, Closes, Moment, Sent}
-use Rattle.kb_isolation_spec.specs.Broker.{IsRun, last_after}
-use Rattle.kb_isolation_spec.specs.Calls.{taken, output_of}
+use Rattle.kb_isolation_spec.specs.Broker.{IsEventRun, last_after}
+use Rattle.kb_isolation_spec.specs.Calls.{output_taken, output_of}
 use Rattle.kb_broker.specs.Hosts.{OnStore, is_honest, StepsTo}
 use Rattle.kb_broker.specs.Runs.{Leads}
 
@@ -26,11 +26,11 @@ pub data Deed : Type 0 where
   Fail : Deed
 
 -- An event: a step, unless the store lied, and it had told the truth before if it still does. The number of a connection that opens is
--- above all before, and no moment is after 2 ^ 62.
+-- above all before, and no moment is after MAX_CLOCK.
 pub record Happens {S : Type 0} (disk : S → Disk) (e : Happening) (old new : OnStore S) : Type 0 where
   pub step : StepsTo disk e old new
   pub honest : is_honest disk new → is_honest disk old
-  pub within : IsRun old.state.last (e ∷ [])
+  pub within : IsEventRun old.state.last (e ∷ [])
   pub leads : (ended : List Sent) × Leads e old.state new.state ended
 
 -- a commit is no event: what the broker has stays, unless the store lied
@@ -42,7 +42,7 @@ pub record IsCommitted {S : Type 0} (disk : S → Disk) (old new : OnStore S) : 
 abbrev pub IsDone : {S : Type 0} → (S → Disk) → (Deed → S → Type 0) → Deed → OnStore S → OnStore S → Type 0
 IsDone disk known (Event e) old new = Happens disk e old new
 IsDone disk known (Take n bytes) old new =
-    (new ≡ record old { state = taken old.state n }) × (bytes ≡ output_of n old.state) × known (Take n bytes) new.store
+    (new ≡ record old { state = output_taken old.state n }) × (bytes ≡ output_of n old.state) × known (Take n bytes) new.store
 IsDone disk known Commit old new = IsCommitted disk old new × known Commit new.store
 IsDone disk known Fail old new = IsCommitted disk old new × known Fail new.store
 

@@ -1,7 +1,7 @@
 -- How long an edge waits, and for what.
 use Rattle.std.specs.Prelude.{◌≡◌, ◌≤◌, ℕ, zero, suc, ◌+◌, ◌-◌, ◌^◌, ◌&&◌, ◌||◌, min, length, List, [], ◌∷◌, Bool, true, false, not, map, nat_eq, nat_le, nat_lt, slice_get, if◌then◌else◌, Option, Some, None}
 use Rattle.kb_shares.specs.Shares.{Pool, has_room, piece_for}
-use Rattle.kb_shares.specs.Turns.{Lines, after_next, joined}
+use Rattle.kb_shares.specs.Turns.{Lines, after_next, enqueued}
 use Rattle.kb_isolation_spec.specs.declared.login.Login.{Login}
 use Rattle.kb_isolation_spec.specs.declared.login.Login.TheVariants as logins
 use Rattle.kb_node.specs.declared.edge.Accepts.{Accepts}
@@ -11,7 +11,7 @@ use Rattle.kb_node.specs.declared.socket.Socket.{Socket}
 use Rattle.kb_node.specs.Deadlines.{Stalls, first_stall, patience}
 use Rattle.kb_node.specs.Carries.{unhanded_of}
 use Rattle.kb_node.specs.Numbers.{socket_of}
-use Rattle.kb_node.specs.Replies.{place_of}
+use Rattle.kb_node.specs.Replies.{holder_place}
 use Rattle.kb_node.specs.Requests.{awaited}
 use Rattle.kb_node.specs.SocketShares.{Seats}
 
@@ -31,7 +31,7 @@ stall_of millis replies stalls holder =
 -- the first of these moments for the connections whose sockets can go on, and the greatest number where there is none
 abbrev pub first_stall_of : ℕ → Seats → Pool → Stalls → List ℕ → ℕ
 first_stall_of millis seats replies stalls numbers =
-    least (2 ^ 64 - 1) (map (λ n. stall_of millis replies stalls (place_of n seats)) numbers)
+    least (2 ^ 64 - 1) (map (λ n. stall_of millis replies stalls (holder_place n seats)) numbers)
 
 -- 2. How long
 
@@ -57,7 +57,7 @@ fits most (Some s) = nat_le (awaited s.input.progress.left (unhanded_of s)) most
 -- the socket of a connection may be asked: its holder has room for more of replies, and for the request in front of it
 abbrev pub may_be_asked : {T : Type 0} → Seats → Pool → Pool → List (Socket T) → ℕ → Bool
 may_be_asked seats replies inputs sockets n =
-    has_room (place_of n seats) 1 replies && fits (piece_for (place_of n seats) inputs) (socket_of n sockets)
+    has_room (holder_place n seats) 1 replies && fits (piece_for (holder_place n seats) inputs) (socket_of n sockets)
 
 abbrev pub is_ready : Accepts → Bool
 is_ready accepts.Ready = true
@@ -81,7 +81,7 @@ is_long (Some s) = nat_le 65536 s.input.progress.size && nat_le s.input.progress
 -- A connection stands in line behind the others of its holder, in the long lane or in the short one.
 abbrev pub in_lane : Bool → ℕ → ℕ → Lanes → Lanes
 in_lane is_long holder n lanes =
-    if is_long then record lanes { long = joined holder n lanes.long } else record lanes { short = joined holder n lanes.short }
+    if is_long then record lanes { long = enqueued holder n lanes.long } else record lanes { short = enqueued holder n lanes.short }
 
 -- A round is one turn of the long lane: somebody is in line there, and nobody in the short lane, or that had two rounds since.
 abbrev pub takes_long : Lanes → Bool

@@ -1,5 +1,8 @@
 //! Connections that the broker shut, as they are told.
 
+ghost use Rattle.std.specs.Prelude.{◌≡◌};
+ghost use Rattle.kb_node.specs.Closed.{closed_for};
+
 use kb_isolation_spec::Shut;
 use std::net::SocketAddr;
 
@@ -16,7 +19,9 @@ pub struct Closed {
 
 impl Closed {
     /// A connection that closes, where the broker shut it. Of a login that failed more is told elsewhere.
-    pub fn of(address: SocketAddr, tenant: Option<usize>, cause: Option<Shut>) -> Option<Closed> {
+    pub fn of(address: SocketAddr, tenant: Option<usize>, cause: Option<Shut>) -> Option<Closed>
+        ensures { result ≡ closed_for address tenant cause }
+    {
         match cause {
             None | Some(Shut::Denied) => None,
             Some(cause) => Some(Closed {

@@ -1,12 +1,15 @@
 //! A broker whose replies may wait until what was done lasts.
 
 ghost use Rattle.std.specs.Prelude.{◌≡◌, ◌≤◌, ◌<◌, ◌+◌, ◌-◌, ◌^◌, ◌⊎◌, true, false, max, None, Some, Err, IfSome, IfErr, OnErr, OnOk};
+ghost use Rattle.kb_wire.specs.declared.clock.TheConstants.{MAX_CLOCK};
+ghost use Rattle.kb_isolation_spec.specs.Broker.{Rising};
 ghost use Rattle.kb_isolation_spec.specs.Machine.{Opens, Comes, Closes, Moment};
-ghost use Rattle.kb_isolation_spec.specs.Calls.{closed, taken, output_of, opened, IsRefused};
+ghost use Rattle.kb_isolation_spec.specs.Calls.{closed, output_taken, output_of, opened, IsRefusedUnbound};
 ghost use Rattle.kb_broker.specs.Places.{numbers};
 ghost use Rattle.kb_broker.specs.Hosts.{is_honest};
 ghost use Rattle.kb_node.specs.Traffic.{Happens, IsCommitted};
 ghost use Rattle.kb_node.specs.Commits.{holds_back, is_due, may_tell, Lasts};
+ghost use Rattle.kb_node.specs.Sockets.{speaks_of};
 
 use crate::commits::Commits;
 use kb_broker::Broker;
@@ -85,7 +88,7 @@ impl<S: Store, L: PartitionLog + Drop> Committed<S, L> {
         ensures commits { self.new.commits ≡ self.old.commits }
         ensures tried { self.new.tried ≡ number }
         ensures ok { OnOk result (self.new.broker.state ≡ opened self.old.broker.state number) }
-        ensures err { OnErr result (IsRefused self.old.broker.state self.new.broker.state) }
+        ensures err { OnErr result (IsRefusedUnbound self.old.broker.state self.new.broker.state) }
     {
         self.tried = number;
         self.broker.connect(alloc, number)
@@ -105,7 +108,7 @@ impl<S: Store, L: PartitionLog + Drop> Committed<S, L> {
 
     /// A moment of time, in milliseconds, at most 2^62.
     pub fn moment(&mut self, alloc: Global, now: u64)
-        requires { now ≤ 2 ^ 62 }
+        requires { now ≤ MAX_CLOCK }
         ensures happens { Happens S.disk (Moment now) self.old.broker self.new.broker }
         ensures commits { self.new.commits ≡ record self.old.commits { is_committed = self.new.commits.is_committed } }
         ensures lasts { self.new.commits.is_committed ≡ true → Lasts S.settled S.disk S.loss self.new.broker.store }
@@ -131,7 +134,7 @@ impl<S: Store, L: PartitionLog + Drop> Committed<S, L> {
     pub fn take_output(&mut self, alloc: Global, number: u64) -> Vec<u8>
         requires { may_tell self.old.commits ≡ true }
         ensures commits { self.new.commits ≡ self.old.commits }
-        ensures broker { self.new.broker ≡ record self.old.broker { state = taken self.old.broker.state number } }
+        ensures broker { self.new.broker ≡ record self.old.broker { state = output_taken self.old.broker.state number } }
         ensures output { result.items ≡ output_of number self.old.broker.state }
         ensures tried { self.new.tried ≡ self.old.tried }
         // Where replies wait for it, all that was done lasts.
@@ -141,7 +144,10 @@ impl<S: Store, L: PartitionLog + Drop> Committed<S, L> {
     }
 
     /// Whether a connection has something to say, or was shut.
-    pub fn speaks(&self, number: u64) -> bool {
+    pub fn speaks(&self, number: u64) -> bool
+        ensures { Rising 0 self.now.broker.state.last self.now.broker.state.lines
+            → result ≡ speaks_of number self.now.broker.state }
+    {
         self.broker.speakers().binary_search(&number).is_ok()
     }
 

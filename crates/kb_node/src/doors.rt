@@ -1,5 +1,7 @@
 //! The listeners of an edge.
 
+ghost use Rattle.std.specs.Prelude.{◌≡◌};
+
 use crate::watch::Watch;
 use std::alloc::{AllocError, AllocFailed, Global};
 use std::io;
@@ -112,7 +114,9 @@ impl<R: Net> Doors<R> {
     }
 
     /// The addresses that are listened on.
-    pub fn addresses(&self) -> &[SocketAddr] {
+    pub fn addresses(&self) -> &[SocketAddr]
+        ensures { result.now ≡ self.now.addresses.items }
+    {
         &self.addresses
     }
 

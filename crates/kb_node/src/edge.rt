@@ -1,18 +1,20 @@
 //! A broker on a network. A turn waits for no peer.
 
-ghost use Rattle.std.specs.Prelude.{◌≡◌, ◌≤◌, ◌<◌, ◌⊎◌, ◌*◌, ◌^◌, [], Err, None, Some, IfOk, IfErr, IfSome, OnErr, OnOk};
+ghost use Rattle.std.specs.Prelude.{◌≡◌, ◌≤◌, ◌<◌, ◌⊎◌, ◌*◌, [], Err, None, Some, IfOk, IfErr, IfSome, OnErr, OnOk};
+ghost use Rattle.kb_wire.specs.declared.clock.TheConstants.{MAX_CLOCK};
 ghost use Rattle.std.specs.Prelude.{◌≢◌, length, option_map, replicate, slice_get, vec_len};
 ghost use Rattle.std.specs.Vec.{vec_capacity};
-ghost use Rattle.kb_isolation_spec.specs.Calls.{IsRefused};
+ghost use Rattle.kb_isolation_spec.specs.Calls.{IsRefusedUnbound};
 ghost use Rattle.kb_isolation_spec.specs.Machine.{Moment};
 ghost use Rattle.kb_broker.specs.Speakers.{speakers};
+ghost use Rattle.kb_node.specs.Bound.{bind_cause, bind_fault};
 ghost use Rattle.kb_node.specs.Cores.{cores, seen};
 ghost use Rattle.kb_node.specs.Known.{lasting};
 ghost use Rattle.kb_node.specs.Moves.{Goes, GoesWith, IsAdmitted, IsRunOf, IsTakenIn, IsTurn};
 ghost use Rattle.kb_node.specs.Numbers.{IsInOrder, socket_of};
 ghost use Rattle.kb_node.specs.Ready.{AreCalled};
 ghost use Rattle.kb_node.specs.Seats.{AreSeated, AreSeated-prop};
-ghost use Rattle.kb_node.specs.SocketShares.{IsGiven};
+ghost use Rattle.kb_node.specs.SocketShares.{IsSeated};
 ghost use Rattle.kb_node.specs.Traffic.{Happens};
 ghost use Rattle.kb_node.specs.Waiting.{socket_at};
 
@@ -49,6 +51,7 @@ use std::io;
 use std::io::ErrorKind;
 use std::net::{Net, OpenStream, SocketAddr};
 use std::os::fd::AsRawFd;
+use thiserror::Error;
 
 /// The most sockets that a turn accepts.
 const ACCEPTS: usize = 1024;
@@ -71,11 +74,13 @@ enum Accepts {
 }
 
 /// Why an edge was not bound.
-#[derive(Clone, Copy, Debug, PartialEq, Eq)]
+#[derive(Clone, Copy, Debug, PartialEq, Eq, Error)]
 pub enum BindFault {
     /// The address cannot be listened on.
+    #[error("the address cannot be listened on")]
     Bind,
     /// Memory was refused.
+    #[error("out of memory")]
     Memory,
 }
 
@@ -356,7 +361,7 @@ impl<R: Net, S: Store, L: PartitionLog + Drop> Edge<R, S, L> {
     /// An `Err` is that of a commit, behind which nothing goes out: then each later turn does nothing but to answer the same.
     #[tactic(auto, using(crate::proofs::Goes::goes_then, crate::proofs::Goes::goes_none))]
     pub fn turn(&mut self, alloc: Global, now: u64) -> Result<Turn, StoreFault>
-        requires { now ≤ 2 ^ 62 }
+        requires { now ≤ MAX_CLOCK }
         ensures refused { IfErr result (λ fault. self.new.host.commits.fault ≡ Some fault) }
         ensures well { OnOk result (self.new.host.commits.fault ≡ None) }
         ensures dead { IfSome self.old.host.commits.fault (λ fault. (result ≡ Err fault) × (self.new ≡ self.old)) }
@@ -385,27 +390,31 @@ impl<R: Net, S: Store, L: PartitionLog + Drop> Edge<R, S, L> {
 
     /// The moment of a turn. Those whom the broker told something then can go on, and failed logins that have waited for long enough.
     fn begin(&mut self, alloc: Global, now: u64)
-        requires { now ≤ 2 ^ 62 }
+        requires { now ≤ MAX_CLOCK }
         ensures moment { Happens S.disk (Moment now) self.old.host.broker self.new.host.broker }
         ensures tried { self.new.host.tried ≡ self.old.host.tried }
         ensures sync { self.new.host.commits.sync ≡ self.old.host.commits.sync }
         ensures sockets { cores self.new.sockets.items ≡ cores self.old.sockets.items }
+        ensures clock { self.new.clock ≡ now }
+        ensures logins { (self.new.news.logins.first.items ≡ []) × (self.new.news.logins.more ≡ 0) }
+        ensures denied { (self.new.news.denied.first.items ≡ []) × (self.new.news.denied.more ≡ 0) }
+        ensures closed { (self.new.news.closed.first.items ≡ []) × (self.new.news.closed.more ≡ 0) }
     {
-        self.news.clear();
-        self.clock = now;
         self.host.moment(alloc, now);
         self.is_left_due = self.host.broker().next_deadline() <= now;
         self.hear_speakers();
-        self.answer_denied();
+        self.answer_denied(now);
         self.hear_all();
+        self.news.clear();
+        self.clock = now;
     }
 
     /// The failed logins are answered that have waited for long enough.
-    fn answer_denied(&mut self)
+    fn answer_denied(&mut self, now: u64)
         ensures { seen self.new.host self.new.sockets.items ≡ seen self.old.host self.old.sockets.items }
     {
         for _ in 0..self.limit {
-            let Some(number) = self.delays.take_due(self.clock) else {
+            let Some(number) = self.delays.take_due(now) else {
                 break;
             };
             self.let_answer(number);
@@ -521,7 +530,7 @@ impl<R: Net, S: Store, L: PartitionLog + Drop> Edge<R, S, L> {
         ensures others { OnErr result (self.new.sockets.items ≡ self.old.sockets.items) }
         // No connection opens without a socket.
         ensures unopened { OnErr result ((self.new.host ≡ self.old.host)
-            ⊎ IsRefused self.old.host.broker.state self.new.host.broker.state) }
+            ⊎ IsRefusedUnbound self.old.host.broker.state self.new.host.broker.state) }
     {
         let Some(connection) = self.host.next_number() else {
             return Err(io::Error::from(ErrorKind::QuotaExceeded));
@@ -568,7 +577,7 @@ impl<R: Net, S: Store, L: PartitionLog + Drop> Edge<R, S, L> {
 
 /// A connection could not be kept for want of memory, and is counted for nobody.
 fn refuse(strangers: &mut Strangers, shares: &mut SocketShares, connection: u64) -> io::Error
-    ensures { IsGiven connection None shares.old shares.new }
+    ensures { IsSeated connection None shares.old shares.new }
 {
     strangers.forget(connection);
     shares.release(connection);
@@ -577,7 +586,9 @@ fn refuse(strangers: &mut Strangers, shares: &mut SocketShares, connection: u64)
 
 /// An edge that was not bound.
 fn refused<S: Store, L: PartitionLog>(fault: DoorFault, broker: Broker<S, L>) -> BindRefused<S, L>
-    ensures { result.broker ≡ broker }
+    ensures broker { result.broker ≡ broker }
+    ensures fault { result.fault ≡ bind_fault fault }
+    ensures cause { result.cause ≡ bind_cause fault }
 {
     match fault {
         DoorFault::Bind(cause) => BindRefused {

@@ -1,6 +1,6 @@
 //! The first ones of a kind, and how many more there were.
 
-ghost use Rattle.std.specs.Prelude.{◌≡◌, ◌≤◌, ◌<◌, ◌+◌, ◌-◌, ◌^◌, ◌++◌, ◌∷◌, [], min, vec_capacity, vec_len};
+ghost use Rattle.std.specs.Prelude.{◌≡◌, ◌≤◌, ◌<◌, ◌+◌, ◌-◌, ◌^◌, ◌++◌, ◌∷◌, [], min, vec_capacity, vec_len, IfOk};
 
 use std::alloc::{AllocError, Global};
 
@@ -17,7 +17,9 @@ pub struct Firsts<T: Copy> {
 
 impl<T: Copy> Firsts<T> {
     /// None so far, with memory for those that are kept.
-    pub fn new(alloc: Global) -> Result<Self, AllocError> {
+    pub fn new(alloc: Global) -> Result<Self, AllocError>
+        ensures { IfOk result (λ it. (it.first.items ≡ []) × (it.more ≡ 0)) }
+    {
         Ok(Firsts {
             first: Vec::with_capacity(alloc, KEPT)?,
             more: 0,

@@ -1,7 +1,7 @@
 //! What was read on a socket and is not the connection's yet.
 
-ghost use Rattle.std.specs.Prelude.{◌≡◌, [], ◌++◌, OnOk, OnErr, ◌≤◌, ◌+◌, ◌-◌, take, true, drop, length, nat_lt, vec_len};
-ghost use Rattle.kb_node.specs.Requests.{request_end, piece_len, awaited, begun_size};
+ghost use Rattle.std.specs.Prelude.{◌≡◌, [], ◌++◌, OnOk, OnErr, ◌≤◌, ◌+◌, ◌-◌, take, true, drop, length, nat_eq, nat_lt, vec_len};
+ghost use Rattle.kb_node.specs.Requests.{awaited, gone_on, is_part, is_short, is_under_way, piece_len, request_end};
 
 use std::alloc::{AllocError, Global};
 
@@ -58,7 +58,8 @@ impl Progress {
     /// Whether none of the bytes can be handed on before more are there.
     #[tactic(auto, unfolding(crate::specs::Requests::request_end))]
     pub fn is_short(&self, bytes: &[u8]) -> bool
-        ensures { result ≡ true → awaited self.now.left bytes.now ≡ 0 }
+        ensures short { result ≡ is_short self.now.left bytes.now }
+        ensures unknown { result ≡ true → awaited self.now.left bytes.now ≡ 0 }
     {
         bytes.is_empty() || end_of_request(self.left, bytes) == 0
     }
@@ -67,8 +68,7 @@ impl Progress {
     /// nor more than there is room for.
     pub fn advance(&mut self, bytes: &[u8], room: usize) -> usize
         ensures cut { result ≡ piece_len self.old.left room bytes.now }
-        ensures remaining { self.new.left ≡ request_end self.old.left bytes.now - result }
-        ensures size { self.new.size ≡ begun_size self.old.left self.old.size result bytes.now }
+        ensures progress { self.new ≡ gone_on result bytes.now self.old }
         ensures within { result ≤ length bytes.now }
         ensures fits { result ≤ room }
     {
@@ -92,9 +92,12 @@ pub struct Input {
 }
 
 impl Input {
+    ghost use Rattle.kb_node.specs.Pieces.{unhanded};
+
     /// Nothing yet.
     pub fn new(alloc: Global) -> Self
-        ensures { drop result.handed result.bytes.items ≡ [] }
+        ensures none { drop result.handed result.bytes.items ≡ [] }
+        ensures between { (result.progress.left ≡ 0) × (result.progress.size ≡ 0) }
     {
         Input {
             bytes: Vec::new(alloc),
@@ -105,7 +108,8 @@ impl Input {
 
     /// Whether all was handed on.
     pub fn is_empty(&self) -> bool
-        ensures { result ≡ true → drop self.now.handed self.now.bytes.items ≡ [] }
+        ensures empty { result ≡ nat_eq (length (unhanded self.now)) 0 }
+        ensures none { result ≡ true → unhanded self.now ≡ [] }
     {
         self.handed == self.bytes.len()
     }
@@ -133,7 +137,7 @@ impl Input {
 
     /// How many bytes the request in front has of which nothing was handed on: 0 where one is begun, or its size is not there.
     pub fn awaited(&self) -> usize
-        ensures { result ≡ awaited self.now.progress.left (drop self.now.handed self.now.bytes.items) }
+        ensures { result ≡ awaited self.now.progress.left (unhanded self.now) }
     {
         self.progress.awaited(&self.bytes[self.handed..])
     }
@@ -146,18 +150,23 @@ impl Input {
     }
 
     /// Whether some of a request came, and it is to be read on.
-    pub fn is_under_way(&self) -> bool {
+    pub fn is_under_way(&self) -> bool
+        ensures { result ≡ is_under_way self.now.progress.left (unhanded self.now) }
+    {
         self.is_begun() || !self.is_empty() && self.is_short()
     }
 
     /// Whether the size of the request in front is there, and not all of it, where nothing of it was handed on.
-    pub fn is_part(&self) -> bool {
+    pub fn is_part(&self) -> bool
+        ensures { result ≡ is_part self.now.progress.left (unhanded self.now) }
+    {
         self.bytes.len() - self.handed < self.awaited()
     }
 
     /// Whether nothing can be handed on before more is read.
     pub fn is_short(&self) -> bool
-        ensures { result ≡ true → awaited self.now.progress.left (drop self.now.handed self.now.bytes.items) ≡ 0 }
+        ensures short { result ≡ is_short self.now.progress.left (unhanded self.now) }
+        ensures unknown { result ≡ true → awaited self.now.progress.left (unhanded self.now) ≡ 0 }
     {
         self.progress.is_short(&self.bytes[self.handed..])
     }
@@ -165,23 +174,27 @@ impl Input {
     /// Keeps bytes behind the others.
     pub fn push(&mut self, bytes: &[u8]) -> Result<(), AllocError>
         ensures progress { self.new.progress ≡ self.old.progress }
-        ensures ok { OnOk result (drop self.new.handed self.new.bytes.items ≡ drop self.old.handed self.old.bytes.items ++ bytes.now) }
-        ensures err { OnErr result (drop self.new.handed self.new.bytes.items ≡ drop self.old.handed self.old.bytes.items) }
+        ensures ok { OnOk result (unhanded self.new ≡ unhanded self.old ++ bytes.now) }
+        ensures err { OnErr result (unhanded self.new ≡ unhanded self.old) }
     {
         self.bytes.extend_from_slice(bytes)
     }
 
     /// The bytes at the front of a piece that are handed on past those that are kept, of which there are none: how many.
     pub fn pass(&mut self, piece: &[u8], room: usize) -> usize
+        ensures cut { result ≡ piece_len self.old.progress.left room piece.now }
+        ensures progress { self.new.progress ≡ gone_on result piece.now self.old.progress }
+        ensures bytes { (self.new.bytes ≡ self.old.bytes) × (self.new.handed ≡ self.old.handed) }
         ensures within { result ≤ length piece.now }
         ensures fits { result ≤ room }
-        ensures bytes { (self.new.bytes ≡ self.old.bytes) × (self.new.handed ≡ self.old.handed) }
     {
         self.progress.advance(piece, room)
     }
 
     /// Goes on by the next bytes that are handed on: how many.
     pub fn advance(&mut self, room: usize) -> usize
+        ensures cut { result ≡ piece_len self.old.progress.left room (unhanded self.old) }
+        ensures progress { self.new.progress ≡ gone_on result (unhanded self.old) self.old.progress }
         ensures fits { result ≤ room }
         ensures handed { self.new.handed ≡ self.old.handed + result }
         ensures bytes { self.new.bytes ≡ self.old.bytes }
@@ -202,7 +215,7 @@ impl Input {
     /// Forgets what was handed on, where that is all.
     pub fn tidy(&mut self, alloc: Global)
         ensures progress { self.new.progress ≡ self.old.progress }
-        ensures bytes { drop self.new.handed self.new.bytes.items ≡ drop self.old.handed self.old.bytes.items }
+        ensures bytes { unhanded self.new ≡ unhanded self.old }
     {
         if self.is_empty() {
             self.bytes = Vec::new(alloc);

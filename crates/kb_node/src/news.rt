@@ -1,5 +1,7 @@
 //! What happened in a turn and is told one by one: logins, and connections that the broker shut.
 
+ghost use Rattle.std.specs.Prelude.{◌≡◌, []};
+
 use crate::closed::Closed;
 use crate::firsts::Firsts;
 use kb_isolation_spec::Login;
@@ -37,7 +39,11 @@ impl News {
     }
 
     /// A turn begins.
-    pub(crate) fn clear(&mut self) {
+    pub(crate) fn clear(&mut self)
+        ensures logins { (self.new.logins.first.items ≡ []) × (self.new.logins.more ≡ 0) }
+        ensures denied { (self.new.denied.first.items ≡ []) × (self.new.denied.more ≡ 0) }
+        ensures closed { (self.new.closed.first.items ≡ []) × (self.new.closed.more ≡ 0) }
+    {
         self.logins.clear();
         self.denied.clear();
         self.closed.clear();

@@ -8,7 +8,7 @@ ghost use Rattle.kb_broker.specs.Hosts.{is_honest};
 ghost use Rattle.kb_broker.specs.Opening.{opening};
 ghost use Rattle.kb_broker.specs.Script.{script};
 ghost use Rattle.kb_broker.specs.ScriptRun.{IsPlayed, IsQuiet};
-ghost use Rattle.kb_node.specs.Node.{IsHalted, IsHaltedAt, IsScriptPlayed, IsScriptEnded, IsScriptStopped, IsFaultOf};
+ghost use Rattle.kb_node.specs.Node.{IsHalted, IsHaltedAt, IsScriptPlayed, IsScriptEnded, IsScriptStopped, IsScriptFault};
 
 use crate::fault::NodeFault;
 use kb_broker::{Broker, ScriptFault, Settings, run_script, run_script_on};
@@ -85,7 +85,7 @@ pub fn play_script_on<S: Store, L: PartitionLog + Drop, R: BufRead, W: Write>(
 fn hand_on<W: Write>(writer: &mut W, ran: Result<(), ScriptFault>) -> Result<(), NodeFault>
     ensures bytes { Keeps (W.contents writer.old) (W.contents writer.new) }
     ensures ok { OnOk result (IsOk ran) }
-    ensures err { IfErr result (λ fault. IsFaultOf fault ran) }
+    ensures err { IfErr result (λ fault. IsScriptFault fault ran) }
 {
     if writer.flush().is_err() {
         return Err(NodeFault::Write);

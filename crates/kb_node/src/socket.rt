@@ -1,13 +1,13 @@
 //! A socket and the connection that it carries.
 
-ghost use Rattle.std.specs.Prelude.{◌≡◌, ◌≢◌, ◌≤◌, ◌<◌, ◌+◌, ◌-◌, ◌||◌, ◌&&◌, not, true, false, drop, [], vec_len, nat_lt};
+ghost use Rattle.std.specs.Prelude.{◌≡◌, ◌≢◌, ◌≤◌, ◌<◌, ◌+◌, ◌-◌, ◌||◌, ◌&&◌, ◌^◌, min, not, true, false, drop, [], vec_len, nat_lt};
 ghost use Rattle.std.specs.Prelude.{None, Some, IfSome};
 ghost use Rattle.std.specs.BTreeMap.{insert_entry};
 ghost use Rattle.std.specs.Ordering.{nat_cmp};
-ghost use Rattle.kb_isolation_spec.specs.Broker.{bound_to};
+ghost use Rattle.kb_isolation_spec.specs.Broker.{bound_to, Rising};
 ghost use Rattle.kb_node.specs.Requests.{awaited};
 ghost use Rattle.kb_node.specs.Sockets.{can_ask, is_denial, is_done, is_held};
-ghost use Rattle.kb_node.specs.SocketShares.{may_bind, without};
+ghost use Rattle.kb_node.specs.SocketShares.{may_bind, without_socket};
 ghost use Rattle.kb_node.specs.declared.socket.Next.TheVariants.{End};
 
 mod asking;
@@ -95,6 +95,8 @@ pub struct Socket<T> {
 }
 
 impl<T: Read + Write + Drop> Socket<T> {
+    ghost use Rattle.mio.specs.Event.{is_error, is_read_closed, is_readable, is_write_closed};
+    ghost use Rattle.kb_node.specs.Next.{is_asking, is_idle, is_quiet, is_to_be_held, waits_for};
     ghost use Rattle.kb_node.specs.Ready.{can_hear};
     ghost use Rattle.kb_node.specs.Seats.{IsReseated};
 
@@ -104,6 +106,10 @@ impl<T: Read + Write + Drop> Socket<T> {
         ensures stream { result.stream ≡ stream }
         ensures open { result.is_ended ≡ false }
         ensures whole { result.is_lost ≡ false }
+        ensures reachable { (result.is_over ≡ false) × (result.is_half_closed ≡ false) }
+        ensures peer { result.peer ≡ peer }
+        ensures readable { result.can_read ≡ true }
+        ensures undenied { (result.is_denied ≡ false) × (result.held ≡ None) × (result.may_answer ≡ false) }
         ensures stranger { (result.is_known ≡ false) × (result.is_bound ≡ false) }
         ensures unwritten { drop result.written result.output.items ≡ [] }
         ensures unhanded { drop result.input.handed result.input.bytes.items ≡ [] }
@@ -168,7 +174,7 @@ impl<T: Read + Write + Drop> Socket<T> {
 
     /// Whether its login failed, and it is not noted yet since when that waits for its answer.
     pub fn is_to_be_held(&self) -> bool
-        ensures { result ≡ true → self.now.held ≡ None }
+        ensures { result ≡ is_to_be_held self.now }
     {
         self.is_denied && !self.is_ended && !self.may_answer && self.held.is_none()
     }
@@ -219,14 +225,19 @@ impl<T: Read + Write + Drop> Socket<T> {
 
     /// Whether some of a request came whose rest is waited for: nothing is to be written before, and nothing is waited for in the broker.
     pub fn is_under_way<S: Store, L: PartitionLog + Drop>(&self, host: &Committed<S, L>) -> bool
-        ensures { result ≡ true → can_ask self.now.is_over (vec_len self.now.output - self.now.written) self.now.connection
+        ensures open { result ≡ true → can_ask self.now.is_over (vec_len self.now.output - self.now.written) self.now.connection
             host.now.broker.state ≡ true }
+        ensures asking { result ≡ true → is_asking self.now ≡ true }
+        ensures rests { Rising 0 host.now.broker.state.last host.now.broker.state.lines
+            → result ≡ (is_quiet self.now host.now.broker.state && is_asking self.now) }
     {
         self.can_ask(host.broker()) && !host.speaks(self.connection) && self.is_asking()
     }
 
     /// Whether some of a request came, and not all. One whose bytes came before its size was there goes on to be so.
-    fn is_asking(&self) -> bool {
+    fn is_asking(&self) -> bool
+        ensures { result ≡ is_asking self.now }
+    {
         self.input.is_under_way() || self.begun.is_some() && self.input.is_part()
     }
 
@@ -236,6 +247,7 @@ impl<T: Read + Write + Drop> Socket<T> {
         ensures between { result ≡ true → self.now.input.progress.left ≡ 0 }
         ensures quiet { result ≡ true → can_ask self.now.is_over (vec_len self.now.output - self.now.written) self.now.connection
             host.now.broker.state ≡ true }
+        ensures idle { Rising 0 host.now.broker.state.last host.now.broker.state.lines → result ≡ is_idle self.now host.now.broker.state }
     {
         self.is_bound
             && self.can_ask(host.broker())
@@ -275,9 +287,9 @@ impl<T: Read + Write + Drop> Socket<T> {
     /// What the system tells of it.
     pub fn hear(&mut self, event: &Event)
         ensures { self.new ≡ record self.old {
-          can_read = self.new.can_read;
-          is_half_closed = self.new.is_half_closed;
-          is_over = self.new.is_over;
+          can_read = self.old.can_read || (is_readable event.now || is_read_closed event.now);
+          is_half_closed = self.old.is_half_closed || is_read_closed event.now;
+          is_over = self.old.is_over || (is_error event.now || is_write_closed event.now);
         } }
     {
         let is_closed = event.is_read_closed();
@@ -305,17 +317,21 @@ impl<T: Read + Write + Drop> Socket<T> {
         // Its seat is the one that it has in the shares.
         ensures seat { IsReseated self.old self.new shares.old shares.new }
         ensures stays { (result ≡ true → self.new.is_over ≡ self.old.is_over) × (result ≡ false → self.new.is_over ≡ true) }
-        ensures unbound { bound_to self.old.connection broker.now.state ≡ None → (result ≡ true) × (shares.new ≡ shares.old) }
+        ensures unbound { bound_to self.old.connection broker.now.state ≡ None
+            → (result ≡ true) × (self.new ≡ self.old) × (shares.new ≡ shares.old) × (turn.new ≡ turn.old) }
         // It is counted as over a limit only where the tenant may not have it.
         ensures limit { turn.new ≢ turn.old
-            → IfSome (bound_to self.old.connection broker.now.state) (λ tenant. may_bind self.old.connection tenant shares.old ≡ false) }
+            → IfSome (bound_to self.old.connection broker.now.state) (λ tenant. (may_bind self.old.connection tenant shares.old ≡ false)
+            × (turn.new ≡ record turn.old { over_limit = min (turn.old.over_limit + 1) (2 ^ 64 - 1) })) }
         ensures allowed { self.old.is_bound ≡ false → result ≡ true
             → IfSome (bound_to self.old.connection broker.now.state) (λ tenant. may_bind self.old.connection tenant shares.old ≡ true) }
         // From then on it is bound to the tenant that the broker says, and counted for it, where that has a share, and for nobody else.
         ensures counted { self.old.is_bound ≡ false → result ≡ true → IfSome (bound_to self.old.connection broker.now.state) (λ tenant.
             (self.new.tenant ≡ Some tenant) × (nat_lt tenant shares.old.tenants ≡ true → shares.new.sockets
-            ≡ insert_entry nat_cmp (without self.old.connection shares.old.sockets) self.old.connection tenant)) }
-        ensures once { self.old.is_bound ≡ true → shares.new ≡ shares.old }
+            ≡ insert_entry nat_cmp (without_socket self.old.connection shares.old.sockets) self.old.connection tenant)) }
+        // One that is bound stays as it is.
+        ensures once { self.old.is_bound ≡ true
+            → (result ≡ true) × (self.new ≡ self.old) × (shares.new ≡ shares.old) × (turn.new ≡ turn.old) }
         ensures read { turn.new.read ≡ turn.old.read }
     {
         if self.is_bound {
@@ -367,7 +383,8 @@ impl<T: Read + Write + Drop> Socket<T> {
 
     /// What it waits for, where its connection is open.
     fn next<S: Store, L: PartitionLog + Drop>(&self, broker: &Broker<S, L>) -> Next
-        ensures { result ≢ End }
+        ensures next { result ≡ waits_for self.now broker.now.state }
+        ensures open { result ≢ End }
     {
         if self.unwritten() > 0 {
             Next::System

@@ -1,12 +1,17 @@
 //! For whom the open sockets are counted.
 
-ghost use Rattle.std.specs.Prelude.{◌≡◌, [], true, false, IfOk, OnErr, OnOk, None, Some, nat_lt, length, if◌then◌else◌};
+ghost use Rattle.std.specs.Prelude.{◌≡◌, [], true, false, IfOk, OnErr, OnOk, None, Some, map, nat_lt, length, if◌then◌else◌};
 ghost use Rattle.std.specs.BTreeMap.{insert_entry};
 ghost use Rattle.std.specs.List.Sorted.{IsStrictlySortedBy};
 ghost use Rattle.std.specs.Map.{keys_of};
 ghost use Rattle.std.specs.Ordering.{nat_cmp};
-ghost use Rattle.kb_node.specs.Replies.{place_of};
-ghost use Rattle.kb_node.specs.SocketShares.{count_of, holder_of, may_bind, released, seat_among, without, IsGiven};
+ghost use Rattle.kb_settings.specs.Values.{values_of};
+ghost use Rattle.kb_broker.specs.Opening.{tenants_of};
+ghost use Rattle.kb_shares.specs.Shares.{idle_pool};
+ghost use Rattle.kb_node.specs.Replies.{holder_place};
+ghost use Rattle.kb_node.specs.SocketShares.{count_of, holder_of, may_bind, released, seat_among, share_named, with_strangers};
+ghost use Rattle.kb_node.specs.SocketShares.{without_socket};
+ghost use Rattle.kb_node.specs.SocketShares.{IsSeated};
 
 use kb_settings::{Settings, tenant_names};
 use kb_shares::{Budget, BudgetFault, Share};
@@ -28,19 +33,20 @@ pub struct SocketShares {
 }
 
 impl Model for SocketShares {
-    ghost use Rattle.kb_node.specs.SocketShares.{Seats, AreCounted};
+    ghost use Rattle.kb_node.specs.SocketShares.{Seats, CountsSockets};
 
     ghost Value = { Seats };
 
     ghost view = { λ s. record { pool = s.budget; sockets = s.holders.entries; tenants = s.tenants } };
 
-    ghost invariant = { λ s. AreCounted s.budget s.holders.entries };
+    ghost invariant = { λ s. CountsSockets s.budget s.holders.entries };
 }
 
 impl SocketShares {
     /// The shares of tenants by their places, of so many sockets. No socket is counted yet.
     pub fn new(alloc: Global, sockets: u64, shares: &[Share]) -> Result<SocketShares, BudgetFault>
-        ensures { IfOk result (λ it. (it.tenants ≡ length shares.now) × (it.sockets ≡ [])) }
+        ensures none { IfOk result (λ it. (it.tenants ≡ length shares.now) × (it.sockets ≡ [])) }
+        ensures pool { IfOk result (λ it. it.pool ≡ idle_pool sockets (with_strangers sockets shares.now)) }
     {
         let mut all = Vec::with_capacity(alloc, shares.len().saturating_add(1))?;
         let mut refused = Vec::with_capacity(alloc, shares.len())?;
@@ -63,7 +69,10 @@ impl SocketShares {
 
     /// What the settings say of each tenant.
     pub fn of(alloc: Global, settings: &Settings) -> Result<SocketShares, BudgetFault>
-        ensures { IfOk result (λ it. it.sockets ≡ []) }
+        ensures none { IfOk result (λ it. it.sockets ≡ []) }
+        ensures pool { IfOk result (λ it. it.pool ≡ idle_pool settings.now.connections (with_strangers settings.now.connections
+            (map (share_named (values_of settings.now)) (tenants_of settings.now.users.items)))) }
+        ensures tenants { IfOk result (λ it. it.tenants ≡ length (tenants_of settings.now.users.items)) }
     {
         let names = tenant_names(alloc, &settings.users)?;
         let mut shares = Vec::with_capacity(alloc, names.len())?;
@@ -95,7 +104,7 @@ impl SocketShares {
 
     /// The holder that has a socket: its tenant's place, or the place of those that have not logged in.
     pub fn holder(&self, connection: u64) -> usize
-        ensures { result ≡ place_of connection self.now }
+        ensures { result ≡ holder_place connection self.now }
     {
         match self.holders.get(&connection) {
             Some(holder) => *holder,
@@ -112,10 +121,10 @@ impl SocketShares {
     pub fn admit(&mut self, connection: u64) -> Result<(), AllocError>
         ensures tenants { self.new.tenants ≡ self.old.tenants }
         ensures admitted { OnOk result (self.new.sockets
-            ≡ insert_entry nat_cmp (without connection self.old.sockets) connection self.old.tenants) }
-        ensures refused { OnErr result (self.new.sockets ≡ without connection self.old.sockets) }
-        ensures seat { OnOk result (IsGiven connection (Some self.old.tenants) self.old self.new) }
-        ensures none { OnErr result (IsGiven connection None self.old self.new) }
+            ≡ insert_entry nat_cmp (without_socket connection self.old.sockets) connection self.old.tenants) }
+        ensures refused { OnErr result (self.new.sockets ≡ without_socket connection self.old.sockets) }
+        ensures seat { OnOk result (IsSeated connection (Some self.old.tenants) self.old self.new) }
+        ensures none { OnErr result (IsSeated connection None self.old self.new) }
     {
         self.release(connection);
         let place = self.tenants;
@@ -137,12 +146,12 @@ impl SocketShares {
         ensures tenants { self.new.tenants ≡ self.old.tenants }
         ensures answer { IfOk result (λ is_in. is_in ≡ may_bind connection tenant self.old) }
         ensures bound { IfOk result (λ is_in. is_in ≡ true → nat_lt tenant self.old.tenants ≡ true
-            → self.new.sockets ≡ insert_entry nat_cmp (without connection self.old.sockets) connection tenant) }
+            → self.new.sockets ≡ insert_entry nat_cmp (without_socket connection self.old.sockets) connection tenant) }
         ensures refused { IfOk result (λ is_in. is_in ≡ false → self.new ≡ released connection self.old) }
-        ensures no_memory { OnErr result (self.new.sockets ≡ without connection self.old.sockets) }
-        ensures seat { IfOk result (λ is_in. IsGiven connection (seat_among self.old.tenants (if is_in then Some tenant else None))
+        ensures no_memory { OnErr result (self.new.sockets ≡ without_socket connection self.old.sockets) }
+        ensures seat { IfOk result (λ is_in. IsSeated connection (seat_among self.old.tenants (if is_in then Some tenant else None))
             self.old self.new) }
-        ensures none { OnErr result (IsGiven connection None self.old self.new) }
+        ensures none { OnErr result (IsSeated connection None self.old self.new) }
     {
         self.release(connection);
         if tenant >= self.tenants {
@@ -165,7 +174,7 @@ impl SocketShares {
     pub fn release(&mut self, connection: u64)
         ensures released { self.new ≡ released connection self.old }
         ensures gone { holder_of connection self.new.sockets ≡ None }
-        ensures none { IsGiven connection None self.old self.new }
+        ensures none { IsSeated connection None self.old self.new }
     {
         if let Some(holder) = self.holders.remove(&connection) {
             self.budget.give_back(holder, 1);

@@ -1,7 +1,7 @@
 //! What is counted of tenants' requests: how many by API key, and their bytes and those of their replies.
 
 ghost use Rattle.std.specs.Prelude.{◌≡◌, ◌+◌, ◌-◌, ◌^◌, min, None, replicate};
-ghost use Rattle.kb_node.specs.TenantTraffic.{byte_in, key_in, noted, with_one_more, with_traffic};
+ghost use Rattle.kb_node.specs.TenantTraffic.{byte_in, key_in, noted_piece, with_one_more, with_traffic};
 
 /// How many API keys are counted, each apart: 0 to 63. All that are served are among them (Kafka protocol guide, "Protocol Api Keys").
 pub const API_KEYS: usize = 64;
@@ -89,7 +89,7 @@ impl Heading {
 
     /// Some of a request is handed on, of which some was handed on before, or not. A login without a request around it has no key.
     pub fn note(&mut self, is_begun: bool, is_bare: bool, piece: &[u8])
-        ensures { self.new ≡ noted is_begun is_bare piece.now self.old }
+        ensures { self.new ≡ noted_piece is_begun is_bare piece.now self.old }
     {
         if is_bare {
             self.seen = KEY_END;
@@ -117,7 +117,7 @@ impl Heading {
 
 /// The API key of a request of which so many bytes came before a piece, where its last byte is in the piece. Its first one is in it too,
 /// or came before.
-fn key_in(seen: usize, high: u8, piece: &[u8]) -> Option<u16>
+pub(crate) fn key_in(seen: usize, high: u8, piece: &[u8]) -> Option<u16>
     ensures { result ≡ key_in seen high piece.now }
 {
     let low = byte_in(5, seen, piece)?;

@@ -125,6 +125,7 @@ impl Times {
     pub fn take_looked(&mut self, now: u64) -> Option<u64>
         ensures looked { result ≡ silent now self.old.idle_millis self.old.looked.moments.keys }
         ensures others { self.new.looked.moments.keys ≡ without_silent now self.old.idle_millis self.old.looked.moments.keys }
+        ensures idle { self.new.idle_millis ≡ self.old.idle_millis }
         ensures begun { self.new.begun ≡ self.old.begun }
     {
         self.looked.take_silent(now, self.idle_millis)

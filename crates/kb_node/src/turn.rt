@@ -51,7 +51,9 @@ impl Turn {
     }
 
     /// One more socket was accepted.
-    pub(crate) fn count_accepted(&mut self) {
+    pub(crate) fn count_accepted(&mut self)
+        ensures { self.new ≡ record self.old { accepted = min (self.old.accepted + 1) (2 ^ 64 - 1) } }
+    {
         self.accepted = self.accepted.saturating_add(1);
     }
 
@@ -77,7 +79,9 @@ impl Turn {
     }
 
     /// One more socket was turned away.
-    pub(crate) fn count_turned_away(&mut self) {
+    pub(crate) fn count_turned_away(&mut self)
+        ensures { self.new ≡ record self.old { turned_away = min (self.old.turned_away + 1) (2 ^ 64 - 1) } }
+    {
         self.turned_away = self.turned_away.saturating_add(1);
     }
 

@@ -8,7 +8,7 @@ use Rattle.std.proofs.lemmas.Bool.Decides.{eqb_tells, nat_tests}
 use Rattle.std.proofs.lemmas.Cmp.{nat_cmp_total}
 use Rattle.std.proofs.lemmas.Map.Entries.{sum_by-remove_entry, sum_by-insert_entry}
 use Rattle.kb_shares.specs.declared.share.Share.{Share}
-use Rattle.kb_shares.specs.Shares.{Pool, fresh, holder_at, used_by}
+use Rattle.kb_shares.specs.Shares.{Pool, idle_pool, holder_at, used_by}
 use Rattle.kb_shares.proofs.Limits.{idle_at}
 use Rattle.kb_shares.specs.Ledger.{AreBooked, Bookings, part_of, amount_of, booking_of, unbooked}
 use Rattle.kb_shares.specs.declared.ledger.Booking.{Booking}
@@ -61,5 +61,5 @@ more old new member b bookings booked sorted is used others = record {
 }
 
 -- nothing is counted at first
-pub fresh_booked : (total : ℕ) (shares : List Share) → AreBooked (fresh total shares) []
+pub fresh_booked : (total : ℕ) (shares : List Share) → AreBooked (idle_pool total shares) []
 fresh_booked total shares = record { used = λ i. idle_at total shares i }

@@ -2,7 +2,7 @@
 use Rattle.std.proofs.Common.{◌≡◌, ◌≤◌, ◌+◌, ◌-◌, ◌⊎◌, inl, inr, ℕ, Bool, true, false, List, [], ◌∷◌, length, arith, refl, sym, ap, subst, zero, suc, if◌then◌else◌}
 use Rattle.std.proofs.lemmas.Bool.{cases_eq, cases_lt}
 use Rattle.std.proofs.lemmas.List.{get_or-set_same, get_or-set_other, set_past}
-use Rattle.kb_shares.specs.Shares.{Pool, fresh, most_of, used_by, has_room, can_count, with_used}
+use Rattle.kb_shares.specs.Shares.{Pool, idle_pool, most_of, used_by, has_room, can_count, with_used}
 use Rattle.kb_shares.specs.Calls.{Call, Take, Put, GiveBack, after, after_all, is_put, none_is, IsPiece, PutsPieces}
 use Rattle.kb_shares.specs.declared.share.Share.{Share}
 use Rattle.kb_shares.specs.declared.share.Holder.{Holder}
@@ -54,16 +54,16 @@ limit-after_all size i (call ∷ calls) p pieces h =
     omega (arith, more, same)
 
 -- nothing is used of new shares
-pub idle_at : (total : ℕ) (shares : List Share) (i : ℕ) → used_by i (fresh total shares) ≡ 0
+pub idle_at : (total : ℕ) (shares : List Share) (i : ℕ) → used_by i (idle_pool total shares) ≡ 0
 idle_at total [] i = refl
 idle_at total (s ∷ shares) zero = refl
 idle_at total (s ∷ shares) (suc i) = idle_at total shares i
 
 -- with pieces of this size at most, each put where its holder is open, a holder passes its limit by less than a piece
-pub limit-pieces : (total : ℕ) (shares : List Share) (calls : List Call) (size i : ℕ) → PutsPieces size calls (fresh total shares) → used_by i (after_all calls (fresh total shares)) ≤ most_of i (fresh total shares) + (size - 1)
+pub limit-pieces : (total : ℕ) (shares : List Share) (calls : List Call) (size i : ℕ) → PutsPieces size calls (idle_pool total shares) → used_by i (after_all calls (idle_pool total shares)) ≤ most_of i (idle_pool total shares) + (size - 1)
 limit-pieces total shares calls size i pieces =
-    let start = idle_at total shares i in limit-after_all size i calls (fresh total shares) pieces (omega (arith, start))
+    let start = idle_at total shares i in limit-after_all size i calls (idle_pool total shares) pieces (omega (arith, start))
 
-pub limit-taken : (total : ℕ) (shares : List Share) (calls : List Call) (i : ℕ) → none_is is_put calls ≡ true → used_by i (after_all calls (fresh total shares)) ≤ most_of i (fresh total shares)
+pub limit-taken : (total : ℕ) (shares : List Share) (calls : List Call) (i : ℕ) → none_is is_put calls ≡ true → used_by i (after_all calls (idle_pool total shares)) ≤ most_of i (idle_pool total shares)
 limit-taken total shares calls i none =
-    let all = limit-pieces total shares calls 0 i (no_pieces calls (fresh total shares) none) in omega (arith, all)
+    let all = limit-pieces total shares calls 0 i (no_pieces calls (idle_pool total shares) none) in omega (arith, all)

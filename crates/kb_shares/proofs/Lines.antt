@@ -6,7 +6,7 @@ use Rattle.std.proofs.lemmas.Grind.{common_steps}
 use Rattle.std.proofs.lemmas.List.Sums.{sum_by-cons, sum_by-append}
 use Rattle.std.specs.declared.collections.VecDeque.{VecDeque}
 use Rattle.std.proofs.Common.{Global}
-use Rattle.kb_shares.specs.Turns.{Lines, IsInOrder, lines_of, times, has_line, joined, after_next}
+use Rattle.kb_shares.specs.Turns.{Lines, IsInOrder, lines_of, times, has_line, enqueued, after_next}
 
 abbrev nobody : List ℕ
 nobody = []
@@ -93,14 +93,14 @@ set_longer W (k ∷ ks) h m there =
 
 -- behind others of its holder
 pub joined_line : (W : List (List ℕ)) (order : List ℕ) (h m : ℕ) → IsInOrder W order → h < length W → 0 < length (slice_index_or W h [])
-    → lines_of (set W h (slice_index_or W h [] ++ m ∷ [])) order ≡ joined h m (lines_of W order)
+    → lines_of (set W h (slice_index_or W h [] ++ m ∷ [])) order ≡ enqueued h m (lines_of W order)
 joined_line W order h m inside there some =
     let stands : has_line h (lines_of W order) ≡ true = grind (arith, has_line-times W order h, inside.once h, some) in
     set_longer W order h m there ∙ sym (ap (λ (b : Bool). if b then map (longer h m) (lines_of W order) else lines_of W order ++ (h, m ∷ []) ∷ []) stands)
 
 -- as the first one of its holder
 pub joined_first : (W : List (List ℕ)) (order : List ℕ) (h m : ℕ) → IsInOrder W order → h < length W → slice_index_or W h [] ≡ []
-    → lines_of (set W h (slice_index_or W h [] ++ m ∷ [])) (order ++ h ∷ []) ≡ joined h m (lines_of W order)
+    → lines_of (set W h (slice_index_or W h [] ++ m ∷ [])) (order ++ h ∷ []) ≡ enqueued h m (lines_of W order)
 joined_first W order h m inside there none =
     let after = set W h (slice_index_or W h [] ++ m ∷ []) in
     let apart : times h order ≡ 0 = grind (arith, inside.once h, none) in
@@ -207,13 +207,13 @@ one_more : (l : List ℕ) (m : ℕ) → 0 < length (l ++ m ∷ [])
 one_more l m = grind (arith, common_steps)
 
 pub added_line : {D : Type 0} (f : D → List ℕ) (ds : List D) (order : List ℕ) (h m : ℕ) (old new : D) → IsInOrder (map f ds) order → h < length ds → old ≡ slice_index_or ds h old
-    → f new ≡ f old ++ m ∷ [] → 0 < length (f old) → lines_of (map f (set ds h new)) order ≡ joined h m (lines_of (map f ds) order)
+    → f new ≡ f old ++ m ∷ [] → 0 < length (f old) → lines_of (map f (set ds h new)) order ≡ enqueued h m (lines_of (map f ds) order)
 added_line f ds order h m old new inside there is more some =
     ap (λ (W : List (List ℕ)). lines_of W order) (added f ds h m old new there is more)
     ∙ joined_line (map f ds) order h m inside (inside_map f ds h there) (subst (λ (l : List ℕ). 0 < length l) (sym (read_at f ds h old there is)) some)
 
 pub added_first : {D : Type 0} (f : D → List ℕ) (ds : List D) (order : List ℕ) (h m : ℕ) (old new : D) → IsInOrder (map f ds) order → h < length ds → old ≡ slice_index_or ds h old
-    → f new ≡ f old ++ m ∷ [] → f old ≡ [] → lines_of (map f (set ds h new)) (order ++ h ∷ []) ≡ joined h m (lines_of (map f ds) order)
+    → f new ≡ f old ++ m ∷ [] → f old ≡ [] → lines_of (map f (set ds h new)) (order ++ h ∷ []) ≡ enqueued h m (lines_of (map f ds) order)
 added_first f ds order h m old new inside there is more none =
     ap (λ (W : List (List ℕ)). lines_of W (order ++ h ∷ [])) (added f ds h m old new there is more)
     ∙ joined_first (map f ds) order h m inside (inside_map f ds h there) (read_at f ds h old there is ∙ none)

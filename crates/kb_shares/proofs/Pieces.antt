@@ -4,7 +4,7 @@ use Rattle.std.specs.List.{sum_by}
 use Rattle.std.proofs.lemmas.List.{length-map, set_past}
 use Rattle.std.proofs.lemmas.List.Sums.{sum_by-set, sum_by-cons, sum_by-le-sum_by}
 use Rattle.kb_shares.specs.Holder.{above, idle}
-use Rattle.kb_shares.specs.Shares.{Pool, are_shares, fresh, shares_of, holder_at, own_of, used_by, all_above, free_for, has_room, can_count, with_used, taken, given_back}
+use Rattle.kb_shares.specs.Shares.{Pool, are_shares, idle_pool, shares_of, holder_at, own_of, used_by, all_above, free_for, has_room, can_count, with_used, taken, given_back}
 use Rattle.kb_shares.specs.Calls.{Call, Take, Put, GiveBack, after, after_all, is_put, none_is, IsPiece, PutsPieces, held}
 use Rattle.kb_shares.specs.declared.share.Share.{Share}
 use Rattle.kb_shares.specs.declared.share.Holder.{Holder}
@@ -121,14 +121,14 @@ held-past q (h ∷ hs) =
     let e : (length (h ∷ hs)) * q ≡ q + length hs * q = grind arith in
     omega (arith, a, b, c, d, e)
 
-past-fresh : (q total : ℕ) (shares : List Share) → all_past q (fresh total shares) ≤ 0
+past-fresh : (q total : ℕ) (shares : List Share) → all_past q (idle_pool total shares) ≤ 0
 past-fresh q total shares =
-    omega (arith, idle_above shares, sum_by-le-sum_by (past q) above (fresh total shares).holders (λ h. omega arith))
+    omega (arith, idle_above shares, sum_by-le-sum_by (past q) above (idle_pool total shares).holders (λ h. omega arith))
 
 -- with pieces of this size at most, each put where its holder is open, the total is passed by less than a piece for each holder
-pub held-pieces : (total : ℕ) (shares : List Share) (calls : List Call) (size : ℕ) → are_shares total shares ≡ true → PutsPieces size calls (fresh total shares) → held (after_all calls (fresh total shares)) ≤ total + length shares * (size - 1)
+pub held-pieces : (total : ℕ) (shares : List Share) (calls : List Call) (size : ℕ) → are_shares total shares ≡ true → PutsPieces size calls (idle_pool total shares) → held (after_all calls (idle_pool total shares)) ≤ total + length shares * (size - 1)
 held-pieces total shares calls size fit pieces =
-    let p = fresh total shares in
+    let p = idle_pool total shares in
     let end = after_all calls p in
     let same : shares_of end ≡ shares = shares-after_all calls p ∙ shares_idle shares in
     let parts = ap (sum_by (λ (s : Share). s.own)) same in
@@ -146,5 +146,5 @@ no_pieces (Take i n ∷ calls) p none = (tt, no_pieces calls (taken i n p) none)
 no_pieces (Put i n ∷ calls) p none = absurd (false≢true none)
 no_pieces (GiveBack i n ∷ calls) p none = (tt, no_pieces calls (given_back i n p) none)
 
-pub held-taken : (total : ℕ) (shares : List Share) (calls : List Call) → are_shares total shares ≡ true → none_is is_put calls ≡ true → held (after_all calls (fresh total shares)) ≤ total
-held-taken total shares calls fit none = omega (arith, held-pieces total shares calls 0 fit (no_pieces calls (fresh total shares) none))
+pub held-taken : (total : ℕ) (shares : List Share) (calls : List Call) → are_shares total shares ≡ true → none_is is_put calls ≡ true → held (after_all calls (idle_pool total shares)) ≤ total
+held-taken total shares calls fit none = omega (arith, held-pieces total shares calls 0 fit (no_pieces calls (idle_pool total shares) none))

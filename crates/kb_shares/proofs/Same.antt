@@ -3,7 +3,7 @@ use Rattle.std.proofs.Common.{◌≡◌, ◌≤◌, ◌+◌, ◌-◌, ◌==◌, 
 use Rattle.std.proofs.lemmas.List.{get_or-set_other}
 use Rattle.std.proofs.lemmas.Grind.{common_steps}
 use Rattle.kb_shares.specs.Holder.{idle}
-use Rattle.kb_shares.specs.Shares.{Pool, are_shares, fresh, shares_of, holder_at, own_of, most_of, used_by, has_room, can_count, with_used}
+use Rattle.kb_shares.specs.Shares.{Pool, are_shares, idle_pool, shares_of, holder_at, own_of, most_of, used_by, has_room, can_count, with_used}
 use Rattle.kb_shares.specs.Calls.{Call, Take, Put, GiveBack, after, after_all, is_of, none_is}
 use Rattle.kb_shares.specs.declared.share.Share.{Share}
 use Rattle.kb_shares.specs.declared.share.Holder.{Holder}
@@ -78,15 +78,15 @@ share_at-after_all calls i p =
     share_at (after_all calls p).holders i _ ∙ ap (λ ss. get_or ss i (record { own = 0; most = 0 })) (shares-after_all calls p)
     ∙ sym (share_at p.holders i _)
 
-within : (total : ℕ) (shares : List Share) (i : ℕ) → are_shares total shares ≡ true → own_of i (fresh total shares) ≤ most_of i (fresh total shares)
+within : (total : ℕ) (shares : List Share) (i : ℕ) → are_shares total shares ≡ true → own_of i (idle_pool total shares) ≤ most_of i (idle_pool total shares)
 within total shares i h = grind (arith, common_steps, (idle_counted total shares h).within i (idle (record { own = 0; most = 0 })))
 
 own_room : (i n : ℕ) (p : Pool) → own_of i p ≤ most_of i p → used_by i p + n ≤ own_of i p → has_room i n p ≡ true
 own_room i n p l m = grind (arith, l, m)
 
-pub own_part : (total : ℕ) (shares : List Share) (calls : List Call) (i n : ℕ) → are_shares total shares ≡ true → used_by i (after_all calls (fresh total shares)) + n ≤ own_of i (fresh total shares) → has_room i n (after_all calls (fresh total shares)) ≡ true
+pub own_part : (total : ℕ) (shares : List Share) (calls : List Call) (i n : ℕ) → are_shares total shares ≡ true → used_by i (after_all calls (idle_pool total shares)) + n ≤ own_of i (idle_pool total shares) → has_room i n (after_all calls (idle_pool total shares)) ≡ true
 own_part total shares calls i n h l =
-    let same = share_at-after_all calls i (fresh total shares) in
-    own_room i n (after_all calls (fresh total shares))
+    let same = share_at-after_all calls i (idle_pool total shares) in
+    own_room i n (after_all calls (idle_pool total shares))
     (subst (λ (s : Share). s.own ≤ s.most) (sym same) (within total shares i h))
-    (subst (λ (s : Share). used_by i (after_all calls (fresh total shares)) + n ≤ s.own) (sym same) l)
+    (subst (λ (s : Share). used_by i (after_all calls (idle_pool total shares)) + n ≤ s.own) (sym same) l)

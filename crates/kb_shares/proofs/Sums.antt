@@ -5,7 +5,7 @@ use Rattle.std.proofs.lemmas.List.Elements.{All-map, All-weaker}
 use Rattle.std.proofs.lemmas.List.Sums.{sum_by-set, sum_by-cons, get_or-le-sum_by, AllPass-from_list_all}
 use Rattle.std.proofs.lemmas.Grind.{common_steps}
 use Rattle.kb_shares.specs.Holder.{above, idle}
-use Rattle.kb_shares.specs.Shares.{Pool, IsCounted, are_shares, holder_at, own_of, all_above, with_used}
+use Rattle.kb_shares.specs.Shares.{Pool, CountsAbove, are_shares, holder_at, own_of, all_above, with_used}
 use Rattle.kb_shares.specs.declared.share.Share.{Share}
 
 -- a holder's is among it, and with so much it adds that
@@ -25,7 +25,7 @@ idle_above [] = refl
 idle_above (s ∷ ss) = sum_by-cons above (idle s) (map idle ss) ∙ ap (λ n. (0 - s.own) + n) (idle_above ss) ∙ omega arith
 
 -- nothing is held of new shares, and each part is within its limit
-pub idle_counted : (total : ℕ) (shares : List Share) → are_shares total shares ≡ true → IsCounted 0 (map idle shares)
+pub idle_counted : (total : ℕ) (shares : List Share) → are_shares total shares ≡ true → CountsAbove 0 (map idle shares)
 idle_counted total shares h = record {
   counted = sym (idle_above shares);
   within = All-map (λ h. h.share.own ≤ h.share.most) idle shares

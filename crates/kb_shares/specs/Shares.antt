@@ -21,8 +21,8 @@ abbrev pub rest_of : ℕ → List Share → ℕ
 rest_of total shares = total - sum_by (λ s. s.own) shares
 
 -- the total in these shares, of which nothing is held
-abbrev pub fresh : ℕ → List Share → Pool
-fresh total shares = record { common = rest_of total shares; holders = map idle shares }
+abbrev pub idle_pool : ℕ → List Share → Pool
+idle_pool total shares = record { common = rest_of total shares; holders = map idle shares }
 
 abbrev pub shares_of : Pool → List Share
 shares_of p = map (λ h. h.share) p.holders
@@ -87,6 +87,6 @@ put i n p = if can_count i n p then with_used i (used_by i p + n) p else p
 -- 4. What a budget keeps
 
 -- The number is what all have above their parts. Each part is within its limit.
-pub record IsCounted (number : ℕ) (holders : List Holder) : Type 0 where
+pub record CountsAbove (number : ℕ) (holders : List Holder) : Type 0 where
   pub counted : number ≡ sum_by above holders
   pub within : All (λ h. h.share.own ≤ h.share.most) holders

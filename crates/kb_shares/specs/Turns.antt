@@ -9,8 +9,8 @@ abbrev pub Lines : Type 0
 Lines = List (ℕ × List ℕ)
 
 -- whose they are
-abbrev pub whose : Lines → List ℕ
-whose lines = map (λ l. l.0) lines
+abbrev pub holders_of : Lines → List ℕ
+holders_of lines = map (λ l. l.0) lines
 
 abbrev pub has_line : ℕ → Lines → Bool
 has_line holder lines = list_any (λ l. l.0 == holder) lines
@@ -18,8 +18,8 @@ has_line holder lines = list_any (λ l. l.0 == holder) lines
 -- 2. The calls
 
 -- A member comes behind the others of its holder. The first one of a holder brings it behind all holders.
-abbrev pub joined : ℕ → ℕ → Lines → Lines
-joined holder member lines =
+abbrev pub enqueued : ℕ → ℕ → Lines → Lines
+enqueued holder member lines =
     if has_line holder lines then map (λ l. if l.0 == holder then (l.0, l.1 ++ member ∷ []) else l) lines
     else lines ++ (holder, member ∷ []) ∷ []
 
@@ -54,7 +54,7 @@ pub data Step : Type 0 where
   Next : Step
 
 abbrev pub after_step : Step → Lines → Lines
-after_step (Join holder member) lines = joined holder member lines
+after_step (Join holder member) lines = enqueued holder member lines
 after_step Next lines = after_next lines
 
 -- the lines after all of them, one after the other

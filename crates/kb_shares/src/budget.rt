@@ -2,7 +2,7 @@
 ghost use Rattle.std.specs.Prelude.{◌≡◌, ◌≢◌, ◌≤◌, ◌<◌, ◌+◌, ◌-◌, ◌^◌, ◌↔◌, ℕ, nat_le, true, false, map};
 ghost use Rattle.std.specs.Prelude.{IfOk, IfSome, IsSome, IsErrOf, if◌then◌else◌, Option, Some, None};
 ghost use Rattle.kb_shares.specs.Holder.{idle};
-ghost use Rattle.kb_shares.specs.Shares.{are_shares, rest_of, fresh, shares_of, holder_at, used_by, own_of, all_above, with_used};
+ghost use Rattle.kb_shares.specs.Shares.{are_shares, rest_of, idle_pool, shares_of, holder_at, used_by, own_of, all_above, with_used};
 ghost use Rattle.kb_shares.specs.Shares.{has_room, room_for, piece_for, taken, given_back, can_count, put};
 ghost use Rattle.kb_shares.specs.declared.fault.BudgetFault.TheVariants as faults;
 
@@ -25,13 +25,13 @@ pub struct Budget {
 }
 
 impl Model for Budget {
-    ghost use Rattle.kb_shares.specs.Shares.{Pool, IsCounted};
+    ghost use Rattle.kb_shares.specs.Shares.{Pool, CountsAbove};
 
     ghost Value = { Pool };
 
     ghost view = { λ b. record { common = b.common; holders = b.holders.items } };
 
-    ghost invariant = { λ b. IsCounted b.above b.holders.items };
+    ghost invariant = { λ b. CountsAbove b.above b.holders.items };
 }
 
 /// What is no holder's part; `None` exactly where these are no shares of the total.
@@ -63,7 +63,7 @@ impl Budget {
     /// The total in these shares, one for each holder by its place. Nothing is held yet.
     #[tactic(auto, using(crate::proofs::Sums::idle_counted, crate::proofs::Same::shares_idle))]
     pub fn new(alloc: Global, total: u64, shares: &[Share]) -> Result<Self, BudgetFault>
-        ensures fresh { IfOk result (λ budget. budget ≡ fresh total shares.now) }
+        ensures fresh { IfOk result (λ budget. budget ≡ idle_pool total shares.now) }
         ensures shares { IfOk result (λ budget. shares_of budget ≡ shares.now) }
         ensures refused { IsErrOf result faults.Shares ↔ (are_shares total shares.now ≡ false) }
     {

@@ -1,7 +1,7 @@
 //! For whom the amounts of members are counted.
 
 ghost use Rattle.std.specs.Prelude.{◌≡◌, ◌≤◌, ◌<◌, ◌-◌, ◌^◌, ℕ, nat_le, [], true, IfOk, OnErr, OnOk, IsErrOf, ◌↔◌, None, false};
-ghost use Rattle.kb_shares.specs.Shares.{are_shares, fresh, has_room, own_of, piece_for, used_by};
+ghost use Rattle.kb_shares.specs.Shares.{are_shares, idle_pool, has_room, own_of, piece_for, used_by};
 ghost use Rattle.kb_shares.specs.Ledger.{amount_of, booking_of, let_go, set_to};
 ghost use Rattle.kb_shares.specs.declared.fault.BudgetFault.TheVariants as faults;
 
@@ -43,7 +43,7 @@ impl Ledger {
     /// The total in these shares, one for each holder by its place. Nothing is counted yet.
     #[tactic(auto, using(crate::proofs::Booked::fresh_booked))]
     pub fn new(alloc: Global, total: u64, shares: &[Share]) -> Result<Ledger, BudgetFault>
-        ensures pool { IfOk result (λ it. it.pool ≡ fresh total shares.now) }
+        ensures pool { IfOk result (λ it. it.pool ≡ idle_pool total shares.now) }
         ensures none { IfOk result (λ it. it.bookings ≡ []) }
         ensures refused { IsErrOf result faults.Shares ↔ (are_shares total shares.now ≡ false) }
     {

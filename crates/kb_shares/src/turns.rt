@@ -1,7 +1,7 @@
 //! Whose turn it is: holders in turn, and the members of each in turn.
 
 ghost use Rattle.std.specs.Prelude.{◌≡◌, [], true, false, length, map, replicate, nat_eq, IfOk};
-ghost use Rattle.kb_shares.specs.Turns.{joined, next, after_next};
+ghost use Rattle.kb_shares.specs.Turns.{enqueued, next, after_next};
 
 use std::alloc::{AllocError, Global};
 use std::collections::VecDeque;
@@ -53,7 +53,7 @@ impl Turns {
     /// A member waits for its turn, which did not wait. It answers false where there is no memory, or no such holder: then it does not
     /// wait.
     pub fn push(&mut self, holder: usize, member: u64) -> bool
-        ensures joined { result ≡ true → self.new ≡ joined holder member self.old }
+        ensures joined { result ≡ true → self.new ≡ enqueued holder member self.old }
         ensures refused { result ≡ false → self.new ≡ self.old }
     {
         if self.order.reserve(1).is_err() {

@@ -39,7 +39,9 @@ impl<R: Net, S: Store, L: PartitionLog + Drop> Edge<R, S, L> {
     }
 
     /// The addresses that are listened on.
-    pub fn addresses(&self) -> &[SocketAddr] {
+    pub fn addresses(&self) -> &[SocketAddr]
+        ensures { result.now ≡ self.now.doors.addresses.items }
+    {
         self.doors.addresses()
     }
 

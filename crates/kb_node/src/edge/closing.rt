@@ -1,15 +1,20 @@
 //! Which sockets an edge closes.
 
-ghost use Rattle.std.specs.Prelude.{◌≡◌, ◌<◌, true, None, IfSome, slice_get, slice_set, vec_len};
-ghost use Rattle.kb_node.specs.Cores.{seen};
-ghost use Rattle.kb_node.specs.Moves.{Goes, GoesTelling};
+ghost use Rattle.std.specs.Prelude.{◌≡◌, ◌<◌, ◌-◌, ◌⊎◌, ◌&&◌, true, false, nat_lt, if◌then◌else◌};
+ghost use Rattle.std.specs.Prelude.{IfSome, OnOk, slice_get, slice_set, vec_len};
 ghost use Rattle.std.specs.Bool.{OnTrue};
 ghost use Rattle.kb_shares.specs.Ledger.{amount_of, let_go};
 ghost use Rattle.kb_shares.specs.Shares.{has_room};
-ghost use Rattle.kb_node.specs.Replies.{place_of};
+ghost use Rattle.kb_isolation_spec.specs.Calls.{login_on};
+ghost use Rattle.kb_node.specs.Closing.{AreDealtWith, ChangesAlone, IsBegunAt, IsClosed, IsClosedUnless, IsForgotten, IsGone, IsPutOff};
+ghost use Rattle.kb_node.specs.Closing.{IsUsedOfLate, TookSome, silent_of};
+ghost use Rattle.kb_node.specs.Cores.{cores, open_ones, seen};
+ghost use Rattle.kb_node.specs.Deadlines.{due, has_moved, patience, silences_noted, silent, silent_since, stalled, without_stranger};
+ghost use Rattle.kb_node.specs.Moves.{Goes, GoesTelling};
+ghost use Rattle.kb_node.specs.Numbers.{socket_of};
 ghost use Rattle.kb_node.specs.ReaderWaits.{waited};
-ghost use Rattle.kb_isolation_spec.specs.Calls.{login_of};
-ghost use Rattle.kb_node.specs.SocketShares.{count_of, holder_of, released};
+ghost use Rattle.kb_node.specs.Replies.{holder_place};
+ghost use Rattle.kb_node.specs.SocketShares.{count_of, released};
 ghost use Rattle.kb_node.specs.Waiting.{user_in};
 
 use crate::deadlines::{has_moved, patience};
@@ -42,7 +47,11 @@ impl<R: Net, S: Store, L: PartitionLog + Drop> Edge<R, S, L> {
     /// Closes the sockets that have not logged in in time.
     #[tactic(auto, using(crate::proofs::Goes::goes_then, crate::proofs::Goes::goes_none))]
     fn close_strangers(&mut self, alloc: Global, turn: &mut Turn)
-        ensures { Goes S.disk R.Stream.contents R.Stream.remaining (seen self.old.host self.old.sockets.items)
+        // Those are closed whose time is over, from the first one on, and no others.
+        ensures late { AreDealtWith (λ e. due e.clock e.strangers.deadlines.entries) (λ n a b. IsClosed n (cores a.sockets.items)
+            (cores b.sockets.items) × (b.strangers.deadlines.entries ≡ without_stranger n a.strangers.deadlines.entries)
+            × (b.clock ≡ a.clock)) (λ e. cores e.sockets.items) self.old.limit self.old self.new }
+        ensures goes { Goes S.disk R.Stream.contents R.Stream.remaining (seen self.old.host self.old.sockets.items)
             (seen self.new.host self.new.sockets.items) }
     {
         for _ in 0..self.limit {
@@ -57,7 +66,11 @@ impl<R: Net, S: Store, L: PartitionLog + Drop> Edge<R, S, L> {
     /// Tries the sockets once more that took something of their replies some time ago.
     #[tactic(auto, using(crate::proofs::Goes::goes_then, crate::proofs::Goes::goes_none))]
     fn try_again(&mut self, alloc: Global, turn: &mut Turn)
-        ensures { Goes S.disk R.Stream.contents R.Stream.remaining (seen self.old.host self.old.sockets.items)
+        // Those are tried that took some of it half a second ago, from the one on that did so first.
+        ensures tried { AreDealtWith (λ e. silent e.clock 500 e.silences.untried.moments.keys) (λ n a b. ChangesAlone n
+            (cores a.sockets.items) (cores b.sockets.items) × (b.clock ≡ a.clock)) (λ e. cores e.sockets.items)
+            self.old.limit self.old self.new }
+        ensures goes { Goes S.disk R.Stream.contents R.Stream.remaining (seen self.old.host self.old.sockets.items)
             (seen self.new.host self.new.sockets.items) }
     {
         for _ in 0..self.limit {
@@ -71,7 +84,12 @@ impl<R: Net, S: Store, L: PartitionLog + Drop> Edge<R, S, L> {
     /// Closes the sockets that take nothing of their replies. The system tells late of a little room, so each is tried once more before.
     #[tactic(auto, using(crate::proofs::Goes::goes_then, crate::proofs::Goes::goes_none))]
     fn close_unread(&mut self, alloc: Global, turn: &mut Turn)
-        ensures { Goes S.disk R.Stream.contents R.Stream.remaining (seen self.old.host self.old.sockets.items)
+        // Those are closed that took nothing for so long, from the one on that did so for longest, and no others.
+        ensures late { AreDealtWith (λ e. silent e.clock e.reply_millis e.silences.unread.moments.keys) (λ n a b. IsClosedUnless n
+            (TookSome n (cores a.sockets.items) (cores b.sockets.items)) (cores a.sockets.items) (cores b.sockets.items)
+            × (b.clock ≡ a.clock)) (λ e. cores e.sockets.items)
+            self.old.limit self.old self.new }
+        ensures goes { Goes S.disk R.Stream.contents R.Stream.remaining (seen self.old.host self.old.sockets.items)
             (seen self.new.host self.new.sockets.items) }
     {
         for _ in 0..self.limit {
@@ -85,7 +103,10 @@ impl<R: Net, S: Store, L: PartitionLog + Drop> Edge<R, S, L> {
     /// Closes the socket of a connection, unless it takes something of its reply now.
     #[tactic(auto, using(crate::proofs::Goes::goes_then, crate::proofs::Goes::goes_none))]
     fn close_unless_written(&mut self, alloc: Global, number: u64, turn: &mut Turn)
-        ensures { Goes S.disk R.Stream.contents R.Stream.remaining (seen self.old.host self.old.sockets.items)
+        ensures unless { IsClosedUnless number (TookSome number (cores self.old.sockets.items) (cores self.new.sockets.items))
+            (cores self.old.sockets.items) (cores self.new.sockets.items) }
+        ensures clock { self.new.clock ≡ self.old.clock }
+        ensures goes { Goes S.disk R.Stream.contents R.Stream.remaining (seen self.old.host self.old.sockets.items)
             (seen self.new.host self.new.sockets.items) }
     {
         if self.write_again(alloc, number, turn) {
@@ -111,7 +132,7 @@ impl<R: Net, S: Store, L: PartitionLog + Drop> Edge<R, S, L> {
     #[tactic(auto, using(crate::proofs::Goes::goes_then, crate::proofs::Goes::goes_none))]
     fn make_way_for(&mut self, alloc: Global, at: usize, turn: &mut Turn)
         // Nothing is counted where it may be asked.
-        ensures asked { IfSome (slice_get self.old.ready.items at) (λ n. has_room (place_of n self.old.shares) 1
+        ensures asked { IfSome (slice_get self.old.ready.items at) (λ n. has_room (holder_place n self.old.shares) 1
             self.old.replies.pool ≡ true → self.new.reader_waits ≡ self.old.reader_waits) }
         ensures goes { Goes S.disk R.Stream.contents R.Stream.remaining (seen self.old.host self.old.sockets.items)
             (seen self.new.host self.new.sockets.items) }
@@ -142,7 +163,12 @@ impl<R: Net, S: Store, L: PartitionLog + Drop> Edge<R, S, L> {
     /// Closes those sockets of a holder that take nothing of their replies for longest, until it may ask for more.
     #[tactic(auto, using(crate::proofs::Goes::goes_then, crate::proofs::Goes::goes_none))]
     fn make_way(&mut self, alloc: Global, holder: usize, turn: &mut Turn)
-        ensures { Goes S.disk R.Stream.contents R.Stream.remaining (seen self.old.host self.old.sockets.items)
+        // Those of the holder are closed that took nothing for so long, from the one on that did so for longest, and no others.
+        ensures late { AreDealtWith (λ e. stalled holder e.clock (patience (has_room holder 1 e.replies.pool) e.reply_millis)
+            e.silences.stalls.moments) (λ n a b. IsClosedUnless n (TookSome n (cores a.sockets.items) (cores b.sockets.items))
+            (cores a.sockets.items) (cores b.sockets.items) × (b.clock ≡ a.clock)) (λ e. cores e.sockets.items)
+            self.old.limit self.old self.new }
+        ensures goes { Goes S.disk R.Stream.contents R.Stream.remaining (seen self.old.host self.old.sockets.items)
             (seen self.new.host self.new.sockets.items) }
     {
         for _ in 0..self.limit {
@@ -157,7 +183,10 @@ impl<R: Net, S: Store, L: PartitionLog + Drop> Edge<R, S, L> {
     /// Closes the socket of a connection that makes others wait, unless it takes something of its reply now.
     #[tactic(auto, using(crate::proofs::Goes::goes_then, crate::proofs::Goes::goes_none))]
     fn close_stalling(&mut self, alloc: Global, number: u64, turn: &mut Turn)
-        ensures { Goes S.disk R.Stream.contents R.Stream.remaining (seen self.old.host self.old.sockets.items)
+        ensures unless { IsClosedUnless number (TookSome number (cores self.old.sockets.items) (cores self.new.sockets.items))
+            (cores self.old.sockets.items) (cores self.new.sockets.items) }
+        ensures clock { self.new.clock ≡ self.old.clock }
+        ensures goes { Goes S.disk R.Stream.contents R.Stream.remaining (seen self.old.host self.old.sockets.items)
             (seen self.new.host self.new.sockets.items) }
     {
         if self.write_again(alloc, number, turn) {
@@ -186,6 +215,11 @@ impl<R: Net, S: Store, L: PartitionLog + Drop> Edge<R, S, L> {
     #[tactic(auto, using(crate::proofs::Goes::goes_then, crate::proofs::Goes::goes_none))]
     fn close_slow(&mut self, alloc: Global, turn: &mut Turn)
         ensures commits { self.new.host.commits ≡ self.old.host.commits }
+        // Those are closed, or put off, whose time is over, from the first one on, and no others.
+        ensures late { AreDealtWith (λ e. silent e.clock e.times.request_millis e.times.begun.moments.keys) (λ n a b. IsClosedUnless n
+            (IsPutOff n a.clock a.shares a.replies.pool b.sockets.items) (cores a.sockets.items) (cores b.sockets.items)
+            × (b.clock ≡ a.clock)) (λ e. cores e.sockets.items)
+            self.old.limit self.old self.new }
         ensures goes { Goes S.disk R.Stream.contents R.Stream.remaining (seen self.old.host self.old.sockets.items)
             (seen self.new.host self.new.sockets.items) }
     {
@@ -201,6 +235,9 @@ impl<R: Net, S: Store, L: PartitionLog + Drop> Edge<R, S, L> {
     #[tactic(auto, using(crate::proofs::Goes::goes_then, crate::proofs::Goes::goes_none))]
     fn close_unless_put_off(&mut self, alloc: Global, number: u64, turn: &mut Turn)
         ensures commits { self.new.host.commits ≡ self.old.host.commits }
+        ensures unless { IsClosedUnless number (IsPutOff number self.old.clock self.old.shares self.old.replies.pool
+            self.new.sockets.items) (cores self.old.sockets.items) (cores self.new.sockets.items) }
+        ensures clock { self.new.clock ≡ self.old.clock }
         ensures goes { Goes S.disk R.Stream.contents R.Stream.remaining (seen self.old.host self.old.sockets.items)
             (seen self.new.host self.new.sockets.items) }
     {
@@ -214,6 +251,8 @@ impl<R: Net, S: Store, L: PartitionLog + Drop> Edge<R, S, L> {
     /// A request has its whole time from now on.
     fn put_off(&mut self, number: u64) -> bool
         ensures host { self.new.host ≡ self.old.host }
+        ensures begun { result ≡ true → IsBegunAt number self.old.clock self.new.sockets.items }
+        ensures clock { self.new.clock ≡ self.old.clock }
         ensures seen { seen self.new.host self.new.sockets.items ≡ seen self.old.host self.old.sockets.items }
     {
         let Some(place) = self.place_of(number) else {
@@ -229,6 +268,10 @@ impl<R: Net, S: Store, L: PartitionLog + Drop> Edge<R, S, L> {
     #[tactic(auto, using(crate::proofs::Goes::goes_then, crate::proofs::Goes::goes_none))]
     fn close_idle(&mut self, alloc: Global, turn: &mut Turn)
         ensures commits { self.new.host.commits ≡ self.old.host.commits }
+        // Those are closed whose moment has come to be looked at, from the first one on, but for those that were used since.
+        ensures late { AreDealtWith (λ e. silent e.clock e.times.idle_millis e.times.looked.moments.keys) (λ n a b. IsClosedUnless n
+            (IfSome (socket_of n a.sockets.items) (IsUsedOfLate a.times.idle_millis a.clock)) (cores a.sockets.items)
+            (cores b.sockets.items) × (b.clock ≡ a.clock)) (λ e. cores e.sockets.items) self.old.limit self.old self.new }
         ensures goes { Goes S.disk R.Stream.contents R.Stream.remaining (seen self.old.host self.old.sockets.items)
             (seen self.new.host self.new.sockets.items) }
     {
@@ -244,6 +287,9 @@ impl<R: Net, S: Store, L: PartitionLog + Drop> Edge<R, S, L> {
     #[tactic(auto, using(crate::proofs::Goes::goes_then, crate::proofs::Goes::goes_none))]
     fn close_unless_used(&mut self, alloc: Global, number: u64, turn: &mut Turn)
         ensures commits { self.new.host.commits ≡ self.old.host.commits }
+        ensures unless { IsClosedUnless number (IfSome (socket_of number self.old.sockets.items) (IsUsedOfLate
+            self.old.times.idle_millis self.old.clock)) (cores self.old.sockets.items) (cores self.new.sockets.items) }
+        ensures clock { self.new.clock ≡ self.old.clock }
         ensures goes { Goes S.disk R.Stream.contents R.Stream.remaining (seen self.old.host self.old.sockets.items)
             (seen self.new.host self.new.sockets.items) }
     {
@@ -257,6 +303,9 @@ impl<R: Net, S: Store, L: PartitionLog + Drop> Edge<R, S, L> {
     /// Whether a socket was used of late, or something is waited for, which is looked at again once it may be idle for too long.
     fn is_used(&mut self, number: u64) -> bool
         ensures host { self.new.host ≡ self.old.host }
+        ensures used { result ≡ true → IfSome (socket_of number self.old.sockets.items) (IsUsedOfLate self.old.times.idle_millis
+            self.old.clock) }
+        ensures clock { self.new.clock ≡ self.old.clock }
         ensures seen { seen self.new.host self.new.sockets.items ≡ seen self.old.host self.old.sockets.items }
     {
         let Some(place) = self.place_of(number) else {
@@ -287,7 +336,11 @@ impl<R: Net, S: Store, L: PartitionLog + Drop> Edge<R, S, L> {
     /// noted, it is closed.
     #[tactic(auto, using(crate::proofs::Goes::goes_then, crate::proofs::Goes::goes_none))]
     fn write_again(&mut self, alloc: Global, number: u64, turn: &mut Turn) -> bool
-        ensures { Goes S.disk R.Stream.contents R.Stream.remaining (seen self.old.host self.old.sockets.items)
+        ensures alone { ChangesAlone number (cores self.old.sockets.items) (cores self.new.sockets.items) }
+        ensures took { result ≡ true → TookSome number (cores self.old.sockets.items) (cores self.new.sockets.items)
+            ⊎ IsGone number (cores self.new.sockets.items) }
+        ensures clock { self.new.clock ≡ self.old.clock }
+        ensures goes { Goes S.disk R.Stream.contents R.Stream.remaining (seen self.old.host self.old.sockets.items)
             (seen self.new.host self.new.sockets.items) }
     {
         let Some(place) = self.place_of(number) else {
@@ -323,7 +376,8 @@ impl<R: Net, S: Store, L: PartitionLog + Drop> Edge<R, S, L> {
 
     /// Counts bytes that were written, for the tenant that has their socket.
     fn count_written(&mut self, holder: usize, bytes: usize)
-        ensures { seen self.new.host self.new.sockets.items ≡ seen self.old.host self.old.sockets.items }
+        ensures clock { self.new.clock ≡ self.old.clock }
+        ensures seen { seen self.new.host self.new.sockets.items ≡ seen self.old.host self.old.sockets.items }
     {
         if let Some(traffic) = self.traffic.get_mut(holder) {
             traffic.count_bytes(0, bytes as u64);
@@ -333,7 +387,8 @@ impl<R: Net, S: Store, L: PartitionLog + Drop> Edge<R, S, L> {
     /// Where a socket is closed that made all wait, the others of its user that wait for their turn go behind all: else each of them
     /// could make all wait once more.
     fn put_behind(&mut self, alloc: Global, number: u64)
-        ensures { seen self.new.host self.new.sockets.items ≡ seen self.old.host self.old.sockets.items }
+        ensures clock { self.new.clock ≡ self.old.clock }
+        ensures seen { seen self.new.host self.new.sockets.items ≡ seen self.old.host self.old.sockets.items }
     {
         let user = self.user_of(number);
         let spare = mem::replace(&mut self.spare, Vec::new(alloc));
@@ -346,7 +401,7 @@ impl<R: Net, S: Store, L: PartitionLog + Drop> Edge<R, S, L> {
 
     /// The place of the user who logged in on a connection, where one did.
     fn user_of(&self, number: u64) -> Option<usize>
-        ensures { result ≡ user_in (login_of number self.now.host.broker.state) }
+        ensures { result ≡ user_in (login_on number self.now.host.broker.state) }
     {
         match self.host.broker().login_of(number) {
             Login::User(place) => Some(place),
@@ -356,7 +411,8 @@ impl<R: Net, S: Store, L: PartitionLog + Drop> Edge<R, S, L> {
 
     /// Those of the connections that are of that user are next, or those that are not.
     fn queue_those(&mut self, numbers: &[u64], user: Option<usize>, are_of_user: bool)
-        ensures { seen self.new.host self.new.sockets.items ≡ seen self.old.host self.old.sockets.items }
+        ensures clock { self.new.clock ≡ self.old.clock }
+        ensures seen { seen self.new.host self.new.sockets.items ≡ seen self.old.host self.old.sockets.items }
     {
         for number in numbers {
             self.queue_one(*number, user, are_of_user);
@@ -365,7 +421,8 @@ impl<R: Net, S: Store, L: PartitionLog + Drop> Edge<R, S, L> {
 
     /// The same for one connection.
     fn queue_one(&mut self, number: u64, user: Option<usize>, is_of_user: bool)
-        ensures { seen self.new.host self.new.sockets.items ≡ seen self.old.host self.old.sockets.items }
+        ensures clock { self.new.clock ≡ self.old.clock }
+        ensures seen { seen self.new.host self.new.sockets.items ≡ seen self.old.host self.old.sockets.items }
     {
         if (self.user_of(number) == user) == is_of_user {
             // there is room for each socket once
@@ -378,8 +435,13 @@ impl<R: Net, S: Store, L: PartitionLog + Drop> Edge<R, S, L> {
     pub(super) fn close(&mut self, alloc: Global, number: u64, turn: &mut Turn)
         ensures lanes { self.new.lanes ≡ self.old.lanes }
         ensures commits { self.new.host.commits ≡ self.old.host.commits }
-        ensures released { holder_of number self.new.shares.sockets ≡ None }
+        ensures closed { IsClosed number (cores self.old.sockets.items) (cores self.new.sockets.items) }
+        ensures clock { self.new.clock ≡ self.old.clock }
         ensures shares { self.new.shares ≡ released number self.old.shares }
+        ensures strangers { self.new.strangers.deadlines.entries ≡ without_stranger number self.old.strangers.deadlines.entries }
+        // An open one stands no more among those that keep silent.
+        ensures forgotten { IfSome (socket_of number self.old.sockets.items) (λ s. s.is_ended ≡ false → IsForgotten number s
+            (silent_of self.old.silences self.old.times self.old.delays) (silent_of self.new.silences self.new.times self.new.delays)) }
         ensures replies { self.new.replies ≡ let_go number self.old.replies }
         ensures inputs { self.new.inputs ≡ let_go number self.old.inputs }
         ensures tells { GoesTelling S.disk R.Stream.contents R.Stream.remaining (seen self.old.host self.old.sockets.items)
@@ -392,21 +454,27 @@ impl<R: Net, S: Store, L: PartitionLog + Drop> Edge<R, S, L> {
         self.shares.release(number);
         self.replies.release(number);
         self.inputs.release(number);
-        if let Some(place) = place
-            && let Some(socket) = self.sockets.get_mut(place)
-            && !socket.is_ended()
-        {
-            self.silences.end(socket.holder, number, socket.moved);
-            self.times.forget(number, socket.begun, socket.looked);
-            self.delays.forget(number, socket.held);
-            socket.close(alloc, &mut self.host, turn);
+        let Some(place) = place else {
+            return;
+        };
+        let Some(socket) = self.sockets.get_mut(place) else {
+            return;
+        };
+        if socket.is_ended() {
+            return;
         }
+        self.silences.end(socket.holder, number, socket.moved);
+        self.times.forget(number, socket.begun, socket.looked);
+        self.delays.forget(number, socket.held);
+        socket.close(alloc, &mut self.host, turn);
     }
 
     /// Where a turn closed some, the sockets whose connections are closed are kept no longer.
     #[tactic(auto, using(crate::proofs::Goes::goes_then, crate::proofs::Goes::goes_none))]
     fn drop_ended(&mut self, turn: &Turn)
         ensures commits { self.new.host.commits ≡ self.old.host.commits }
+        ensures dropped { cores self.new.sockets.items ≡ (if nat_lt 0 turn.now.closed then open_ones (cores self.old.sockets.items)
+            else cores self.old.sockets.items) }
         ensures goes { Goes S.disk R.Stream.contents R.Stream.remaining (seen self.old.host self.old.sockets.items)
             (seen self.new.host self.new.sockets.items) }
     {
@@ -421,6 +489,8 @@ impl<R: Net, S: Store, L: PartitionLog + Drop> Edge<R, S, L> {
     pub(super) fn make_room(&mut self, alloc: Global, turn: &mut Turn) -> bool
         ensures sockets { OnTrue result (vec_len self.new.sockets < self.new.limit) }
         ensures strangers { OnTrue result (count_of self.new.shares.tenants self.new.shares.sockets < self.new.stranger_limit) }
+        ensures room { result ≡ (nat_lt (vec_len self.new.sockets) self.new.limit
+            && nat_lt (count_of self.new.shares.tenants self.new.shares.sockets) self.new.stranger_limit) }
         // No connection opens.
         ensures tried { self.new.host.tried ≡ self.old.host.tried }
         ensures goes { Goes S.disk R.Stream.contents R.Stream.remaining (seen self.old.host self.old.sockets.items)
@@ -458,6 +528,8 @@ impl<R: Net, S: Store, L: PartitionLog + Drop> Edge<R, S, L> {
 
     /// Whether one more socket may be open that has not logged in.
     fn has_room(&self) -> bool
+        ensures room { result ≡ (nat_lt (vec_len self.now.sockets) self.now.limit
+            && nat_lt (count_of self.now.shares.tenants self.now.shares.sockets) self.now.stranger_limit) }
         ensures sockets { OnTrue result (vec_len self.now.sockets < self.now.limit) }
         ensures strangers { OnTrue result (count_of self.now.shares.tenants self.now.shares.sockets < self.now.stranger_limit) }
     {
@@ -475,7 +547,13 @@ pub(super) fn note_reply<T: Read + Write + Drop>(
     has_taken: bool,
     now: u64,
 ) -> Result<(), AllocError>
-    ensures { socket.new ≡ record socket.old { moved = socket.new.moved; holder = socket.new.holder } }
+    ensures moved { socket.new.moved ≡ (if has_moved before (vec_len socket.old.output - socket.old.written) has_taken then now
+        else socket.old.moved) }
+    ensures unread { OnOk result (silences.new.unread.moments.keys ≡ silences_noted
+        (has_moved before (vec_len socket.old.output - socket.old.written) has_taken) socket.old.connection
+        (silent_since before socket.old.moved) (silent_since (vec_len socket.old.output - socket.old.written) now)
+        silences.old.unread.moments.keys) }
+    ensures rest { socket.new ≡ record socket.old { moved = socket.new.moved; holder = socket.new.holder } }
 {
     let after = socket.unwritten();
     if !has_moved(before, after, has_taken) {

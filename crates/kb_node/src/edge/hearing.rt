@@ -90,6 +90,7 @@ impl<R: Net, S: Store, L: PartitionLog + Drop> Edge<R, S, L> {
         ensures seen { seen self.new.host self.new.sockets.items ≡ seen self.old.host self.old.sockets.items }
         ensures lanes { self.new.lanes ≡ self.old.lanes }
         ensures delays { self.new.delays ≡ self.old.delays }
+        ensures clock { self.new.clock ≡ self.old.clock }
         // It comes behind the others, unless its turn is to come already.
         ensures queued { IfSome (slice_get self.old.sockets.items place) (λ s. IsQueued (not s.is_queued) s
             (ready_of self.old.ready self.old.sockets.items) (ready_of self.new.ready self.new.sockets.items)) }

@@ -8,7 +8,7 @@ ghost use Rattle.kb_node.specs.Commits.{tells_at_once};
 ghost use Rattle.kb_shares.specs.Turns.{after_next};
 ghost use Rattle.kb_node.specs.Numbers.{IsInOrder, socket_of};
 ghost use Rattle.kb_node.specs.Ready.{LinesUp};
-ghost use Rattle.kb_node.specs.Replies.{place_of};
+ghost use Rattle.kb_node.specs.Replies.{holder_place};
 ghost use Rattle.kb_node.specs.Traffic.{Along};
 ghost use Rattle.kb_node.specs.Waiting.{behind, behind_round, in_lane, is_long};
 
@@ -72,7 +72,7 @@ impl<R: Net, S: Store, L: PartitionLog + Drop> Edge<R, S, L> {
             × (self.new.replies ≡ self.old.replies) × (self.new.inputs ≡ self.old.inputs) }
         ensures waits { IsInOrder (seen self.old.host self.old.sockets.items) → self.new.lanes ≢ self.old.lanes
             → self.new.lanes ≡ in_lane (is_long (socket_of number self.old.sockets.items))
-            (min (place_of number self.old.shares) 256) number self.old.lanes }
+            (min (holder_place number self.old.shares) 256) number self.old.lanes }
     {
         let holder = self.shares.holder(number).min(HOLDERS - 1);
         let is_long = self.is_long(number);

@@ -1,6 +1,6 @@
 //! How an edge serves its sockets.
 
-ghost use Rattle.std.specs.Prelude.{◌≡◌, ◌-◌, true, false, None, Some, IfErr, IfSome, OnOk, slice_get, slice_set, vec_len};
+ghost use Rattle.std.specs.Prelude.{◌≡◌, ◌-◌, ◌&&◌, not, true, false, None, Some, IfErr, IfSome, OnOk, slice_get, slice_set, vec_len};
 ghost use Rattle.kb_node.specs.Known.{hasty, lasting, telling};
 ghost use Rattle.kb_node.specs.Moves.{Goes, GoesTelling, GoesTellingWith, GoesWith};
 ghost use Rattle.kb_node.specs.Cores.{seen};
@@ -9,9 +9,9 @@ ghost use Rattle.kb_shares.specs.Ledger.{set_to};
 ghost use Rattle.kb_shares.specs.Shares.{has_room};
 ghost use Rattle.kb_shares.specs.Turns.{after_next, next};
 ghost use Rattle.kb_node.specs.Numbers.{IsInOrder, socket_of};
-ghost use Rattle.kb_node.specs.Seats.{IsLeft};
+ghost use Rattle.kb_node.specs.Seats.{FreesSeat};
 ghost use Rattle.kb_node.specs.TenantTraffic.{with_traffic};
-ghost use Rattle.kb_node.specs.Replies.{kept_for, place_of};
+ghost use Rattle.kb_node.specs.Replies.{kept_for, holder_place};
 ghost use Rattle.kb_node.specs.Waiting.{IsBehind, begun_by, behind, room_behind};
 
 use crate::committed::Committed;
@@ -54,7 +54,15 @@ struct Before {
 }
 
 impl Before {
-    fn of<T: Read + Write + Drop>(socket: &Socket<T>, turn: &Turn) -> Before {
+    fn of<T: Read + Write + Drop>(socket: &Socket<T>, turn: &Turn) -> Before
+        ensures { result ≡ record {
+          unwritten = vec_len socket.now.output - socket.now.written;
+          promised = 0;
+          is_stranger = not socket.now.is_known && not socket.now.is_ended;
+          read = turn.now.read;
+          written = turn.now.written;
+        } }
+    {
         Before {
             unwritten: socket.unwritten(),
             promised: 0,
@@ -112,7 +120,7 @@ impl<R: Net, S: Store, L: PartitionLog + Drop> Edge<R, S, L> {
         ensures commits { tells_at_once self.new.host.commits ≡ true }
         ensures lanes { self.new.lanes ≡ self.old.lanes }
         // Nothing is read or handed on where its holder has too much that is unread.
-        ensures unasked { has_room (place_of number self.old.shares) 1 self.old.replies.pool ≡ false
+        ensures unasked { has_room (holder_place number self.old.shares) 1 self.old.replies.pool ≡ false
             → GoesTellingWith S.disk hasty R.Stream.contents R.Stream.remaining (seen self.old.host self.old.sockets.items)
             (seen self.new.host self.new.sockets.items) }
         ensures goes { GoesWith S.disk hasty R.Stream.contents R.Stream.remaining (seen self.old.host self.old.sockets.items)
@@ -233,7 +241,7 @@ impl<R: Net, S: Store, L: PartitionLog + Drop> Edge<R, S, L> {
     fn hand_on_next(&mut self, alloc: Global, number: u64, turn: &mut Turn)
         ensures lanes { self.new.lanes ≡ self.old.lanes }
         // Nothing is read or handed on where its holder has too much that is unread.
-        ensures unasked { has_room (place_of number self.old.shares) 1 self.old.replies.pool ≡ false
+        ensures unasked { has_room (holder_place number self.old.shares) 1 self.old.replies.pool ≡ false
             → GoesTelling S.disk R.Stream.contents R.Stream.remaining (seen self.old.host self.old.sockets.items)
             (seen self.new.host self.new.sockets.items) }
         ensures goes { Goes S.disk R.Stream.contents R.Stream.remaining (seen self.old.host self.old.sockets.items)
@@ -437,7 +445,7 @@ impl<R: Net, S: Store, L: PartitionLog + Drop> Edge<R, S, L> {
         ensures lanes { self.new.lanes ≡ self.old.lanes }
         ensures commits { self.new.host.commits ≡ self.old.host.commits }
         ensures booked { result ≡ true → IfSome (slice_get self.old.sockets.items place) (λ s. self.new.replies
-            ≡ set_to s.connection (place_of s.connection self.old.shares)
+            ≡ set_to s.connection (holder_place s.connection self.old.shares)
             (kept_for (vec_len s.output - s.written) before.promised) self.old.replies) }
         ensures tells { GoesTelling S.disk R.Stream.contents R.Stream.remaining (seen self.old.host self.old.sockets.items)
             (seen self.new.host self.new.sockets.items) }
@@ -471,7 +479,7 @@ impl<R: Net, S: Store, L: PartitionLog + Drop> Edge<R, S, L> {
         ensures lanes { self.new.lanes ≡ self.old.lanes }
         ensures commits { self.new.host.commits ≡ self.old.host.commits }
         ensures booked { result ≡ true → IfSome (slice_get self.old.sockets.items place) (λ s. self.new.inputs
-            ≡ set_to s.connection (place_of s.connection self.old.shares) s.input.progress.size self.old.inputs) }
+            ≡ set_to s.connection (holder_place s.connection self.old.shares) s.input.progress.size self.old.inputs) }
         ensures tells { GoesTelling S.disk R.Stream.contents R.Stream.remaining (seen self.old.host self.old.sockets.items)
             (seen self.new.host self.new.sockets.items) }
     {
@@ -502,7 +510,7 @@ fn count<T: Read + Write + Drop>(
 )
     ensures socket { socket.new ≡ record socket.old { heading = record socket.old.heading { key = None } } }
     ensures stranger { before.is_stranger ≡ true → traffic.new ≡ traffic.old }
-    ensures counted { before.is_stranger ≡ false → let holder = place_of socket.old.connection shares.now in
+    ensures counted { before.is_stranger ≡ false → let holder = holder_place socket.old.connection shares.now in
         IfSome (slice_get traffic.old.items holder) (λ t. traffic.new.items ≡ slice_set traffic.old.items holder
         (with_traffic socket.old.heading.key (turn.now.read - before.read) (turn.now.written - before.written) t)) }
 {
@@ -521,7 +529,7 @@ fn count<T: Read + Write + Drop>(
 
 /// A socket whose connection is closed is counted no longer.
 fn leave<T: Read + Write + Drop>(socket: &Socket<T>, shares: &mut SocketShares)
-    ensures { IsLeft socket.now shares.old shares.new }
+    ensures { FreesSeat socket.now shares.old shares.new }
 {
     if socket.is_ended() {
         shares.release(socket.connection());

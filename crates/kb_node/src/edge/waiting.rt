@@ -11,7 +11,7 @@ ghost use Rattle.kb_node.specs.Cores.{seen};
 ghost use Rattle.kb_node.specs.Commits.{next_commit};
 ghost use Rattle.kb_node.specs.Deadlines.{first_deadline, first_end};
 ghost use Rattle.kb_node.specs.Numbers.{IsInOrder, socket_of};
-ghost use Rattle.kb_node.specs.Replies.{place_of};
+ghost use Rattle.kb_node.specs.Replies.{holder_place};
 ghost use Rattle.kb_node.specs.Waiting.{first_stall_of, least, quiet_millis, stall_of, wait_millis};
 ghost use Rattle.kb_node.specs.Waiting.{fits, is_busy, is_nobody, may_be_asked};
 
@@ -175,7 +175,7 @@ impl<R: Net, S: Store, L: PartitionLog + Drop> Edge<R, S, L> {
     /// The moment at which a socket is closed that makes that of a connection wait, where one does.
     fn stall_of(&self, number: u64) -> u64
         ensures { result ≡ stall_of self.now.reply_millis self.now.replies.pool self.now.silences.stalls.moments
-            (place_of number self.now.shares) }
+            (holder_place number self.now.shares) }
     {
         if self.may_ask(number) {
             return u64::MAX;
@@ -188,9 +188,9 @@ impl<R: Net, S: Store, L: PartitionLog + Drop> Edge<R, S, L> {
     /// Whether more may be asked for by the socket of a connection: its holder has not too much that is unwritten, or awaited. A holder
     /// below its part may always ask for more, whatever others hold.
     pub(super) fn may_ask(&self, number: u64) -> bool
-        ensures open { result ≡ has_room (place_of number self.now.shares) 1 self.now.replies.pool }
-        ensures reserved { used_by (place_of number self.now.shares) self.now.replies.pool
-            < own_of (place_of number self.now.shares) self.now.replies.pool → result ≡ true }
+        ensures open { result ≡ has_room (holder_place number self.now.shares) 1 self.now.replies.pool }
+        ensures reserved { used_by (holder_place number self.now.shares) self.now.replies.pool
+            < own_of (holder_place number self.now.shares) self.now.replies.pool → result ≡ true }
     {
         self.replies.is_open(self.shares.holder(number))
     }
@@ -206,7 +206,7 @@ impl<R: Net, S: Store, L: PartitionLog + Drop> Edge<R, S, L> {
     /// Whether the request in front of the socket of a connection may be handed on: it is begun, or its size is not known, or it fits.
     fn may_begin(&self, number: u64) -> bool
         ensures { IsInOrder (seen self.now.host self.now.sockets.items) → result
-            ≡ fits (piece_for (place_of number self.now.shares) self.now.inputs.pool) (socket_of number self.now.sockets.items) }
+            ≡ fits (piece_for (holder_place number self.now.shares) self.now.inputs.pool) (socket_of number self.now.sockets.items) }
     {
         match self.socket_of(number) {
             Some(socket) => socket.awaited() as u64 <= self.longest_request(number),
@@ -217,9 +217,9 @@ impl<R: Net, S: Store, L: PartitionLog + Drop> Edge<R, S, L> {
     /// How many bytes a request may have that begins on the socket of a connection. One of a holder that has less than its part may be of
     /// any size, whatever others hold, and else it is no longer than what the holder may have more.
     pub(super) fn longest_request(&self, number: u64) -> u64
-        ensures longest { result ≡ piece_for (place_of number self.now.shares) self.now.inputs.pool }
-        ensures reserved { used_by (place_of number self.now.shares) self.now.inputs.pool
-            < own_of (place_of number self.now.shares) self.now.inputs.pool → result ≡ 2 ^ 64 - 1 }
+        ensures longest { result ≡ piece_for (holder_place number self.now.shares) self.now.inputs.pool }
+        ensures reserved { used_by (holder_place number self.now.shares) self.now.inputs.pool
+            < own_of (holder_place number self.now.shares) self.now.inputs.pool → result ≡ 2 ^ 64 - 1 }
     {
         self.inputs.piece(self.shares.holder(number))
     }

@@ -1,23 +1,30 @@
 //! What a socket's connection is asked.
 
-ghost use Rattle.std.specs.Prelude.{◌≡◌, ◌≢◌, [], ◌≤◌, ◌+◌, ◌-◌, ◌||◌, take, true, false, drop, length, vec_len};
+ghost use Rattle.std.specs.Prelude.{◌≡◌, ◌≢◌, [], ◌≤◌, ◌+◌, ◌-◌, ◌||◌, min, take, true, false, drop, length, vec_len};
 ghost use Rattle.std.specs.Io.KnownBytes.{Consumes};
 ghost use Rattle.kb_isolation_spec.specs.Calls.{room_of};
 ghost use Rattle.kb_broker.specs.Places.{numbers};
 ghost use Rattle.kb_node.specs.Carries.{Carries, HandsOn, unhanded_of, unwritten_of};
 ghost use Rattle.kb_node.specs.Commits.{tells_at_once};
-ghost use Rattle.kb_node.specs.Requests.{awaited, is_too_long, may_begin};
+ghost use Rattle.kb_node.specs.Notices.{one_more_if};
+ghost use Rattle.kb_node.specs.Pieces.{passed_len, progress_behind, progress_on, unhanded};
+ghost use Rattle.kb_node.specs.Replies.{reserve_for};
+ghost use Rattle.kb_node.specs.Requests.{awaited, is_short, is_too_long, may_begin, reach};
 ghost use Rattle.kb_node.specs.Seats.{KeepsSeat};
 ghost use Rattle.kb_node.specs.Sockets.{can_ask};
 
 use crate::committed::Committed;
 use crate::socket::Socket;
+use crate::tenant_traffic::key_in;
 use crate::transfer::read_from;
 use crate::turn::Turn;
 use kb_log::PartitionLog;
 use kb_store::Store;
 use std::alloc::Global;
 use std::io::{ErrorKind, Read, Write};
+
+/// The API key of a Fetch (Kafka protocol guide, "Protocol Api Keys").
+const FETCH: u16 = 1;
 
 /// The most bytes of batches that a Fetch is answered.
 const FETCH_REPLY: usize = 8_388_608;
@@ -51,15 +58,19 @@ impl<T: Read + Write + Drop> Socket<T> {
         ensures seat { KeepsSeat self.old self.new }
         ensures ended { self.new.is_ended ≡ self.old.is_ended }
         ensures numbers { numbers host.new.broker.state ≡ numbers host.old.broker.state }
-        ensures tried { host.new.tried ≡ host.old.tried }
-        ensures sync { (host.new.commits.sync ≡ host.old.commits.sync)
+        ensures sync { (host.new.tried ≡ host.old.tried) × (host.new.commits.sync ≡ host.old.commits.sync)
             × (tells_at_once host.old.commits ≡ true → tells_at_once host.new.commits ≡ true) }
-        ensures fits { turn.new.read ≤ turn.old.read + room_of self.old.connection host.old.broker.state }
+        ensures fits { turn.new.read ≤ turn.old.read
+            + min (room_of self.old.connection host.old.broker.state) (reach self.old.input.progress.left most) }
+        ensures reserved { host.new ≢ host.old → 65536 ≤ result }
         // What is kept of a request that may not begin is not handed on.
         ensures held { may_begin self.old.is_bound most
             (awaited self.old.input.progress.left (drop self.old.input.handed self.old.input.bytes.items)) ≡ false → host.new ≡ host.old }
-        // It is noted that a request became whole only where none is begun.
-        ensures anew { self.old.is_anew ≡ false → self.new.is_anew ≡ true → self.new.input.progress.left ≡ 0 }
+        // What is kept is handed on as far as its request goes, where that may begin. It is noted that one became whole only where none is
+        // begun.
+        ensures progress { (self.old.is_lost ≡ false → is_short self.old.input.progress.left (unhanded self.old.input) ≡ false
+            → self.new.input.progress ≡ progress_on self.old.is_bound most (room_of self.old.connection host.old.broker.state)
+            self.old.input) × (self.old.is_anew ≡ false → self.new.is_anew ≡ true → self.new.input.progress.left ≡ 0) }
     {
         if self.is_lost {
             return 0;
@@ -90,7 +101,9 @@ impl<T: Read + Write + Drop> Socket<T> {
 
     /// How far may be read where no request begins of more than so many bytes: where none is begun no further than that, but as far as a
     /// request's size.
-    fn reach(&self, most: u64) -> usize {
+    fn reach(&self, most: u64) -> usize
+        ensures { result ≡ reach self.now.input.progress.left most }
+    {
         if self.input.is_begun() {
             usize::MAX
         } else {
@@ -105,6 +118,8 @@ impl<T: Read + Write + Drop> Socket<T> {
         ensures over { self.new.is_over ≡ (self.old.is_over || is_too_long self.old.is_bound size) }
         ensures over_stays { self.old.is_over ≡ true → self.new.is_over ≡ true }
         ensures rest { self.new ≡ record self.old { is_over = self.new.is_over } }
+        ensures counted { turn.new
+            ≡ record turn.old { strangers = one_more_if (is_too_long self.old.is_bound size) turn.old.strangers } }
         ensures read { turn.new.read ≡ turn.old.read }
     {
         if !self.is_bound && size > STRANGER_FRAME {
@@ -129,14 +144,14 @@ impl<T: Read + Write + Drop> Socket<T> {
         ensures hands_on { HandsOn S.disk self.old self.new piece.now host.old.broker host.new.broker }
         ensures stream { self.new.stream ≡ self.old.stream }
         ensures unwritten { unwritten_of self.new ≡ unwritten_of self.old }
-        ensures connection { self.new.connection ≡ self.old.connection }
+        ensures connection { (self.new.connection ≡ self.old.connection) × (self.new.is_ended ≡ self.old.is_ended) }
         ensures seat { KeepsSeat self.old self.new }
-        ensures ended { self.new.is_ended ≡ self.old.is_ended }
         ensures numbers { numbers host.new.broker.state ≡ numbers host.old.broker.state }
-        ensures tried { host.new.tried ≡ host.old.tried }
-        ensures sync { (host.new.commits.sync ≡ host.old.commits.sync)
+        ensures sync { (host.new.tried ≡ host.old.tried) × (host.new.commits.sync ≡ host.old.commits.sync)
             × (tells_at_once host.old.commits ≡ true → tells_at_once host.new.commits ≡ true) }
         ensures read { turn.new.read ≡ turn.old.read }
+        ensures progress { self.new.input.progress ≡ progress_behind self.old.is_bound most room piece.now self.old.input }
+        ensures reserved { host.new ≢ host.old → 65536 ≤ result }
         // Nothing is handed on of a request that may not begin.
         ensures held { may_begin self.old.is_bound most (awaited self.old.input.progress.left piece.now) ≡ false → host.new ≡ host.old }
         ensures anew { self.old.is_anew ≡ false → self.new.is_anew ≡ true → self.new.input.progress.left ≡ 0 }
@@ -159,6 +174,8 @@ impl<T: Read + Write + Drop> Socket<T> {
     /// How many bytes at the front of a piece are handed on past those that are kept: none where some are kept, or where the request may
     /// not begin.
     fn pass(&mut self, piece: &[u8], room: usize, most: u64, turn: &mut Turn) -> usize
+        ensures passed { result ≡ passed_len self.old.is_bound most room piece.now self.old.input }
+        ensures progress { self.new.input.progress ≡ progress_behind self.old.is_bound most room piece.now self.old.input }
         ensures within { result ≤ length piece.now }
         ensures first { result ≢ 0 → unhanded_of self.old ≡ [] }
         ensures held { may_begin self.old.is_bound most (awaited self.old.input.progress.left piece.now) ≡ false → result ≡ 0 }
@@ -201,11 +218,14 @@ impl<T: Read + Write + Drop> Socket<T> {
     }
 }
 
-/// How many bytes are kept free for the reply to a piece of a request, until it is there: many where that may be a Fetch (api key 1, Kafka
-/// protocol guide, "Protocol Api Keys"), as where the request was begun before.
-fn reply_reserve(piece: &[u8], is_begun: bool) -> usize {
-    match piece {
-        [_, _, _, _, 0, key, ..] if *key != 1 && !is_begun => OTHER_REPLY,
+/// How many bytes are kept free for the reply to a piece of a request, until it is there: many where that may be a Fetch, as where its API
+/// key is not in the piece, or the request was begun before.
+fn reply_reserve(piece: &[u8], is_begun: bool) -> usize
+    ensures reserve { result ≡ reserve_for is_begun piece.now }
+    ensures least { 65536 ≤ result }
+{
+    match key_in(0, 0, piece) {
+        Some(key) if key != FETCH && !is_begun => OTHER_REPLY,
         _ => FETCH_REPLY,
     }
 }

@@ -1,15 +1,17 @@
 //! What a socket carries between its stream and its connection.
 
-ghost use Rattle.std.specs.Prelude.{◌≡◌, ◌≢◌, ◌<◌, ◌+◌, ◌-◌, ◌^◌, ◌++◌, min, ℕ, List, [], true, false, None, IfSome, vec_len};
+ghost use Rattle.std.specs.Prelude.{◌≡◌, ◌≢◌, ◌<◌, ◌+◌, ◌-◌, ◌^◌, ◌++◌, ◌||◌, min, ℕ, List, [], is_some, true, false, vec_len};
 ghost use Rattle.std.specs.Io.KnownBytes.{Appends};
 ghost use Rattle.kb_isolation_spec.specs.Broker.{bound_to};
-ghost use Rattle.kb_isolation_spec.specs.Calls.{is_open, login_of, output_of};
+ghost use Rattle.kb_isolation_spec.specs.Calls.{is_open, login_on, output_of};
 ghost use Rattle.kb_broker.specs.Places.{numbers};
-ghost use Rattle.kb_node.specs.Carries.{Carries, CarriesWith, HasBeenTold, HasToldAll, Tells, TellsInTurn, TellsWith};
+ghost use Rattle.kb_node.specs.Carries.{Carries, CarriesWith, HasBeenTold, HasToldAll, WritesTaken, TellsInTurn, TellsWith};
 ghost use Rattle.kb_node.specs.Carries.{unhanded_of, unwritten_of};
 ghost use Rattle.kb_node.specs.Commits.{may_tell, tells_at_once};
 ghost use Rattle.kb_node.specs.Known.{hasty, telling};
-ghost use Rattle.kb_node.specs.News.{IsAdded};
+ghost use Rattle.kb_node.specs.News.{IsAddedIf};
+ghost use Rattle.kb_node.specs.Next.{waits_for};
+ghost use Rattle.kb_node.specs.Notices.{IsReported, closed_told, is_new_denial, is_new_login, login_told, one_more_if};
 ghost use Rattle.kb_node.specs.Seats.{IsReseated, KeepsSeat};
 ghost use Rattle.kb_node.specs.Sockets.{is_denied, is_done, is_held};
 ghost use Rattle.kb_node.specs.declared.socket.Next.TheVariants.{End};
@@ -62,7 +64,8 @@ impl<T: Read + Write + Drop> Socket<T> {
         // Else its connection and all others are open as before, and there is no cause to close it.
         ensures stays { result ≢ End → (numbers host.new.broker.state ≡ numbers host.old.broker.state)
             × (is_done self.new.is_over self.new.is_half_closed self.new.may_answer
-            (vec_len self.new.output - self.new.written) self.new.connection host.new.broker.state ≡ false) }
+            (vec_len self.new.output - self.new.written) self.new.connection host.new.broker.state ≡ false)
+            × (result ≡ waits_for self.new host.new.broker.state) }
         // Then the broker has nothing more to say to it, but to a failed login before its time, or behind what is still to be written.
         ensures told { result ≢ End → HasBeenTold self.old self.new host.old.broker.state host.new.broker.state }
     {
@@ -102,7 +105,7 @@ impl<T: Read + Write + Drop> Socket<T> {
         // Where it may not be asked the broker is not called, and nothing is read.
         ensures uncalled { may_ask ≡ false → host.new ≡ host.old }
         ensures unasked { may_ask ≡ false
-            → Tells S.disk T.contents T.remaining self.old self.new host.old.broker host.new.broker }
+            → WritesTaken S.disk T.contents T.remaining self.old self.new host.old.broker host.new.broker }
     {
         self.write_on(turn);
         if may_ask && self.can_ask(host.broker()) && !host.speaks(self.connection) {
@@ -136,9 +139,10 @@ impl<T: Read + Write + Drop> Socket<T> {
         ensures ended { self.new.is_ended ≡ true → is_open self.old.connection host.new.broker.state ≡ false }
         ensures over { result ≡ End → self.new.is_ended ≡ true }
         // Else its connection and all others are open as before, and there is no cause to close it.
-        ensures open { result ≢ End → numbers host.new.broker.state ≡ numbers host.old.broker.state }
-        ensures stays { result ≢ End → is_done self.new.is_over self.new.is_half_closed self.new.may_answer
-            (vec_len self.new.output - self.new.written) self.new.connection host.new.broker.state ≡ false }
+        ensures stays { result ≢ End → (numbers host.new.broker.state ≡ numbers host.old.broker.state)
+            × (is_done self.new.is_over self.new.is_half_closed self.new.may_answer
+            (vec_len self.new.output - self.new.written) self.new.connection host.new.broker.state ≡ false)
+            × (result ≡ waits_for self.new host.new.broker.state) }
         // Then the broker has nothing more to say to it, but to a failed login before its time, or behind what is still to be written.
         ensures told { result ≢ End → HasBeenTold self.old self.new host.old.broker.state host.new.broker.state }
     {
@@ -157,7 +161,7 @@ impl<T: Read + Write + Drop> Socket<T> {
         turn: &mut Turn,
     ) -> Next
         requires { self.now.is_ended ≡ false }
-        ensures tells { Tells S.disk T.contents T.remaining self.old self.new host.old.broker host.new.broker }
+        ensures tells { WritesTaken S.disk T.contents T.remaining self.old self.new host.old.broker host.new.broker }
         ensures connection { self.new.connection ≡ self.old.connection }
         ensures seat { KeepsSeat self.old self.new }
         ensures tried { host.new.tried ≡ host.old.tried }
@@ -166,9 +170,11 @@ impl<T: Read + Write + Drop> Socket<T> {
         ensures over { result ≡ End → self.new.is_ended ≡ true }
         ensures open { result ≢ End → numbers host.new.broker.state ≡ numbers host.old.broker.state }
         ensures rest { result ≢ End → (host.new ≡ host.old)
-            × (self.new ≡ record self.old { is_known = self.new.is_known; is_denied = self.new.is_denied }) }
+            × (self.new ≡ record self.old { is_known = self.new.is_known; is_denied = self.new.is_denied })
+            × (result ≡ waits_for self.new host.new.broker.state) }
         ensures stays { result ≢ End → is_done self.new.is_over self.new.is_half_closed self.new.may_answer
             (vec_len self.new.output - self.new.written) self.new.connection host.new.broker.state ≡ false }
+        ensures told { IsReported self.old host.old.broker.state self.new.is_ended news.old news.new turn.old turn.new }
     {
         self.note_login(host.broker(), news);
         self.note_denial(host.broker(), news, turn);
@@ -189,11 +195,9 @@ impl<T: Read + Write + Drop> Socket<T> {
         ensures rest { self.new ≡ record self.old { is_known = self.new.is_known } }
         ensures connection { self.new.connection ≡ self.old.connection }
         ensures ended { self.new.is_ended ≡ self.old.is_ended }
-        ensures known { IfSome (bound_to self.old.connection broker.now.state) (λ tenant. self.new.is_known ≡ true) }
-        ensures told { self.old.is_known ≡ false → IfSome (bound_to self.old.connection broker.now.state) (λ tenant. IsAdded
-            (record { address = self.old.peer; login = login_of self.old.connection broker.now.state }) news.old.logins news.new.logins) }
-        ensures nobody { bound_to self.old.connection broker.now.state ≡ None → (self.new ≡ self.old) × (news.new ≡ news.old) }
-        ensures once { self.old.is_known ≡ true → (self.new ≡ self.old) × (news.new ≡ news.old) }
+        ensures known { self.new.is_known ≡ (self.old.is_known || is_some (bound_to self.old.connection broker.now.state)) }
+        ensures told { IsAddedIf (login_told (is_new_login self.old broker.now.state) self.old broker.now.state)
+            news.old.logins news.new.logins }
         ensures others { (news.new.denied ≡ news.old.denied) × (news.new.closed ≡ news.old.closed) }
     {
         if self.is_known {
@@ -216,14 +220,11 @@ impl<T: Read + Write + Drop> Socket<T> {
         ensures rest { self.new ≡ record self.old { is_denied = self.new.is_denied } }
         ensures connection { self.new.connection ≡ self.old.connection }
         ensures ended { self.new.is_ended ≡ self.old.is_ended }
-        ensures denied { is_denied self.old.connection broker.now.state ≡ true → self.new.is_denied ≡ true }
-        ensures told { self.old.is_denied ≡ false → is_denied self.old.connection broker.now.state ≡ true → IsAdded
-            (record { address = self.old.peer; login = login_of self.old.connection broker.now.state }) news.old.denied news.new.denied }
-        ensures counted { self.old.is_denied ≡ false → is_denied self.old.connection broker.now.state ≡ true
-            → turn.new ≡ record turn.old { denied = min (turn.old.denied + 1) (2 ^ 64 - 1) } }
-        ensures none { is_denied self.old.connection broker.now.state ≡ false
-            → (self.new ≡ self.old) × (news.new ≡ news.old) × (turn.new ≡ turn.old) }
-        ensures once { self.old.is_denied ≡ true → (self.new ≡ self.old) × (news.new ≡ news.old) × (turn.new ≡ turn.old) }
+        ensures denied { self.new.is_denied ≡ (self.old.is_denied || is_denied self.old.connection broker.now.state) }
+        ensures told { IsAddedIf (login_told (is_new_denial self.old broker.now.state) self.old broker.now.state)
+            news.old.denied news.new.denied }
+        ensures counted { turn.new
+            ≡ record turn.old { denied = one_more_if (is_new_denial self.old broker.now.state) turn.old.denied } }
         ensures others { (news.new.logins ≡ news.old.logins) × (news.new.closed ≡ news.old.closed) }
     {
         if self.is_denied || !is_denial(broker.why(self.connection)) {
@@ -236,7 +237,7 @@ impl<T: Read + Write + Drop> Socket<T> {
 
     /// The login on its connection, and from where it came.
     fn attempt<S: Store, L: PartitionLog + Drop>(&self, broker: &Broker<S, L>) -> LoginAttempt
-        ensures { result ≡ record { address = self.now.peer; login = login_of self.now.connection broker.now.state } }
+        ensures { result ≡ record { address = self.now.peer; login = login_on self.now.connection broker.now.state } }
     {
         LoginAttempt {
             address: self.peer,
@@ -245,11 +246,10 @@ impl<T: Read + Write + Drop> Socket<T> {
     }
 
     /// Tells of its connection, which is closed now, where the broker shut it.
-    fn tell_closed<S: Store, L: PartitionLog + Drop>(
-        &self,
-        broker: &Broker<S, L>,
-        news: &mut News,
-    ) {
+    fn tell_closed<S: Store, L: PartitionLog + Drop>(&self, broker: &Broker<S, L>, news: &mut News)
+        ensures told { IsAddedIf (closed_told true self.now broker.now.state) news.old.closed news.new.closed }
+        ensures others { (news.new.logins ≡ news.old.logins) × (news.new.denied ≡ news.old.denied) }
+    {
         let tenant = broker.tenant_of(self.connection);
         if let Some(closed) = Closed::of(self.peer, tenant, broker.why(self.connection)) {
             news.closed.add(closed);
@@ -263,13 +263,14 @@ impl<T: Read + Write + Drop> Socket<T> {
         host: &mut Committed<S, L>,
         turn: &mut Turn,
     )
-        ensures tells { Tells S.disk T.contents T.remaining self.old self.new host.old.broker host.new.broker }
+        ensures tells { WritesTaken S.disk T.contents T.remaining self.old self.new host.old.broker host.new.broker }
         ensures connection { self.new.connection ≡ self.old.connection }
         ensures seat { KeepsSeat self.old self.new }
         ensures tried { host.new.tried ≡ host.old.tried }
         ensures commits { host.new.commits ≡ host.old.commits }
         ensures ended { self.new.is_ended ≡ true }
         ensures closed { is_open self.old.connection host.new.broker.state ≡ false }
+        ensures counted { turn.new ≡ record turn.old { closed = min (turn.old.closed + 1) (2 ^ 64 - 1) } }
     {
         self.is_over = true;
         self.end(alloc, host, turn);
@@ -285,13 +286,14 @@ impl<T: Read + Write + Drop> Socket<T> {
     )
         requires { is_done self.now.is_over self.now.is_half_closed self.now.may_answer
             (vec_len self.now.output - self.now.written) self.now.connection host.now.broker.state ≡ true }
-        ensures tells { Tells S.disk T.contents T.remaining self.old self.new host.old.broker host.new.broker }
+        ensures tells { WritesTaken S.disk T.contents T.remaining self.old self.new host.old.broker host.new.broker }
         ensures connection { self.new.connection ≡ self.old.connection }
         ensures seat { KeepsSeat self.old self.new }
         ensures tried { host.new.tried ≡ host.old.tried }
         ensures commits { host.new.commits ≡ host.old.commits }
         ensures ended { self.new.is_ended ≡ true }
         ensures closed { is_open self.old.connection host.new.broker.state ≡ false }
+        ensures counted { turn.new ≡ record turn.old { closed = min (turn.old.closed + 1) (2 ^ 64 - 1) } }
     {
         self.is_ended = true;
         self.output = Vec::new(alloc);

@@ -1,9 +1,26 @@
-use Rattle.std.proofs.Common.{◌∙◌}
-use Rattle.kb_node.proofs.Goes.{goes_then}
+use Rattle.std.proofs.Common.{◌∙◌, refl, sym, arith}
+use Rattle.kb_node.proofs.Dealt.{dealt_all, dealt_most, dealt_next, dealt_none}
+use Rattle.kb_node.proofs.Goes.{goes_none, goes_then}
 use Rattle.kb_node.proofs.edge.Edge.close_slow.Goals as goal
 
+pub loop-init : goal.loop-init
+loop-init g c = record {
+  commits = refl;
+  dealt = dealt_none _ _ _;
+  goes = goes_none _;
+}
+
 pub loop-preserved : goal.loop-preserved
-loop-preserved g c = (
-  c.close_unless_put_off.ensures.commits ∙ c.loop.invariant.0,
-  goes_then c.loop.invariant.1 c.close_unless_put_off.ensures.goes,
-)
+loop-preserved g c =
+    record {
+      commits = c.close_unless_put_off.ensures.commits ∙ c.loop.invariant.commits;
+      dealt = dealt_next _ _ c.loop.counter c.in-Some.number c.args.self.now c.loop.self c.close_unless_put_off.new.self c.loop.invariant.dealt
+          (sym c.in-Some.ensures) (c.close_unless_put_off.ensures.unless, c.close_unless_put_off.ensures.clock);
+      goes = goes_then c.loop.invariant.goes c.close_unless_put_off.ensures.goes;
+    }
+
+pub returns-in_default-clause-late : goal.returns-in_default-clause-late
+returns-in_default-clause-late g c = dealt_all _ _ _ c.loop.counter _ _ _ _ c.loop.invariant.dealt (sym c.in_default.ensures) refl
+
+pub returns-after-loop-clause-late : goal.returns-after-loop-clause-late
+returns-after-loop-clause-late g c = dealt_most _ _ _ c.loop.counter _ _ _ _ c.loop.invariant.dealt (omega (arith, c.loop-test.false)) refl

@@ -1,7 +1,7 @@
 use Rattle.std.proofs.Common.{◌≡◌, ◌∙◌, IfSome, ap, refl, subst, sym}
 use Rattle.kb_node.specs.Cores.{core}
 use Rattle.kb_shares.specs.Ledger.{set_to}
-use Rattle.kb_node.specs.Replies.{place_of}
+use Rattle.kb_node.specs.Replies.{holder_place}
 use Rattle.kb_node.proofs.Carries.{on_ok}
 use Rattle.kb_node.proofs.Cores.{item_at, same_at}
 use Rattle.kb_node.proofs.Telling.{telling_still, telling_then}
@@ -22,8 +22,8 @@ pub returns-clause-booked : goal.returns-clause-booked
 returns-clause-booked g c = λ _.
     let a = c.args.self.now in let s = c.in-Some.socket.now in
     let number = c.connection-number.ensures in
-    let holder = c.holder.ensures ∙ ap (λ n. place_of n a.shares) number in
+    let holder = c.holder.ensures ∙ ap (λ n. holder_place n a.shares) number in
     let begun = c.begun-begun.ensures in
-    subst (λ o. IfSome o (λ x. c.set-booked.new.self ≡ set_to x.connection (place_of x.connection a.shares) x.input.progress.size a.inputs))
+    subst (λ o. IfSome o (λ x. c.set-booked.new.self ≡ set_to x.connection (holder_place x.connection a.shares) x.input.progress.size a.inputs))
     (sym (item_at a.sockets c.args.place s (c.in-Some.ensures.variant.0 refl) c.in-Some.ensures.value))
     (on_ok c.set-booked.result c.set-booked.ensures.set (sym c.is_err.ensures.value ∙ c.if-is_err.false) ∙ λ i. set_to (number i) (holder i) (begun i) a.inputs)

@@ -1,4 +1,5 @@
-use Rattle.std.proofs.Common.{refl}
+use Rattle.std.proofs.Common.{ap, refl, ◌∙◌}
+use Rattle.kb_node.specs.Next.{waits_for}
 use Rattle.kb_node.proofs.Carries.{noted_telling, telling_on}
 use Rattle.kb_node.proofs.ToldAll.{both_noted}
 use Rattle.kb_node.proofs.socket.Socket.finish.Goals as goal
@@ -16,4 +17,8 @@ returns-clause-tells g c =
     c.note_login.ensures.rest c.note_denial.ensures.rest).tells
 
 pub returns-clause-rest : goal.returns-clause-rest
-returns-clause-rest g c = λ _. (refl, both_noted c.args.self.now c.note_login.new.self _ c.note_login.ensures.rest c.note_denial.ensures.rest)
+returns-clause-rest g c = λ _. (
+  refl,
+  both_noted c.args.self.now c.note_login.new.self _ c.note_login.ensures.rest c.note_denial.ensures.rest,
+  c.next.ensures.next ∙ ap (λ x. waits_for c.note_denial.new.self x.state) c.broker-4.ensures,
+)

@@ -2,7 +2,7 @@ use Rattle.std.proofs.Common.{◌≡◌, sym, subst, ◌∙◌}
 use Rattle.std.specs.List.Sorted.{IsStrictlySortedBy}
 use Rattle.std.specs.Map.{keys_of}
 use Rattle.std.specs.Ordering.{nat_cmp}
-use Rattle.kb_node.specs.SocketShares.{AreCounted}
+use Rattle.kb_node.specs.SocketShares.{CountsSockets}
 use Rattle.kb_node.proofs.Counts.{fewer, has_one}
 use Rattle.kb_node.proofs.socket_shares.SocketShares.release.Goals as goal
 
@@ -13,7 +13,7 @@ give_back-requires c =
 
 pub invariant_of-self : goal.invariant_of-self
 invariant_of-self c =
-    subst (AreCounted c.give_back.new.self) (sym c.remove.ensures.entries)
+    subst (CountsSockets c.give_back.new.self) (sym c.remove.ensures.entries)
     (fewer c.self.inside.budget c.give_back.new.self c.args.connection c.in-Some.holder c.self.inside.holders.entries c.self.invariant
     (sym c.remove.ensures.value ∙ c.in-Some.is) (subst (λ es. IsStrictlySortedBy nat_cmp (keys_of es)) c.remove.ensures.entries c.remove.ensures.ordered)
     c.give_back.ensures.used c.give_back.ensures.others)

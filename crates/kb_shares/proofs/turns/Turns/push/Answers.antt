@@ -1,7 +1,7 @@
 use Rattle.std.proofs.Common.{◌≡◌, ◌<◌, ◌++◌, ◌∷◌, List, ℕ, [], length, map, set, slice_index_or, arith, subst, sym, ap, ◌∙◌}
 use Rattle.std.proofs.lemmas.Grind.{common_steps}
 use Rattle.std.proofs.lemmas.Bool.Decides.{nat_tests}
-use Rattle.kb_shares.specs.Turns.{IsInOrder, lines_of, joined}
+use Rattle.kb_shares.specs.Turns.{IsInOrder, lines_of, enqueued}
 use Rattle.kb_shares.proofs.Lines.{items_of, added_line, added_first, added_stays, added_longer, same_lines}
 use Rattle.kb_shares.proofs.turns.Turns.push.Goals as goal
 
@@ -58,8 +58,8 @@ returns-then-is_first-clause-joined c = λ _.
     subst (IsInOrder (map items_of c.self.inside.members.items)) (sym c.reserve.ensures.items) c.self.invariant in
     ap (lines_of (map items_of (set c.self.inside.members.items c.args.holder c.push_back.new.self))) c.push_back_reserved.ensures.items
     ∙ added_first items_of c.self.inside.members.items c.reserve.new.self.items c.args.holder c.args.member c.in-Some.line.now c.push_back.new.self inside there is more none
-    ∙ ap (λ (o : List ℕ). joined c.args.holder c.args.member (lines_of (map items_of c.self.inside.members.items) o)) c.reserve.ensures.items
-    ∙ ap (joined c.args.holder c.args.member) c.self.view_is
+    ∙ ap (λ (o : List ℕ). enqueued c.args.holder c.args.member (lines_of (map items_of c.self.inside.members.items) o)) c.reserve.ensures.items
+    ∙ ap (enqueued c.args.holder c.args.member) c.self.view_is
 
 pub returns-else-is_first-clause-joined : goal.returns-else-is_first-clause-joined
 returns-else-is_first-clause-joined c = λ _.
@@ -70,5 +70,5 @@ returns-else-is_first-clause-joined c = λ _.
     let inside : IsInOrder (map items_of c.self.inside.members.items) c.reserve.new.self.items =
     subst (IsInOrder (map items_of c.self.inside.members.items)) (sym c.reserve.ensures.items) c.self.invariant in
     added_line items_of c.self.inside.members.items c.reserve.new.self.items c.args.holder c.args.member c.in-Some.line.now c.push_back.new.self inside there is more some
-    ∙ ap (λ (o : List ℕ). joined c.args.holder c.args.member (lines_of (map items_of c.self.inside.members.items) o)) c.reserve.ensures.items
-    ∙ ap (joined c.args.holder c.args.member) c.self.view_is
+    ∙ ap (λ (o : List ℕ). enqueued c.args.holder c.args.member (lines_of (map items_of c.self.inside.members.items) o)) c.reserve.ensures.items
+    ∙ ap (enqueued c.args.holder c.args.member) c.self.view_is

@@ -6,8 +6,8 @@ use Rattle.std.specs.Str.{bytes_eq}
 use Rattle.kb_store.specs.Disk.{Files}
 use Rattle.kb_log.specs.OnShelf.{Log}
 use Rattle.kb_metrics.specs.declared.gauges.TenantGauges.{TenantGauges}
-use Rattle.kbroker.specs.Observed.{looked_at}
-use Rattle.kbroker.specs.Pages.{named}
+use Rattle.kbroker.specs.Observed.{observed_unstored}
+use Rattle.kbroker.specs.Pages.{first_named}
 
 -- what is found first, seen by a function that keeps the test
 found_seen : {X Y : Type 0} (view : X → Y) (p : X → Bool) (q : Y → Bool) → ((x : X) → p x ≡ q (view x)) → (xs : List X)
@@ -25,8 +25,8 @@ is_named name t = bytes_eq t.name.now name
 
 -- the first tenant of a name that is found is the first one that is observed
 pub found_named : {L : Type 0} (log : L → Log) (files : Files) (name : List ℕ) (ts : List (TenantGauges L)) (r : Option (Bor (TenantGauges L)))
-    → option_map (λ t. t.now) r ≡ find (is_named name) ts → option_map (λ t. looked_at log files t.now) r ≡ named name (map (looked_at log files) ts)
+    → option_map (λ t. t.now) r ≡ find (is_named name) ts → option_map (λ t. observed_unstored log files t.now) r ≡ first_named name (map (observed_unstored log files) ts)
 found_named log files name ts None e =
-    ap (option_map (looked_at log files)) e ∙ found_seen (looked_at log files) (is_named name) (λ o. bytes_eq o.name name) (λ t. refl) ts
+    ap (option_map (observed_unstored log files)) e ∙ found_seen (observed_unstored log files) (is_named name) (λ o. bytes_eq o.name name) (λ t. refl) ts
 found_named log files name ts (Some t) e =
-    ap (option_map (looked_at log files)) e ∙ found_seen (looked_at log files) (is_named name) (λ o. bytes_eq o.name name) (λ t. refl) ts
+    ap (option_map (observed_unstored log files)) e ∙ found_seen (observed_unstored log files) (is_named name) (λ o. bytes_eq o.name name) (λ t. refl) ts

@@ -4,7 +4,7 @@ use Rattle.std.specs.List.{AllByRecursion}
 use Rattle.std.proofs.lemmas.List.Elements.{recursion_from_All}
 use Rattle.kb_tenant_api.specs.Hosted.{TenantState}
 use Rattle.kb_tenant_api.specs.Turns.{all_calm}
-use Rattle.kb_isolation_spec.specs.Broker.{BrokerState, kept_of, refusals_of}
+use Rattle.kb_isolation_spec.specs.Broker.{BrokerState, kept_of_tenant, refusals_of}
 use Rattle.kb_tenants.specs.Renewal.{snapshot_of}
 use Rattle.kb_tenant_state.specs.Ids.{GivesFresh}
 use Rattle.kbroker.specs.Ids.{AllGiveFresh}
@@ -40,7 +40,7 @@ GivesFreshOn disk b = is_honest disk b → AllGiveFresh b.state
 
 -- they are so as long as each tenant keeps what it kept
 pub fresh_kept : {S : Type 0} (disk : S → Disk) (b d : OnStore S) → length d.state.tenants ≡ length b.state.tenants
-    → (is_honest disk d → is_honest disk b) → (is_honest disk d → (t : ℕ) → kept_of d.state t ≡ kept_of b.state t) → GivesFreshOn disk b → GivesFreshOn disk d
+    → (is_honest disk d → is_honest disk b) → (is_honest disk d → (t : ℕ) → kept_of_tenant d.state t ≡ kept_of_tenant b.state t) → GivesFreshOn disk b → GivesFreshOn disk d
 fresh_kept disk b d count before same fresh honest t lt =
     subst (λ k. GivesFresh k.world) (sym (same honest t)) (fresh (before honest) t (subst (λ n. t < n) count lt))
 
@@ -62,6 +62,6 @@ short_now disk b d done honest t lt none =
 pub short_same : {S : Type 0} (disk : S → Disk) (b d : OnStore S) → (is_honest disk d → is_honest disk b × (d.state ≡ b.state)) → d.commands ≡ b.commands → AreShortOn disk b → AreShortOn disk d
 short_same disk b d stays commands short honest t lt none =
     let was = stays honest in
-    subst (λ ns. get_or ns t 0 ≤ snapshot_of (kept_of d.state t)) (sym commands)
-    (subst (λ (x : BrokerState). get_or b.commands t 0 ≤ snapshot_of (kept_of x t)) (sym was.1)
+    subst (λ ns. get_or ns t 0 ≤ snapshot_of (kept_of_tenant d.state t)) (sym commands)
+    (subst (λ (x : BrokerState). get_or b.commands t 0 ≤ snapshot_of (kept_of_tenant x t)) (sym was.1)
     (short was.0 t (subst (λ (x : BrokerState). t < length x.tenants) was.1 lt) (subst (λ (x : BrokerState). refusals_of x t ≡ 0) was.1 none)))

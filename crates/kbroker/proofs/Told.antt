@@ -9,8 +9,8 @@ use Rattle.kb_metrics.specs.declared.gauges.TenantGauges.{TenantGauges}
 use Rattle.kb_pages.specs.Answer.{Told, tenant_told}
 use Rattle.kb_pages.specs.declared.site.Form.{Form}
 use Rattle.kb_pages.specs.declared.site.Form.TheVariants as forms
-use Rattle.kbroker.specs.Observed.{looked_at}
-use Rattle.kbroker.specs.Pages.{IsPageOf, named, page_in, page_of}
+use Rattle.kbroker.specs.Observed.{observed_unstored}
+use Rattle.kbroker.specs.Pages.{IsPageOf, first_named, page_in, page_of}
 
 pub on_ok : {T E : Type 0} (P Q : Type 0) → (P → Q) → (r : Result T E) → OnOk r P → OnOk r Q
 on_ok P Q f (Ok x) p = f p
@@ -29,7 +29,7 @@ told_of seen = record {
   status = λ text. Unit {0};
   partitions = IsPageOf partitions_text seen;
   tenant = IsPageOf page_of seen;
-  is_unknown = λ name. named name seen ≡ None;
+  is_unknown = λ name. first_named name seen ≡ None;
 }
 
 in_form : (form : Form) (seen : List Observed) (name text : List ℕ) → IsPageOf (page_in form) seen name text
@@ -39,16 +39,16 @@ in_form forms.Status seen name text h = h
 
 -- the page of a tenant that was found, written behind nothing
 pub page_told : {L : Type 0} (log : L → Log) (files : Files) (form : Form) (seen : List Observed)
-    (tenants : List (TenantGauges L)) (t : TenantGauges L) (name old new : List ℕ) → map (looked_at log files) tenants ≡ seen
-    → Some (looked_at log files t) ≡ named name (map (looked_at log files) tenants) → old ≡ [] → new ≡ old ++ page_in form (observed log files t)
+    (tenants : List (TenantGauges L)) (t : TenantGauges L) (name old new : List ℕ) → map (observed_unstored log files) tenants ≡ seen
+    → Some (observed_unstored log files t) ≡ first_named name (map (observed_unstored log files) tenants) → old ≡ [] → new ≡ old ++ page_in form (observed log files t)
     → tenant_told (told_of seen) form name new
 page_told log files form seen tenants t name old new all found none said =
     in_form form seen name new (
       observed log files t,
-      ap (named name) (sym all) ∙ sym found,
+      ap (first_named name) (sym all) ∙ sym found,
       said ∙ ap (λ o. o ++ page_in form (observed log files t)) none,
     )
 
 pub is_unknown : {L : Type 0} (log : L → Log) (files : Files) (seen : List Observed) (tenants : List (TenantGauges L)) (name : List ℕ)
-    → map (looked_at log files) tenants ≡ seen → None ≡ named name (map (looked_at log files) tenants) → named name seen ≡ None
-is_unknown log files seen tenants name all missing = ap (named name) (sym all) ∙ sym missing
+    → map (observed_unstored log files) tenants ≡ seen → None ≡ first_named name (map (observed_unstored log files) tenants) → first_named name seen ≡ None
+is_unknown log files seen tenants name all missing = ap (first_named name) (sym all) ∙ sym missing

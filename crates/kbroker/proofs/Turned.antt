@@ -8,7 +8,7 @@ use Rattle.kb_store.specs.Loss.{Loss}
 use Rattle.kb_server_log.specs.Guard.{clock_after}
 use Rattle.kb_server_log.specs.declared.guard.GuardedClock.{GuardedClock}
 use Rattle.kb_server_log.specs.declared.guard.Reading.{Reading}
-use Rattle.kb_isolation_spec.specs.Broker.{IsRun, Rising}
+use Rattle.kb_isolation_spec.specs.Broker.{IsEventRun, Rising}
 use Rattle.kb_broker.specs.Hosts.{OnStore}
 use Rattle.kb_node.specs.Cores.{Seen}
 use Rattle.kb_node.specs.Known.{lasting}
@@ -19,7 +19,7 @@ use Rattle.kb_node.proofs.Goes.{run_begins, run_knowing, run_of, run_on, turn_kn
 use Rattle.kb_node.proofs.Isolated.{isolated}
 use Rattle.kb_node.proofs.Known.{lasting_on, none_there}
 use Rattle.kb_node.proofs.Traffic.{along_then}
-use Rattle.kbroker.specs.Turned.{AreTurned, IsServed, clock_behind, ticks}
+use Rattle.kbroker.specs.Turned.{AreTurned, IsServedSince, clock_behind, ticks}
 
 no_items : {X : Type 0} (xs : List X) → length xs ≡ 0 → xs ≡ []
 no_items [] is = refl
@@ -110,14 +110,14 @@ module _ {S T : Type 0} (settled : S → Type 0) (disk : S → Disk) (loss : S �
   pub turned_from : {rs : List Reading} {c d : GuardedClock} {x y : Seen S T} (broker : OnStore S)
       → AreTurned disk (lasting settled disk loss y.host.commits) contents remaining rs c d x y
       → x.host.broker ≡ broker → x.host.tried ≡ broker.state.last → x.sockets ≡ [] → broker.state.lines ≡ []
-      → IsServed settled disk loss contents remaining broker y
+      → IsServedSince settled disk loss contents remaining broker y
   turned_from {rs} {c} {d} {x} {y} broker turned same tried none alone =
       let run = turned.run in
       let known = lasting settled disk loss y.host.commits in
       let done : AreDone disk known run.deeds broker y.host.broker = subst (λ b. AreDone disk known run.deeds b y.host.broker) same run.done in
       let rises : Rising 0 broker.state.last broker.state.lines =
       let low : 0 ≤ broker.state.last = omega arith in subst (Rising 0 broker.state.last) (sym alone) low in
-      let is_run : IsRun broker.state.last (events_of run.deeds) = subst (λ n. IsRun n (events_of run.deeds)) tried run.is_run in
+      let is_run : IsEventRun broker.state.last (events_of run.deeds) = subst (λ n. IsEventRun n (events_of run.deeds)) tried run.is_run in
       record {
         start = c;
         readings = rs;

@@ -1,9 +1,16 @@
 pub mod Causes
+pub mod Dumped
+pub mod Ended
+pub mod Found
 pub mod Ids
+pub mod Lines
 pub mod Observed
 pub mod Pages
 pub mod Refusals
+pub mod Scripts
 pub mod Server
 pub mod Shortened
+pub mod Telling
 pub mod Turned
 pub mod Unread
+pub mod Words

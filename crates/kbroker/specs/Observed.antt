@@ -3,7 +3,7 @@ use Rattle.std.specs.Prelude.{ℕ, List, [], ◌∷◌, length, Option, None, So
 use Rattle.std.specs.List.{flat_map, range_with_len}
 use Rattle.kb_isolation_spec.specs.Broker.{BrokerState}
 use Rattle.kb_isolation_spec.specs.Machine.{Line}
-use Rattle.kb_broker.specs.Counts.{lines_of, waiting_lines}
+use Rattle.kb_broker.specs.Counts.{lines_bound_to, waiting_lines}
 use Rattle.kb_store.specs.Disk.{Files}
 use Rattle.kb_log.specs.OnShelf.{Log}
 use Rattle.kb_settings.specs.Values.{Values, data_of, groups_of}
@@ -43,8 +43,8 @@ limits_in limits groups = record {
 }
 
 -- what the tenant of a name may have
-abbrev pub limits_of : List ℕ → Values → Limits
-limits_of name values = limits_in (data_of name values) (groups_of name values)
+abbrev pub named_limits : List ℕ → Values → Limits
+named_limits name values = limits_in (data_of name values) (groups_of name values)
 
 -- What is told of the tenant at a place: what it keeps, its limits, how many connections are bound to it and how many of them wait, and what
 -- was counted at its place. One number stands apart: the bytes of its batches, which may not be known.
@@ -54,8 +54,8 @@ observed_at values place lines counts traffic t = record {
   world = t.kept.world;
   stored = None;
   groups = t.kept.groups.groups;
-  limits = limits_of t.name values;
-  connections = length (lines_of place lines);
+  limits = named_limits t.name values;
+  connections = length (lines_bound_to place lines);
   waiting = length (waiting_lines place lines);
   requests = requests_of (slice_get traffic place);
   request_bytes = request_bytes_of (slice_get traffic place);
@@ -66,14 +66,14 @@ observed_at values place lines counts traffic t = record {
 }
 
 -- what there is, as a list
-abbrev pub listed : {X : Type 0} → Option X → List X
-listed None = []
-listed (Some x) = x ∷ []
+abbrev pub as_list : {X : Type 0} → Option X → List X
+as_list None = []
+as_list (Some x) = x ∷ []
 
 -- of the tenant at a place of a broker, where there is one
 abbrev pub observed_slot : Values → BrokerState → List Counts → List TenantTraffic → ℕ → List Observed
 observed_slot values b counts traffic place =
-    listed (option_map (observed_at values place b.lines counts traffic) (slice_get b.tenants place))
+    as_list (option_map (observed_at values place b.lines counts traffic) (slice_get b.tenants place))
 
 -- of all its tenants, by their places
 abbrev pub observed_from : Values → BrokerState → List Counts → List TenantTraffic → List Observed
@@ -83,5 +83,5 @@ observed_from values b counts traffic = flat_map (observed_slot values b counts 
 abbrev pub unstored : Observed → Observed
 unstored o = record o { stored = None }
 
-abbrev pub looked_at : {L : Type 0} → (L → Log) → Files → TenantGauges L → Observed
-looked_at log files g = unstored (observed log files g)
+abbrev pub observed_unstored : {L : Type 0} → (L → Log) → Files → TenantGauges L → Observed
+observed_unstored log files g = unstored (observed log files g)

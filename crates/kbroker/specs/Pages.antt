@@ -2,7 +2,7 @@
 use Rattle.std.specs.Prelude.{◌≡◌, ◌++◌, ℕ, List, map, Option, Some}
 use Rattle.std.specs.List.{find}
 use Rattle.std.specs.Str.{bytes_eq}
-use Rattle.kb_metrics.specs.Gauges.{Observed, partitions, partitions_text, tenant_of, tenants_text}
+use Rattle.kb_metrics.specs.Gauges.{Observed, partitions, partitions_text, shown_tenant, tenants_text}
 use Rattle.kb_metrics.specs.Rates.{History}
 use Rattle.kb_metrics.specs.Server.{process_text, server_text}
 use Rattle.kb_metrics.specs.Status.{status_text, tenant_page}
@@ -22,19 +22,19 @@ IsMetrics seen server IsThis text =
 abbrev pub IsStatus : List Observed → ServerGauges → (ProcessGauges → Type 0) → List History → List ℕ → Type 0
 IsStatus seen server IsThis rates text =
     (os : List Observed) × (process : ProcessGauges) × (map unstored os ≡ seen) × IsThis process
-    × (text ≡ status_text server process (map tenant_of os) rates)
+    × (text ≡ status_text server process (map shown_tenant os) rates)
 
 -- the first of a name
-abbrev pub named : List ℕ → List Observed → Option Observed
-named name os = find (λ o. bytes_eq o.name name) os
+abbrev pub first_named : List ℕ → List Observed → Option Observed
+first_named name os = find (λ o. bytes_eq o.name name) os
 
 -- a page of the tenant of a name
 abbrev pub IsPageOf : (Observed → List ℕ) → List Observed → List ℕ → List ℕ → Type 0
-IsPageOf page seen name text = (o : Observed) × (named name seen ≡ Some (unstored o)) × (text ≡ page o)
+IsPageOf page seen name text = (o : Observed) × (first_named name seen ≡ Some (unstored o)) × (text ≡ page o)
 
 -- the page of a tenant for a browser
 abbrev pub page_of : Observed → List ℕ
-page_of o = tenant_page (tenant_of o) (partitions o.world)
+page_of o = tenant_page (shown_tenant o) (partitions o.world)
 
 abbrev pub page_in : Form → Observed → List ℕ
 page_in forms.Metrics = partitions_text

@@ -2,7 +2,7 @@
 use Rattle.std.specs.Prelude.{◌≡◌, ◌+◌, ◌-◌, ◌/◌, ◌^◌, ◌==◌, ℕ, List, [], ◌∷◌, length, min, nat_lt, if◌then◌else◌, Option, None, Some, option_map, slice_index_or, slice_set}
 use Rattle.kb_isolation_spec.specs.Broker.{BrokerState}
 use Rattle.kb_broker.specs.Counts.{strangers}
-use Rattle.kb_metrics.specs.Rates.{History, Series, no_history, noted, noted_both}
+use Rattle.kb_metrics.specs.Rates.{History, Series, no_history, noted_series, noted_both}
 use Rattle.kb_metrics.specs.declared.server.Closed.{Closed}
 use Rattle.kb_metrics.specs.declared.server.ProcessGauges.{ProcessGauges}
 use Rattle.kb_metrics.specs.declared.server.ServerGauges.{ServerGauges}
@@ -71,7 +71,7 @@ together a b = record {
 -- calls that were refused in a second, where a store that had refused so many has refused more
 abbrev pub refused_by : ℕ → ℕ → ℕ → Series → Series
 refused_by second had failures refused =
-    if nat_lt had failures then noted (record { second = second; total = failures }) refused else refused
+    if nat_lt had failures then noted_series (record { second = second; total = failures }) refused else refused
 
 -- the rates of each tenant whose bytes are counted, with what came and went up to a second
 abbrev pub noted_each : ℕ → List TenantTraffic → List History → List History

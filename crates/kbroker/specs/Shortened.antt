@@ -4,7 +4,7 @@ use Rattle.kb_store.specs.Disk.{Disk}
 use Rattle.kb_start.specs.declared.verdict.Consent.{Consent}
 use Rattle.kb_tenant_state.specs.Counts.{IsCalm}
 use Rattle.kb_tenants.specs.Renewal.{IsCountedOnce, snapshot_of}
-use Rattle.kb_isolation_spec.specs.Broker.{BrokerState, kept_of, refusals_of}
+use Rattle.kb_isolation_spec.specs.Broker.{BrokerState, kept_of_tenant, refusals_of}
 use Rattle.kb_broker.specs.Hosts.{OnStore, is_honest}
 use Rattle.kb_broker.specs.Shortened.{IsShort}
 
@@ -18,11 +18,11 @@ may_shorten consent strays = not consent.drop_damaged || (length strays == 0)
 pub record AreShortened {S : Type 0} (disk : S → Disk) (old new : OnStore S) : Type 0 where
   pub count : length new.state.tenants ≡ length old.state.tenants
   pub honest : is_honest disk new → is_honest disk old
-  pub stays : is_honest disk new → (t : ℕ) → kept_of new.state t ≡ kept_of old.state t
+  pub stays : is_honest disk new → (t : ℕ) → kept_of_tenant new.state t ≡ kept_of_tenant old.state t
   pub short : is_honest disk new → (t : ℕ) → t < length new.state.tenants → IsCalm (refusals_of old.state t) (refusals_of new.state t)
       → IsShort t new
   pub either : is_honest disk new → (t : ℕ)
-      → (get_or new.commands t 0 ≡ get_or old.commands t 0) ⊎ (get_or new.commands t 0 ≡ snapshot_of (kept_of old.state t))
+      → (get_or new.commands t 0 ≡ get_or old.commands t 0) ⊎ (get_or new.commands t 0 ≡ snapshot_of (kept_of_tenant old.state t))
   pub grows : (t : ℕ) → refusals_of old.state t ≤ refusals_of new.state t
   pub counted : (t : ℕ) → (refused : ℕ) × (refused ≤ (disk new.store).failures - (disk old.store).failures)
       × IsCountedOnce refused (refusals_of old.state t) (refusals_of new.state t)

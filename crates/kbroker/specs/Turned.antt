@@ -5,7 +5,7 @@ use Rattle.kb_store.specs.Loss.{Loss}
 use Rattle.kb_server_log.specs.Guard.{clock_after}
 use Rattle.kb_server_log.specs.declared.guard.GuardedClock.{GuardedClock}
 use Rattle.kb_server_log.specs.declared.guard.Reading.{Reading}
-use Rattle.kb_isolation_spec.specs.Broker.{IsRun}
+use Rattle.kb_isolation_spec.specs.Broker.{IsEventRun}
 use Rattle.kb_broker.specs.Hosts.{OnStore, is_honest}
 use Rattle.kb_node.specs.Cores.{Seen}
 use Rattle.kb_node.specs.Got.{AreIsolated}
@@ -37,14 +37,14 @@ pub record AreTurned {S T : Type 0} (disk : S → Disk) (known : Deed → S → 
 -- A broker was served from then on: what was done to it is a run, event by event, with takes of output and commits between. Its moments are
 -- those of a clock. Whenever output was taken where replies wait for a commit, and behind each commit, all that was done before lasted. A
 -- commit was refused only where that is known at the end. It kept the tenants apart where the store is honest to the end.
-pub record IsServed {S T : Type 0} (settled : S → Type 0) (disk : S → Disk) (loss : S → Loss) (contents remaining : T → Option (List ℕ))
+pub record IsServedSince {S T : Type 0} (settled : S → Type 0) (disk : S → Disk) (loss : S → Loss) (contents remaining : T → Option (List ℕ))
     (broker : OnStore S) (to : Seen S T) : Type 0 where
   pub start : GuardedClock
   pub readings : List Reading
   pub deeds : List Deed
   pub done : AreDone disk (lasting settled disk loss to.host.commits) deeds broker to.host.broker
   pub moments : moments_of deeds ≡ ticks start readings
-  pub is_run : IsRun broker.state.last (events_of deeds)
+  pub is_run : IsEventRun broker.state.last (events_of deeds)
   pub isolated : is_honest disk to.host.broker → AreIsolated deeds broker.state to.host.broker.state
   -- there was no socket before, and clients were served from then on
   pub from : Seen S T

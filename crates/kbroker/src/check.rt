@@ -1,6 +1,12 @@
 //! `kbroker check`: what a file of settings comes to, and what a start on a data folder would find.
 
+ghost use Rattle.std.specs.Prelude.{◌≡◌, ◌⊎◌, IfErr, IfOk, OnOk, option_map};
+ghost use Rattle.std.specs.Io.KnownBytes.{Appends};
+ghost use Rattle.kbroker.specs.Ended.{memory, unwritten, IsWords};
+ghost use Rattle.kbroker.specs.Lines.{line_if};
+
 use crate::open::{Start, report_on};
+use crate::writing::{hand_on, write_text};
 use crate::{Fault, command, config};
 use clap::error::ErrorKind;
 use clap::{Arg, ArgAction, ArgMatches, Command};
@@ -10,7 +16,6 @@ use kb_operator::{
     FolderJournal, OperatorFault, data_folder, disk_text, is_folder, look_into, settings_of,
     settings_of_files, write_settings,
 };
-use kb_settings::Settings;
 use kb_start::Consent;
 use std::alloc::{AllocError, Global};
 use std::io;
@@ -41,7 +46,9 @@ pub fn check(rt: &HostRuntime, found: &ArgMatches<'_>) -> Result<(), Fault> {
 }
 
 /// The fault of a command line that names neither a file nor a folder, with the program's usage.
-fn nothing_named(alloc: Global) -> Result<Fault, Fault> {
+fn nothing_named(alloc: Global) -> Result<Fault, Fault>
+    ensures { IfOk result (IsWords ErrorKind.MissingRequiredArgument) }
+{
     let text = "check wants --config FILE or --data FOLDER";
     let fault = command(alloc)?.error(ErrorKind::MissingRequiredArgument, text)?;
     Ok(Fault::Words(fault))
@@ -56,24 +63,20 @@ fn check_settings(rt: &HostRuntime, path: &str) -> Result<(), Fault> {
         return Err(Fault::Operator(OperatorFault::Memory));
     };
     write_settings(alloc, &settings, folder, &mut writer)?;
-    write_disk(rt, &settings, folder, &mut writer)
+    let short = disk_text(rt, &settings, folder)?;
+    let written = write_short(alloc, short.as_deref(), &mut writer);
+    hand_on(&mut writer, written)
 }
 
-/// Writes a line where the disk of a folder has less than all tenants may store together.
-fn write_disk<W: Write>(
-    rt: &HostRuntime,
-    settings: &Settings,
-    folder: &str,
-    writer: &mut W,
-) -> Result<(), Fault> {
-    let Some(text) = disk_text(rt, settings, folder)? else {
-        return Ok(());
-    };
-    let written = writeln!(writer, "{text}");
-    if written.is_err() || writer.flush().is_err() {
-        return Err(Fault::Operator(OperatorFault::Write));
+/// Writes the line on a disk that has less than all tenants may store together, where there is one.
+fn write_short<W: Write>(alloc: Global, short: Option<&str>, writer: &mut W) -> Result<(), Fault>
+    ensures ok { OnOk result (Appends (W.contents writer.old) (W.contents writer.new) (line_if (option_map (λ t. t.now) short.entry))) }
+    ensures err { IfErr result (λ fault. (fault ≡ unwritten) ⊎ (fault ≡ memory)) }
+{
+    match short {
+        Some(text) => write_text(&format!(in alloc; "{text}\n")?, writer),
+        None => Ok(()),
     }
-    Ok(())
 }
 
 /// Says what a start on a folder would find, and changes nothing. The tenants are those of the settings in a file, or else those that the
@@ -98,11 +101,8 @@ fn check_data(rt: &HostRuntime, path: &str, config: Option<&str>) -> Result<(), 
     let Ok(mut writer) = BufWriter::new(alloc, io::writer(rt)) else {
         return Err(Fault::Operator(OperatorFault::Memory));
     };
-    write_disk(rt, &settings, path, &mut writer)?;
+    let short = disk_text(rt, &settings, path)?;
+    write_short(alloc, short.as_deref(), &mut writer)?;
     let reported = report_on(rt, start, disk, &folder, &mut writer);
-    // What was written before a fault is handed on too.
-    if writer.flush().is_err() {
-        return Err(Fault::Operator(OperatorFault::Write));
-    }
-    reported
+    hand_on(&mut writer, reported)
 }

@@ -1,6 +1,6 @@
 //! What the pages tell of the time since the broker began to serve.
 
-ghost use Rattle.std.specs.Prelude.{◌≡◌, ◌/◌, ◌<◌, length, max, option_map};
+ghost use Rattle.std.specs.Prelude.{◌≡◌, ◌/◌, ◌<◌, length, max, option_map, IfOk};
 ghost use Rattle.kbroker.specs.Server.{noted_at, noted_each, rates_by, refused_by, together};
 
 use crate::totals::together;
@@ -40,7 +40,11 @@ impl History {
         tenants: usize,
         failures: u64,
         started: u64,
-    ) -> Result<History, AllocError> {
+    ) -> Result<History, AllocError>
+        ensures started { IfOk result (λ it. it.started ≡ started) }
+        ensures failures { IfOk result (λ it. it.failures ≡ failures) }
+        ensures none { IfOk result (λ it. (it.longest ≡ 0) × (it.second ≡ 0)) }
+    {
         let mut rates = Vec::with_capacity(alloc, tenants)?;
         for _ in 0..tenants {
             rates.push(Rates::new(alloc)?)?;

@@ -1,10 +1,10 @@
 //! Producer ids that the catalogs of tenants have lost.
 
-ghost use Rattle.std.specs.Prelude.{◌≡◌, ◌≢◌, ◌<◌, ℕ, [], length, OnOk};
+ghost use Rattle.std.specs.Prelude.{◌≡◌, ◌≢◌, ◌<◌, ℕ, [], length, slice_get, OnOk};
 ghost use Rattle.kb_broker.specs.Hosts.{is_honest};
-ghost use Rattle.kb_isolation_spec.specs.Broker.{kept_of};
+ghost use Rattle.kb_isolation_spec.specs.Broker.{kept_of_tenant};
 ghost use Rattle.kb_tenant_state.specs.Ids.{GivesFresh};
-ghost use Rattle.kbroker.specs.Ids.{AllGiveFresh};
+ghost use Rattle.kbroker.specs.Ids.{tenant_name, AllGiveFresh};
 
 use crate::Fault;
 use kb_broker::{Broker, TenantView};
@@ -75,8 +75,9 @@ fn skip_ids_of<S: Store, L: PartitionLog + Drop>(
     ensures count { length broker.new.state.tenants ≡ length broker.old.state.tenants }
     ensures alone { broker.new.state.lines ≡ [] }
     ensures honest { is_honest S.disk broker.new → is_honest S.disk broker.old }
-    ensures others { is_honest S.disk broker.new → (t : ℕ) → t ≢ place → kept_of broker.new.state t ≡ kept_of broker.old.state t }
-    ensures fresh { OnOk result (is_honest S.disk broker.new → GivesFresh (kept_of broker.new.state place).world) }
+    ensures others { is_honest S.disk broker.new → (t : ℕ) → t ≢ place → kept_of_tenant broker.new.state t
+        ≡ kept_of_tenant broker.old.state t }
+    ensures fresh { OnOk result (is_honest S.disk broker.new → GivesFresh (kept_of_tenant broker.new.state place).world) }
 {
     let lost = lost_at(broker, place);
     match broker.skip_ids(place) {
@@ -107,7 +108,9 @@ fn lost_at<S: Store, L: PartitionLog + Drop>(broker: &Broker<S, L>, place: usize
 }
 
 /// The name of the tenant at a place.
-fn name_at<S: Store, L: PartitionLog + Drop>(broker: &Broker<S, L>, place: usize) -> &str {
+fn name_at<S: Store, L: PartitionLog + Drop>(broker: &Broker<S, L>, place: usize) -> &str
+    ensures { result.now ≡ tenant_name (slice_get broker.now.state.tenants place) }
+{
     match broker.tenant(place) {
         Some(
             TenantView {

@@ -1,8 +1,11 @@
 //! Where a broker listens, and what it says when clients can connect.
 
-ghost use Rattle.std.specs.Prelude.{◌≡◌, IfOk, None, vec_len};
+ghost use Rattle.std.specs.Prelude.{◌≡◌, IfOk, None, string_bytes, vec_len};
+ghost use Rattle.kbroker.specs.Ended.{memory};
+ghost use Rattle.kbroker.specs.Lines.{listening_line};
 
 use crate::Fault;
+use crate::writing::write_text;
 use kb_broker::Broker;
 use kb_log::PartitionLog;
 use kb_node::{
@@ -10,7 +13,8 @@ use kb_node::{
 };
 use kb_operator::{OperatorFault, address_text, addresses_text, listen_fault};
 use kb_version::VERSION;
-use std::alloc::Global;
+use std::alloc::{AllocError, Global};
+use std::io;
 use std::net::Net;
 
 /// Listens in a network on every address of the settings' host. Nobody is connected yet, and the broker is as it was handed over.
@@ -52,7 +56,9 @@ fn not_bound<S: Store, L: PartitionLog>(
     alloc: Global,
     address: &str,
     refused: &BindRefused<S, L>,
-) -> Fault {
+) -> Fault
+    ensures { refused.now.cause ≡ None → result ≡ memory }
+{
     Fault::Operator(match &refused.cause {
         Some(cause) => listen_fault(alloc, address, cause.address, &cause.error),
         // Where nothing stood in the way, memory was refused.
@@ -60,15 +66,26 @@ fn not_bound<S: Store, L: PartitionLog>(
     })
 }
 
-/// A line with the addresses, the version and the data folder.
+/// Prints a line with the addresses, the version and the data folder.
 pub fn tell_listening<R: Net, S: Store, L: PartitionLog + Drop>(
     rt: &HostRuntime,
     edge: &Edge<R, S, L>,
     folder: &str,
 ) -> Result<(), Fault> {
-    let addresses = addresses_text(rt.alloc(), edge.addresses())?;
-    match println!(rt; "listening on {addresses}: kbroker {VERSION}, data in {folder}") {
-        Ok(()) => Ok(()),
-        Err(_) => Err(Fault::Operator(OperatorFault::Write)),
-    }
+    let alloc = rt.alloc();
+    let addresses = addresses_text(alloc, edge.addresses())?;
+    let line = listening_line(alloc, &addresses, VERSION, folder)?;
+    write_text(&line, &mut io::writer(rt))
+}
+
+/// The line of a broker of a version that listens on those addresses, with its data in a folder.
+fn listening_line(
+    alloc: Global,
+    addresses: &str,
+    version: &str,
+    folder: &str,
+) -> Result<String, AllocError>
+    ensures { IfOk result (λ line. string_bytes line ≡ listening_line addresses.now version.now folder.now) }
+{
+    format!(in alloc; "listening on {addresses}: kbroker {version}, data in {folder}\n")
 }

@@ -8,6 +8,9 @@
 //! or away. Status 0 is done, 1 a fault with one line on standard error, 2 a fault of the command line with its usage.
 #![tactic(auto)]
 
+ghost use Rattle.std.specs.Process.{exit_status};
+ghost use Rattle.kbroker.specs.Ended.{IsExitStatus, IsOfTopic};
+
 mod catalogs;
 mod causes;
 mod check;
@@ -24,6 +27,7 @@ mod shown;
 mod telling;
 mod totals;
 mod words;
+mod writing;
 
 use clap::error::ErrorKind;
 use clap::{Arg, ArgAction, ArgMatches, Command};
@@ -64,30 +68,54 @@ enum Fault {
 }
 
 impl From<AllocError> for Fault {
+    ghost use Rattle.std.specs.Prelude.{◌≡◌};
+    ghost use Rattle.kbroker.specs.Ended.{memory};
+
+    ghost from_gives = { λ _ e. e ≡ memory };
+
     fn from(_e: AllocError) -> Fault {
         Fault::Operator(OperatorFault::Memory)
     }
 }
 
 impl<T: Drop> From<AllocFailed<T>> for Fault {
+    ghost use Rattle.std.specs.Prelude.{◌≡◌};
+    ghost use Rattle.kbroker.specs.Ended.{memory};
+
+    ghost from_gives = { λ _ e. e ≡ memory };
+
     fn from(_e: AllocFailed<T>) -> Fault {
         Fault::Operator(OperatorFault::Memory)
     }
 }
 
 impl From<OperatorFault> for Fault {
+    ghost use Rattle.std.specs.Prelude.{◌≡◌};
+    ghost use Rattle.kbroker.specs.declared.Fault.TheVariants.{Operator};
+
+    ghost from_gives = { λ e fault. fault ≡ Operator e };
+
     fn from(e: OperatorFault) -> Fault {
         Fault::Operator(e)
     }
 }
 
 impl From<NodeFault> for Fault {
+    ghost use Rattle.std.specs.Prelude.{◌≡◌};
+    ghost use Rattle.kbroker.specs.declared.Fault.TheVariants.{Node};
+
+    ghost from_gives = { λ e fault. fault ≡ Node e };
+
     fn from(e: NodeFault) -> Fault {
         Fault::Node(e)
     }
 }
 
 impl From<clap::Error> for Fault {
+    ghost use Rattle.kbroker.specs.Ended.{IsOfWords};
+
+    ghost from_gives = { λ e fault. IsOfWords e fault };
+
     fn from(e: clap::Error) -> Fault {
         if e.kind() == ErrorKind::OutOfMemory {
             Fault::Operator(OperatorFault::Memory)
@@ -130,7 +158,7 @@ fn run(rt: &HostRuntime) -> Result<(), Fault> {
         Some(("dump", found)) => dump::dump(rt, found),
         Some(("topic", found)) => match topic(rt, found, &mut io::writer(rt)) {
             Ok(()) => Ok(()),
-            Err(fault) => topic_fault(alloc, fault),
+            Err(fault) => Err(topic_fault(alloc, fault)?),
         },
         Some(("tenant", found)) => match tenant(rt, found) {
             Ok(()) => Ok(()),
@@ -143,14 +171,16 @@ fn run(rt: &HostRuntime) -> Result<(), Fault> {
 }
 
 /// What a fault of `kbroker topic` is to the program: wrong words come with its usage.
-fn topic_fault(alloc: Global, fault: TopicFault) -> Result<(), Fault> {
+fn topic_fault(alloc: Global, fault: TopicFault) -> Result<Fault, Fault>
+    ensures { IsOfTopic fault result }
+{
     match fault {
         TopicFault::Words(text) => {
             let fault = command(alloc)?.error(ErrorKind::ValueValidation, text)?;
-            Err(Fault::Words(fault))
+            Ok(Fault::Words(fault))
         }
-        TopicFault::Memory => Err(Fault::Operator(OperatorFault::Memory)),
-        fault => Err(Fault::Topic(fault)),
+        TopicFault::Memory => Ok(Fault::Operator(OperatorFault::Memory)),
+        fault => Ok(Fault::Topic(fault)),
     }
 }
 
@@ -161,20 +191,31 @@ fn main(rt: HostRuntime) -> ExitCode {
         Ok(_) => run(&rt),
         Err(error) => Err(Fault::Streams(*error)),
     };
+    if let Err(fault) = &ran {
+        tell(&rt, fault);
+    }
+    status_of(&ran)
+}
+
+/// The status of a run: 0 where it did what was asked or gave help, 2 at a wrong command line, and 1 at any other fault.
+fn status_of(ran: &Result<(), Fault>) -> ExitCode
+    ensures { IsExitStatus ran.now (exit_status result) }
+{
     match ran {
         Ok(()) => ExitCode::SUCCESS,
-        Err(Fault::Words(e)) => {
-            let _ = e.print(&rt);
-            if e.use_stderr() {
-                ExitCode::from(2)
-            } else {
-                ExitCode::SUCCESS
-            }
+        Err(Fault::Words(e)) if e.use_stderr() => ExitCode::from(2),
+        Err(Fault::Words(_)) => ExitCode::SUCCESS,
+        Err(_) => ExitCode::FAILURE,
+    }
+}
+
+/// Tells why a run ended early: help and the version on standard output, and anything else on standard error.
+fn tell(rt: &HostRuntime, fault: &Fault) {
+    match fault {
+        Fault::Words(e) => {
+            let _ = e.print(rt);
         }
-        Err(fault) => {
-            tell_fault(&rt, &fault);
-            ExitCode::FAILURE
-        }
+        fault => tell_fault(rt, fault),
     }
 }
 

@@ -1,9 +1,14 @@
 //! The opening of a data folder, and what refuses it.
 
-ghost use Rattle.std.specs.Prelude.{◌≡◌, IfOk};
+ghost use Rattle.std.specs.Prelude.{◌≡◌, ◌++◌, IfOk, OnOk, Some, codes};
+ghost use Rattle.std.specs.FinMap.{get};
+ghost use Rattle.std.specs.List.{flat_map};
 ghost use Rattle.kb_tenants.specs.Members.{HaveNoGroup};
 ghost use Rattle.kb_broker.specs.Opening.{opening_over};
 ghost use Rattle.kb_restart.specs.Restart.{have_nothing_refused};
+ghost use Rattle.kbroker.specs.Ended.{memory};
+ghost use Rattle.kbroker.specs.Found.{held_of, left_of, HaveLengths};
+ghost use Rattle.kbroker.specs.Words.{IsFlag};
 
 use crate::Fault;
 use clap::{Arg, ArgAction, ArgMatches, Command};
@@ -20,7 +25,10 @@ use std::alloc::{AllocError, Global};
 use std::io::Write;
 
 /// What the command line says that a start goes on without.
-pub fn consent_of(found: &ArgMatches<'_>) -> Consent {
+pub fn consent_of(found: &ArgMatches<'_>) -> Consent
+    ensures drop_damaged { IsFlag found.now (codes "drop-damaged") result.drop_damaged }
+    ensures accept_strays { IsFlag found.now (codes "accept-strays") result.accept_strays }
+{
     Consent {
         drop_damaged: found.get_flag("drop-damaged"),
         accept_strays: found.get_flag("accept-strays"),
@@ -210,7 +218,12 @@ fn known<'a, S: PutsOff + Drop>(
     names: &'a [&'a str],
     opened: &'a Restarted<S>,
     files: &'a [Left],
-) -> Opened<'a> {
+) -> Opened<'a>
+    ensures names { result.names.now ≡ names.now }
+    ensures instances { result.next_instances.now ≡ opened.now.next_instances.items }
+    ensures files { result.files.now ≡ files.now }
+    ensures strays { result.strays.now ≡ opened.now.strays.items }
+{
     Opened {
         names,
         next_instances: &opened.next_instances,
@@ -221,7 +234,9 @@ fn known<'a, S: PutsOff + Drop>(
 }
 
 /// The fault of a broker that does not open on a folder.
-fn not_opened(alloc: Global, folder: &FolderJournal, fault: OpenFault) -> Fault {
+fn not_opened(alloc: Global, folder: &FolderJournal, fault: OpenFault) -> Fault
+    ensures { fault ≡ OpenFault.Memory → result ≡ memory }
+{
     Fault::Operator(match fault {
         OpenFault::Store => folder.store_fault(alloc),
         OpenFault::Memory => OperatorFault::Memory,
@@ -234,18 +249,35 @@ fn files_left<S: PutsOff>(
     store: &S,
     before: &[FileLength],
     deleted: &[u64],
-) -> Result<Vec<Left>, AllocError> {
+) -> Result<Vec<Left>, AllocError>
+    ensures { IfOk result (λ files. HaveLengths (S.inside store.now).table before.now
+        → files.items ≡ flat_map (left_of (S.disk store.now).table deleted.now) before.now) }
+{
     let mut files = Vec::new(alloc);
     for file in before {
-        if !deleted.contains(&file.file) {
-            files.push(Left {
-                file: file.file,
-                before: file.length,
-                after: store.bytes_left(file.file, file.length),
-            })?;
-        }
+        add_left(store, deleted, file, &mut files)?;
     }
     Ok(files)
+}
+
+/// Adds what is left of a file that a store had, unless it is of a deleted topic.
+fn add_left<S: PutsOff>(
+    store: &S,
+    deleted: &[u64],
+    file: &FileLength,
+    files: &mut Vec<Left>,
+) -> Result<(), AllocError>
+    ensures { OnOk result (get (S.inside store.now).table file.now.file ≡ Some file.now.length
+        → files.new.items ≡ files.old.items ++ left_of (S.disk store.now).table deleted.now file.now) }
+{
+    if !deleted.contains(&file.file) {
+        files.push(Left {
+            file: file.file,
+            before: file.length,
+            after: store.bytes_left(file.file, file.length),
+        })?;
+    }
+    Ok(())
 }
 
 /// What a broker that opened has, and what it leaves now of the files in its journal's folder.
@@ -266,7 +298,9 @@ pub fn held_now<S: PutsOff + Drop>(
 }
 
 /// What a broker has that opened with those files.
-fn held(counts: Counts, files: &[Left]) -> Held {
+fn held(counts: Counts, files: &[Left]) -> Held
+    ensures { result ≡ held_of counts files.now }
+{
     let Counts {
         tenants,
         topics,

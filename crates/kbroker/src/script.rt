@@ -1,8 +1,12 @@
 //! `kbroker script`: plays a script of events.
 
-ghost use Rattle.std.specs.Prelude.{◌≡◌, true, IfOk};
+ghost use Rattle.std.specs.Prelude.{◌≡◌, true, IfOk, IfErr, IfSome, OnOk, option_map};
+ghost use Rattle.kb_isolation_spec.specs.Broker.{IsReady};
 ghost use Rattle.kb_isolation_spec.specs.Calls.{is_calm};
+ghost use Rattle.kb_broker.specs.Hosts.{is_honest};
+ghost use Rattle.kb_broker.specs.Opening.{opening_over};
 ghost use Rattle.kb_broker.specs.ScriptRun.{IsQuiet};
+ghost use Rattle.kbroker.specs.Scripts.{broker_in_memory, IsCutShort, IsHaltedOn, IsOfScript, IsPlayedOn, IsPlayedOver};
 
 use crate::open::{Start, consent_of, open_on, with_consent};
 use crate::telling::CountsOf;
@@ -57,13 +61,29 @@ pub fn script(rt: &HostRuntime, found: &ArgMatches<'_>) -> Result<(), Fault> {
             let settings = Settings::standard(alloc)?;
             script_on(rt, &settings, path, consent, &mut reader, &mut writer)
         }
-        (None, Some(settings)) => Ok(play_script_with::<ListLog, _, _>(
-            alloc,
-            &settings,
-            &mut reader,
-            &mut writer,
-        )?),
-        (None, None) => Ok(play_script(alloc, &mut reader, &mut writer)?),
+        (None, settings) => {
+            let settings = settings.as_ref();
+            Ok(play_in_memory(alloc, settings, &mut reader, &mut writer)?)
+        }
+    }
+}
+
+/// Plays a script on a broker that keeps nothing, of those settings, or else of the standard ones.
+fn play_in_memory<R: BufRead, W: Write>(
+    alloc: Global,
+    settings: Option<&Settings>,
+    reader: &mut R,
+    writer: &mut W,
+) -> Result<(), NodeFault>
+    ensures ok { OnOk result (IfSome (R.remaining reader.old) (λ text.
+        IsPlayedOn (broker_in_memory (option_map (λ s. s.now) settings.entry)) text (W.contents writer.old) (W.contents writer.new))) }
+    ensures err { IfErr result (λ fault. IfSome (R.remaining reader.old) (λ text.
+        IsHaltedOn (broker_in_memory (option_map (λ s. s.now) settings.entry)) text fault
+        (W.contents writer.old) (W.contents writer.new))) }
+{
+    match settings {
+        Some(settings) => play_script_with::<ListLog, _, _>(alloc, settings, reader, writer),
+        None => play_script(alloc, reader, writer),
     }
 }
 
@@ -85,8 +105,26 @@ fn script_on<R: BufRead, W: Write>(
         consent,
     };
     let disk = disk_in(rt, settings, &folder)?;
-    let opened = open_to_play(rt, start, disk, &mut folder, &mut journal)?;
-    play_on(rt, opened.broker, &folder, &mut journal, reader, writer)
+    play_over(rt, start, disk, &mut folder, &mut journal, reader, writer)?;
+    Ok(())
+}
+
+/// Plays a script on the broker of a journal's folder, whose store that is, and answers what it left.
+fn play_over<S: PutsOff + Drop, R: BufRead, W: Write>(
+    rt: &HostRuntime,
+    start: Start<'_>,
+    store: S,
+    folder: &mut FolderJournal,
+    journal: &mut Journal,
+    reader: &mut R,
+    writer: &mut W,
+) -> Result<Restarted<S>, Fault>
+    ensures { IfOk result (λ opened. is_honest S.disk opened.broker → IfSome (R.remaining reader.old) (λ text.
+        IsPlayedOver start.entry.listing start.entry.settings.now text (W.contents writer.old) (W.contents writer.new))) }
+{
+    let mut opened = open_to_play(rt, start, store, folder, journal)?;
+    play_on(rt, &mut opened.broker, folder, journal, reader, writer)?;
+    Ok(opened)
 }
 
 /// Opens the broker of a journal's folder, whose store that is, and tells what was found.
@@ -99,6 +137,8 @@ fn open_to_play<S: PutsOff + Drop>(
 ) -> Result<Restarted<S>, Fault>
     ensures calm { IfOk result (λ opened. is_calm opened.broker.state ≡ true) }
     ensures quiet { IfOk result (λ opened. IsQuiet opened.broker.state) }
+    ensures fixed { IfOk result (λ opened. opened.broker.state
+        ≡ opening_over start.entry.listing start.entry.settings.now opened.broker.state.tenants) }
 {
     let (opened, held) = open_on(rt, start, store, folder, journal)?;
     journal.tell_found(rt.alloc(), now(rt), Word::Found, held);
@@ -106,26 +146,41 @@ fn open_to_play<S: PutsOff + Drop>(
     Ok(opened)
 }
 
-/// Plays a script on a broker, and tells what was refused.
-fn play_on<S: Store + Drop, L: PartitionLog + Drop, R: BufRead, W: Write>(
+/// Plays a script on a broker, and tells what was refused. A fault ends it, and what the lines before it said has been written.
+fn play_on<S: Store, L: PartitionLog + Drop, R: BufRead, W: Write>(
     rt: &HostRuntime,
-    mut broker: Broker<S, L>,
+    broker: &mut Broker<S, L>,
     folder: &FolderJournal,
     journal: &mut Journal,
     reader: &mut R,
     writer: &mut W,
 ) -> Result<(), Fault>
-    requires calm { is_calm broker.state ≡ true }
-    requires quiet { IsQuiet broker.state }
+    requires calm { is_calm broker.old.state ≡ true }
+    requires quiet { IsQuiet broker.old.state }
+    requires ready { is_honest S.disk broker.old → IsReady broker.old.state }
+    ensures honest { is_honest S.disk broker.new → is_honest S.disk broker.old }
+    ensures ok { is_honest S.disk broker.new → OnOk result (IfSome (R.remaining reader.old) (λ text.
+        IsPlayedOn broker.old.state text (W.contents writer.old) (W.contents writer.new))) }
+    ensures err { is_honest S.disk broker.new → IfErr result (λ fault. IfSome (R.remaining reader.old) (λ text.
+        IsCutShort broker.old.state text (S.disk broker.new.store).failures fault (W.contents writer.old) (W.contents writer.new))) }
 {
     let alloc = rt.alloc();
-    let played = play_script_on(alloc, &mut broker, reader, writer);
-    journal.tell_refusals(alloc, now(rt), &CountsOf(&broker, &[], &[]));
+    let played = play_script_on(alloc, broker, reader, writer);
+    journal.tell_refusals(alloc, now(rt), &CountsOf(broker, &[], &[]));
     match played {
-        // What was refused, the store may have refused.
-        Err(NodeFault::Script(ScriptFault::Memory)) if broker.into_store().failures() > 0 => {
-            Err(Fault::Operator(folder.store_fault(alloc)))
-        }
-        played => Ok(played?),
+        Ok(()) => Ok(()),
+        Err(fault) => Err(script_fault(alloc, folder, broker.store().failures(), fault)),
+    }
+}
+
+/// What a script's fault is to the program, where the store of a journal's folder refused so many calls. What had no memory, the store may
+/// have refused.
+fn script_fault(alloc: Global, folder: &FolderJournal, failures: u64, fault: NodeFault) -> Fault
+    ensures { IsOfScript failures fault result }
+{
+    if failures > 0 && fault == NodeFault::Script(ScriptFault::Memory) {
+        Fault::Operator(folder.store_fault(alloc))
+    } else {
+        Fault::Node(fault)
     }
 }

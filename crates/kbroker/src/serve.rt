@@ -1,7 +1,7 @@
 //! `kbroker serve`: serves sockets, and tells of it.
 
 ghost use Rattle.std.specs.Prelude.{◌≡◌, ◌≢◌, ◌≤◌, ◌<◌, ◌*◌, ◌-◌, ◌/◌, ◌^◌};
-ghost use Rattle.std.specs.Prelude.{max, min, true, false, length, List, [], IfErr, IfOk, OnOk, None, Some};
+ghost use Rattle.std.specs.Prelude.{max, min, true, false, length, List, [], IfErr, IfOk, OnOk, None, Some, if◌then◌else◌};
 ghost use Rattle.kb_server_log.specs.Guard.{clock_after};
 ghost use Rattle.kb_server_log.specs.declared.guard.Reading.{Reading};
 ghost use Rattle.kb_node.specs.Cores.{seen};
@@ -12,7 +12,7 @@ ghost use Rattle.kb_settings.specs.declared.sync.Sync.TheVariants.{Never};
 ghost use Rattle.kb_broker.specs.Hosts.{is_honest};
 ghost use Rattle.kbroker.specs.Ids.{AllGiveFresh};
 ghost use Rattle.kbroker.specs.Shortened.{may_shorten, AreShort};
-ghost use Rattle.kbroker.specs.Turned.{AreTurned, IsServed};
+ghost use Rattle.kbroker.specs.Turned.{AreTurned, IsServedSince};
 
 use crate::catalogs::{may_shorten, shorten_catalogs};
 use crate::ids::skip_ids;
@@ -28,7 +28,7 @@ use kb_log::PartitionLog;
 use kb_node::{Edge, Listing, Settings, Store, Turn};
 use kb_operator::{
     FolderJournal, Held, Journal, Word, data_folder, hold, last_change, look_at_start, settings_of,
-    tell_disk,
+    tell_disk, tell_reserve,
 };
 use kb_restart::Restarted;
 use kb_server_log::{GuardedClock, Reading, now};
@@ -95,27 +95,34 @@ pub fn serve(rt: &HostRuntime, found: &ArgMatches<'_>) -> Result<(), Fault> {
     if !is_quiet {
         tell_disk(rt, &settings, path, journal.lines());
     }
-    let served = serve_in(rt, start, changed, &mut folder, &mut journal);
+    let served = serve_in(rt, start, changed, is_quiet, &mut folder, &mut journal);
     if served.is_err() {
         held.leave(rt);
     }
     served
 }
 
-/// Serves sockets on a journal's folder, whose files were changed last at that moment.
+/// Serves sockets on a journal's folder, whose files were changed last at that moment. Unless it is quiet it tells where there was no room
+/// for a reserve.
 fn serve_in(
     rt: &HostRuntime,
     start: Start<'_>,
     changed: Option<u64>,
+    is_quiet: bool,
     folder: &mut FolderJournal,
     journal: &mut Journal,
 ) -> Result<(), Fault> {
     let disk = disk_to_serve(rt, start.settings, folder)?;
+    if !is_quiet {
+        tell_reserve(rt, folder, journal.lines());
+    }
     serve_on(rt, start, disk, changed, folder, journal)
 }
 
 /// The versions that are listed.
-fn listing_of(stock_clients: bool) -> Listing {
+fn listing_of(stock_clients: bool) -> Listing
+    ensures { result ≡ (if stock_clients then Listing.StockClients else Listing.Served) }
+{
     if stock_clients {
         Listing::StockClients
     } else {
@@ -172,7 +179,7 @@ fn serve_broker<R: Net, S: Store + Drop, L: PartitionLog + Drop>(
     journal: &mut Journal,
 ) -> Result<(Edge<R, S, L>, Result<(), StoreFault>), Fault>
     requires { broker.state.lines ≡ [] }
-    ensures served { IfOk result (λ ended. IsServed S.settled S.disk S.loss R.Stream.contents R.Stream.remaining broker
+    ensures served { IfOk result (λ ended. IsServedSince S.settled S.disk S.loss R.Stream.contents R.Stream.remaining broker
         (seen ended.0.host ended.0.sockets.items)) }
     ensures sync { IfOk result (λ ended. ended.0.host.commits.sync ≡ settings.now.sync) }
     ensures refused { IfOk result (λ ended. IfErr ended.1 (λ fault. ended.0.host.commits.fault ≡ Some fault)) }

@@ -6,8 +6,8 @@ ghost use Rattle.kb_metrics.specs.Gauges.{partitions_text, tenants_text};
 ghost use Rattle.kb_metrics.specs.Server.{process_text, server_text};
 ghost use Rattle.kb_metrics.specs.View.{observed};
 ghost use Rattle.kb_settings.specs.Values.{values_of};
-ghost use Rattle.kbroker.specs.Observed.{limits_of, looked_at, observed_at, observed_from, observed_slot};
-ghost use Rattle.kbroker.specs.Pages.{IsMetrics, IsPageOf, IsStatus, named, page_in, page_of};
+ghost use Rattle.kbroker.specs.Observed.{named_limits, observed_unstored, observed_at, observed_from, observed_slot};
+ghost use Rattle.kbroker.specs.Pages.{IsMetrics, IsPageOf, IsStatus, first_named, page_in, page_of};
 ghost use Rattle.kbroker.specs.Server.{IsProcess, server_at};
 ghost use Rattle.kbroker.specs.Causes.{causes_text, refused_text, sockets_text};
 ghost use Rattle.kb_metrics.specs.Rates.{in_minute};
@@ -54,7 +54,7 @@ impl<'a, R: Net, S: Store, L: PartitionLog + Drop> Source for Shown<'a, R, S, L>
           status = IsStatus seen server IsThis past.rates.items;
           partitions = IsPageOf partitions_text seen;
           tenant = IsPageOf page_of seen;
-          is_unknown = λ name. named name seen ≡ None;
+          is_unknown = λ name. first_named name seen ≡ None;
         } };
 
     fn push_all(&self, alloc: Global, form: Form, out: &mut Vec<u8>) -> Result<(), AllocError> {
@@ -188,7 +188,7 @@ fn tenants_of<'a, R: Net, S: Store, L: PartitionLog + Drop>(
     edge: &'a Edge<R, S, L>,
     settings: &Settings,
 ) -> Result<Vec<TenantGauges<'a, L>>, AllocError>
-    ensures { IfOk result (λ tenants. map (looked_at L.log (S.disk edge.now.host.broker.store).files) tenants.items
+    ensures { IfOk result (λ tenants. map (observed_unstored L.log (S.disk edge.now.host.broker.store).files) tenants.items
         ≡ observed_from (values_of settings.now) edge.now.host.broker.state edge.now.host.broker.counts edge.now.traffic.items) }
 {
     let count = edge.broker().tenants_len();
@@ -206,8 +206,8 @@ fn push_gauges<'a, R: Net, S: Store, L: PartitionLog + Drop>(
     settings: &Settings,
     place: usize,
 ) -> Result<(), AllocError>
-    ensures { OnOk result (map (looked_at L.log (S.disk edge.now.host.broker.store).files) tenants.new.items
-        ≡ map (looked_at L.log (S.disk edge.now.host.broker.store).files) tenants.old.items
+    ensures { OnOk result (map (observed_unstored L.log (S.disk edge.now.host.broker.store).files) tenants.new.items
+        ≡ map (observed_unstored L.log (S.disk edge.now.host.broker.store).files) tenants.old.items
         ++ observed_slot (values_of settings.now) edge.now.host.broker.state edge.now.host.broker.counts edge.now.traffic.items place) }
 {
     if let Some(gauges) = gauges_at(edge, settings, place) {
@@ -222,7 +222,7 @@ fn gauges_at<'a, R: Net, S: Store, L: PartitionLog + Drop>(
     settings: &Settings,
     place: usize,
 ) -> Option<TenantGauges<'a, L>>
-    ensures { option_map (looked_at L.log (S.disk edge.now.host.broker.store).files) result
+    ensures { option_map (observed_unstored L.log (S.disk edge.now.host.broker.store).files) result
         ≡ option_map (observed_at (values_of settings.now) place edge.now.host.broker.state.lines edge.now.host.broker.counts
         edge.now.traffic.items) (slice_get edge.now.host.broker.state.tenants place) }
 {
@@ -252,8 +252,8 @@ fn named<'a, 'b, L: PartitionLog>(
     tenants: &'b [TenantGauges<'a, L>],
     name: &[u8],
 ) -> Option<&'b TenantGauges<'a, L>>
-    ensures { (files : Files) → option_map (λ t. looked_at L.log files t.now) result
-        ≡ named name.now (map (looked_at L.log files) tenants.now) }
+    ensures { (files : Files) → option_map (λ t. observed_unstored L.log files t.now) result
+        ≡ first_named name.now (map (observed_unstored L.log files) tenants.now) }
 {
     tenants.iter().find(|tenant| tenant.name.as_bytes() == name)
 }
@@ -275,7 +275,7 @@ fn push_page<L: PartitionLog>(
 
 /// What the tenant of a name may have.
 fn limits_of(settings: &Settings, tenant: &str) -> Limits
-    ensures { result ≡ limits_of tenant.now (values_of settings.now) }
+    ensures { result ≡ named_limits tenant.now (values_of settings.now) }
 {
     let data = settings.data_of(tenant);
     let groups = settings.groups_of(tenant);

@@ -1,7 +1,11 @@
 //! What a journal is told of a broker.
 
-ghost use Rattle.std.specs.Prelude.{◌≡◌, ◌≤◌, ◌^◌};
+ghost use Rattle.std.specs.Prelude.{◌≡◌, ◌≤◌, ◌==◌, slice_get, unwrap_or};
+ghost use Rattle.kb_wire.specs.declared.clock.TheConstants.{MAX_CLOCK};
+ghost use Rattle.kb_isolation_spec.specs.Calls.{is_calm};
+ghost use Rattle.kb_operator.specs.Speaks.{Announces};
 ghost use Rattle.kbroker.specs.Refusals.{refusals_at};
+ghost use Rattle.kbroker.specs.Telling.{length_lines};
 ghost use Rattle.kbroker.specs.Unread.{unread_at};
 
 use crate::causes::text_of;
@@ -9,9 +13,10 @@ use kb_broker::Broker;
 use kb_isolation_spec::Login;
 use kb_log::PartitionLog;
 use kb_node::{Edge, ReaderWaits, Store, Turn};
-use kb_operator::{Closed, Journal, RefusalCounts, TenantRefusals, Unread};
+use kb_operator::{Closed, Journal, LineLog, RefusalCounts, TenantRefusals, Unread};
 use kb_server_log::{Reading, Tick, now};
 use kb_tenants::TenantView;
+use std::alloc::Global;
 use std::net::Net;
 
 /// What a broker counts of what it refuses, and an edge of the sockets that it closed, and of waits for readers, by tenant.
@@ -25,15 +30,21 @@ pub struct CountsOf<'a, S: Store, L: PartitionLog + Drop>(
 impl<'a, S: Store, L: PartitionLog + Drop> RefusalCounts for CountsOf<'a, S, L> {
     ghost unread = { λ counts place. unread_at place counts.2.now };
 
-    fn is_calm(&self) -> bool {
+    fn is_calm(&self) -> bool
+        ensures { result ≡ is_calm self.now.0.now.state }
+    {
         self.0.is_calm()
     }
 
-    fn of_tenant(&self, place: usize) -> TenantRefusals {
+    fn of_tenant(&self, place: usize) -> TenantRefusals
+        ensures { result ≡ refusals_at place self.now.0.now.state.tenants self.now.0.now.counts }
+    {
         refusals_at(self.0, place)
     }
 
-    fn sockets_of_tenant(&self, place: usize) -> u64 {
+    fn sockets_of_tenant(&self, place: usize) -> u64
+        ensures { result ≡ unwrap_or (slice_get self.now.1.now place) 0 }
+    {
         self.1.get(place).copied().unwrap_or(0)
     }
 
@@ -41,11 +52,15 @@ impl<'a, S: Store, L: PartitionLog + Drop> RefusalCounts for CountsOf<'a, S, L> 
         unread_at(self.2, place)
     }
 
-    fn before_login(&self) -> u64 {
+    fn before_login(&self) -> u64
+        ensures { result ≡ self.now.0.now.state.unbound_refusals }
+    {
         self.0.refusals_unbound()
     }
 
-    fn of_disk(&self) -> u64 {
+    fn of_disk(&self) -> u64
+        ensures { result ≡ (S.disk self.now.0.now.store).failures }
+    {
         self.0.store().failures()
     }
 }
@@ -99,7 +114,7 @@ pub fn tell_turn<R: Net, S: Store, L: PartitionLog + Drop>(
     turn: &Turn,
     tick: Tick,
 )
-    requires { tick.moment ≤ 2 ^ 62 }
+    requires { tick.moment ≤ MAX_CLOCK }
 {
     let (alloc, now) = (rt.alloc(), now(rt));
     let second = tick.moment / SECOND;
@@ -130,11 +145,24 @@ pub fn tell_commit<R: Net, S: Store, L: PartitionLog + Drop>(
     moment: u64,
 ) {
     let micros = Reading::of(rt).steady.saturating_sub(begun.steady);
-    let millis = micros / 1000;
+    tell_millis(rt.alloc(), now(rt), journal, edge, moment, micros / 1000);
+}
+
+/// Tells that a turn at a moment took so many milliseconds, where they are over a second: as its commit, where it had one.
+fn tell_millis<T: LineLog, R: Net, S: Store, L: PartitionLog + Drop>(
+    alloc: Global,
+    now: u64,
+    journal: &mut Journal<T>,
+    edge: &Edge<R, S, L>,
+    moment: u64,
+    millis: u64,
+)
+    ensures { Announces T.logged now (length_lines (edge.now.host.commits.last == moment) millis) journal.old journal.new }
+{
     if edge.last_commit() == moment {
-        journal.tell_commit(rt.alloc(), now(rt), millis);
+        journal.tell_commit(alloc, now, millis);
     } else {
-        journal.tell_long_turn(rt.alloc(), now(rt), millis);
+        journal.tell_long_turn(alloc, now, millis);
     }
 }
 

@@ -1,5 +1,8 @@
 //! The words of the command line.
 
+ghost use Rattle.std.specs.Prelude.{IfOk};
+ghost use Rattle.kbroker.specs.Ended.{IsWords};
+
 use crate::{Fault, command};
 use clap::error::ErrorKind;
 use kb_operator::OperatorFault;
@@ -16,7 +19,9 @@ pub fn words(rt: &HostRuntime) -> Result<Vec<String>, Fault> {
 }
 
 /// The fault of a word that is not UTF-8, with the program's usage.
-fn not_utf_8(alloc: Global) -> Result<Fault, Fault> {
+fn not_utf_8(alloc: Global) -> Result<Fault, Fault>
+    ensures { IfOk result (IsWords ErrorKind.UnknownArgument) }
+{
     let fault = command(alloc)?.error(ErrorKind::UnknownArgument, "an argument is not UTF-8")?;
     Ok(Fault::Words(fault))
 }

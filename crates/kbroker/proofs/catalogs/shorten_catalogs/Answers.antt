@@ -2,7 +2,7 @@ use Rattle.std.proofs.Common.{◌≡◌, ◌≤◌, ◌<◌, ◌-◌, ◌+◌, �
 use Rattle.kb_tenant_state.specs.Counts.{IsCalm}
 use Rattle.kb_tenant_state.specs.Steps.{calm_then}
 use Rattle.kb_tenants.specs.Renewal.{IsCountedOnce, snapshot_of}
-use Rattle.kb_isolation_spec.specs.Broker.{BrokerState, kept_of, refusals_of}
+use Rattle.kb_isolation_spec.specs.Broker.{BrokerState, kept_of_tenant, refusals_of}
 use Rattle.kb_broker.specs.Shortened.{IsShort}
 use Rattle.kbroker.proofs.catalogs.shorten_catalogs.Goals as goal
 
@@ -48,8 +48,8 @@ loop-place-preserved g c =
           let calms = calm_then (refusals_of first.state t) (refusals_of mid.state t) (refusals_of new.state t) (before.grows t) (now.later.counts t) calm in
           subst (λ k. get_or new.commands t 0 ≤ snapshot_of k) (sym (now.stays honest t))
           (⊎_elim
-          (λ (ne : t ≡ place → ⊥). subst (λ n. n ≤ snapshot_of (kept_of mid.state t)) (sym (done.others t ne)) (before.short (now.later.honest honest) t (omega (arith, lt, ne)) calms.0))
-          (λ (here : t ≡ place). subst (λ n. get_or new.commands n 0 ≤ snapshot_of (kept_of mid.state n)) (sym here)
+          (λ (ne : t ≡ place → ⊥). subst (λ n. n ≤ snapshot_of (kept_of_tenant mid.state t)) (sym (done.others t ne)) (before.short (now.later.honest honest) t (omega (arith, lt, ne)) calms.0))
+          (λ (here : t ≡ place). subst (λ n. get_or new.commands n 0 ≤ snapshot_of (kept_of_tenant mid.state n)) (sym here)
           (done.shorter (subst (λ n. IsCalm (refusals_of mid.state n) (refusals_of new.state n)) here calms.1)))
           (other_or_here t place));
       either = λ honest t.
@@ -60,7 +60,7 @@ loop-place-preserved g c =
           (λ (here : t ≡ place). ⊎_elim
           (λ e. ⊎_elim (λ f. inl (e ∙ f)) (λ f. inr (e ∙ f)) was)
           (λ e. inr (e ∙ kept))
-          (subst (λ n. (get_or new.commands n 0 ≡ get_or mid.commands n 0) ⊎ (get_or new.commands n 0 ≡ snapshot_of (kept_of mid.state n))) (sym here) done.either))
+          (subst (λ n. (get_or new.commands n 0 ≡ get_or mid.commands n 0) ⊎ (get_or new.commands n 0 ≡ snapshot_of (kept_of_tenant mid.state n))) (sym here) done.either))
           (other_or_here t place);
       grows = λ t. (let a = before.grows t in let b = now.later.counts t in omega (arith, a, b));
       failures = omega (arith, risen, more);

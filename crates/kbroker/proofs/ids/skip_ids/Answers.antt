@@ -1,5 +1,5 @@
 use Rattle.std.proofs.Common.{◌≡◌, ◌∙◌, ◌⊎◌, ◌<◌, ◌+◌, ⊎_elim, ℕ, sym, subst, arith}
-use Rattle.kb_isolation_spec.specs.Broker.{kept_of}
+use Rattle.kb_isolation_spec.specs.Broker.{kept_of_tenant}
 use Rattle.kb_tenant_state.specs.Ids.{GivesFresh}
 use Rattle.kbroker.proofs.ids.skip_ids.Goals as goal
 
@@ -18,7 +18,7 @@ loop-place-preserved g c =
       count = now.count ∙ before.count;
       fresh = λ honest t lt. ⊎_elim
           (λ (earlier : t < place). subst (λ k. GivesFresh k.world) (sym (now.others honest t (λ same. omega (arith, earlier, same)))) (before.fresh (now.honest honest) t earlier))
-          (λ (here : t ≡ place). subst (λ n. GivesFresh (kept_of new.state n).world) (sym here) (now.fresh honest))
+          (λ (here : t ≡ place). subst (λ n. GivesFresh (kept_of_tenant new.state n).world) (sym here) (now.fresh honest))
           (before_or_here t place lt);
     }
 

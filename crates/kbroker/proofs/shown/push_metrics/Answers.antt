@@ -3,7 +3,7 @@ use Rattle.kb_settings.specs.Values.{values_of}
 use Rattle.kb_metrics.specs.Gauges.{tenants_text}
 use Rattle.kb_metrics.specs.Server.{process_text, server_text}
 use Rattle.kb_metrics.specs.View.{observed}
-use Rattle.kbroker.specs.Observed.{looked_at, observed_from, unstored}
+use Rattle.kbroker.specs.Observed.{observed_unstored, observed_from, unstored}
 use Rattle.kbroker.proofs.Told.{on_ok}
 use Rattle.kbroker.proofs.Gathered.{map_both}
 use Rattle.kbroker.proofs.shown.push_metrics.Goals as goal
@@ -15,9 +15,9 @@ returns g c =
     let tenants = c.deref.result.now in
     let os = map (observed g.L.PartitionLog.log files) tenants in
     let process = c.process_of-process.result in
-    let all : map (looked_at g.L.PartitionLog.log files) tenants
+    let all : map (observed_unstored g.L.PartitionLog.log files) tenants
     ≡ observed_from (values_of c.args.settings.now) edge.host.broker.state edge.host.broker.counts edge.traffic.items =
-    ap (map (looked_at g.L.PartitionLog.log files)) c.deref.ensures.value ∙ c.in_ok-tenants.ensures in
+    ap (map (observed_unstored g.L.PartitionLog.log files)) c.deref.ensures.value ∙ c.in_ok-tenants.ensures in
     on_ok _ _
     (λ told. (
       os,

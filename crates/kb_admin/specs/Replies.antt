@@ -38,9 +38,9 @@ abbrev pub deleted_code : List ℕ → Result ℤ WireFault
 deleted_code body = whole delete_topics_reply body >>= λ reply. sole_deleted reply.topics
 
 -- what Metadata says of a topic
-abbrev pub listed : MetadataTopic → Topic
-listed t = record { name = t.name; partitions = length t.partitions; error_code = t.error_code }
+abbrev pub as_topic : MetadataTopic → Topic
+as_topic t = record { name = t.name; partitions = length t.partitions; error_code = t.error_code }
 
 -- Metadata: its topics, in order
 abbrev pub listed_topics : List ℕ → Result (List Topic) WireFault
-listed_topics body = whole metadata_reply body >>= λ reply. Ok (map listed reply.topics)
+listed_topics body = whole metadata_reply body >>= λ reply. Ok (map as_topic reply.topics)

@@ -31,8 +31,8 @@ pub record Session : Type 0 where
   pub unread : List ℕ
 
 -- a session that begins
-abbrev pub fresh : List ℕ → List ℕ → Task → Session
-fresh user password task = record { user = user; password = password; task = task; stage = stages.Handshake; unread = [] }
+abbrev pub new_admin_session : List ℕ → List ℕ → Task → Session
+new_admin_session user password task = record { user = user; password = password; task = task; stage = stages.Handshake; unread = [] }
 
 -- the bytes of the request whose turn it is
 abbrev pub asked_text : Stage → Session → List ℕ
@@ -49,9 +49,9 @@ read_fault read_faults.Memory = faults.Memory
 read_fault (read_faults.Wire fault) = faults.Protocol
 
 -- the error code 0 is none
-abbrev pub passed : Heard → Result ℤ WireFault → Result Heard AdminFault
-passed heard (Err fault) = Err faults.Protocol
-passed heard (Ok code) = if int_eq code (pos 0) then Ok heard else Err (faults.Refused code)
+abbrev pub heard_or_refused : Heard → Result ℤ WireFault → Result Heard AdminFault
+heard_or_refused heard (Err fault) = Err faults.Protocol
+heard_or_refused heard (Ok code) = if int_eq code (pos 0) then Ok heard else Err (faults.Refused code)
 
 -- the topics, where there are some
 abbrev pub told : Result (List Topic) WireFault → Result Heard AdminFault
@@ -60,26 +60,26 @@ told (Ok topics) = Ok (hears.Topics topics)
 
 -- the reply to the task's request
 abbrev pub performed : Task → List ℕ → Result Heard AdminFault
-performed (tasks.Create topic) body = passed hears.Done (created_code body)
-performed (tasks.Delete name) body = passed hears.Done (deleted_code body)
+performed (tasks.Create topic) body = heard_or_refused hears.Done (created_code body)
+performed (tasks.Delete name) body = heard_or_refused hears.Done (deleted_code body)
 performed tasks.List body = told (listed_topics body)
 
 abbrev pub step_answered : Stage → Task → Result (List ℕ) WireFault → Result Heard AdminFault
 step_answered stage task (Err fault) = Err faults.Protocol
-step_answered stages.Handshake task (Ok body) = passed hears.Next (handshake_code body)
-step_answered stages.Authenticate task (Ok body) = passed hears.Next (authenticate_code body)
+step_answered stages.Handshake task (Ok body) = heard_or_refused hears.Next (handshake_code body)
+step_answered stages.Authenticate task (Ok body) = heard_or_refused hears.Next (authenticate_code body)
 step_answered stages.Perform task (Ok body) = performed task body
 step_answered stages.Ended task (Ok body) = Err faults.Protocol
 
 -- the reply to its request
-abbrev pub replied : List ℕ → Session → Result Heard AdminFault
-replied frame s = step_answered s.stage s.task (body_for (correlation s.stage) frame)
+abbrev pub after_reply : List ℕ → Session → Result Heard AdminFault
+after_reply frame s = step_answered s.stage s.task (body_for (correlation s.stage) frame)
 
 -- ---- what bytes come to
 
 -- what stands in front of them: more than the reply is a fault
 abbrev pub read_at : Front → Session → Result Heard AdminFault
-read_at (Whole frame []) s = replied frame s
+read_at (Whole frame []) s = after_reply frame s
 read_at (Whole frame (b ∷ rest)) s = Err faults.Protocol
 read_at Partial s = Ok hears.More
 read_at TooSmall s = Err faults.Protocol
@@ -103,17 +103,17 @@ Comes said (Err faults.Protocol) = said ≡ Err faults.Protocol
 Comes said (Err faults.Memory) = Unit {0}
 
 -- what is answered of a code that was read, or not
-abbrev pub Passes : Result ℤ ReadFault → Heard → Result Heard AdminFault → Type 0
-Passes (Ok code) heard result = result ≡ passed heard (Ok code)
-Passes (Err fault) heard result = result ≡ Err (read_fault fault)
+abbrev pub PassesCode : Result ℤ ReadFault → Heard → Result Heard AdminFault → Type 0
+PassesCode (Ok code) heard result = result ≡ heard_or_refused heard (Ok code)
+PassesCode (Err fault) heard result = result ≡ Err (read_fault fault)
 
 -- less than the reply stays unread
-abbrev pub Stays : Result Heard AdminFault → List ℕ → List ℕ → Type 0
-Stays (Ok hears.More) came unread = unread ≡ came
-Stays (Ok hears.Next) came unread = Unit {0}
-Stays (Ok hears.Done) came unread = Unit {0}
-Stays (Ok (hears.Topics topics)) came unread = Unit {0}
-Stays (Err fault) came unread = Unit {0}
+abbrev pub StaysUnread : Result Heard AdminFault → List ℕ → List ℕ → Type 0
+StaysUnread (Ok hears.More) came unread = unread ≡ came
+StaysUnread (Ok hears.Next) came unread = Unit {0}
+StaysUnread (Ok hears.Done) came unread = Unit {0}
+StaysUnread (Ok (hears.Topics topics)) came unread = Unit {0}
+StaysUnread (Err fault) came unread = Unit {0}
 
 -- ---- what is left
 

@@ -11,10 +11,10 @@ abbrev pub value_of : List ℕ → List ℕ
 value_of text = after_first (λ b. b == 61) text
 
 -- the place of the first `=`, or the length where there is none
-abbrev pub place_of : List ℕ → ℕ
-place_of text = position_or_len (λ b. b == 61) text
+abbrev pub place_of_equals : List ℕ → ℕ
+place_of_equals text = position_or_len (λ b. b == 61) text
 
 -- What KEY=VALUE says, or that it says nothing.
-abbrev pub Says : List ℕ → Option Setting → Type 0
-Says text None = (place_of text ≡ length text) ⊎ (255 < length (key_of text)) ⊎ (255 < length (value_of text))
-Says text (Some s) = (place_of text < length text) × (s.key ≡ key_of text) × (s.value ≡ value_of text)
+abbrev pub SaysSetting : List ℕ → Option Setting → Type 0
+SaysSetting text None = (place_of_equals text ≡ length text) ⊎ (255 < length (key_of text)) ⊎ (255 < length (value_of text))
+SaysSetting text (Some s) = (place_of_equals text < length text) × (s.key ≡ key_of text) × (s.value ≡ value_of text)

@@ -1,7 +1,7 @@
 //! A topic that a broker listed.
 
 ghost use Rattle.std.specs.Prelude.{◌≡◌, IfOk};
-ghost use Rattle.kb_admin.specs.Replies.{listed};
+ghost use Rattle.kb_admin.specs.Replies.{as_topic};
 
 use kb_api_data::MetadataTopic;
 use std::alloc::{AllocError, Global};
@@ -27,7 +27,7 @@ impl Model for Listed {
 impl Listed {
     /// What a reply of Metadata says of a topic.
     pub fn new(alloc: Global, topic: &MetadataTopic<'_>) -> Result<Listed, AllocError>
-        ensures { IfOk result (λ it. it ≡ listed topic.now) }
+        ensures { IfOk result (λ it. it ≡ as_topic topic.now) }
     {
         Ok(Listed {
             name: String::from_str(alloc, topic.name.as_str())?,

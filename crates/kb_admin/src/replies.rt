@@ -3,7 +3,7 @@
 ghost use Rattle.std.specs.Prelude.{◌≡◌, IfOk, map};
 ghost use Rattle.kb_wire.specs.Reads.{Answers, ReadsWhole};
 ghost use Rattle.kb_client.specs.Replies.{body_for};
-ghost use Rattle.kb_admin.specs.Replies.{handshake_code, authenticate_code, created_code, deleted_code, listed, listed_topics};
+ghost use Rattle.kb_admin.specs.Replies.{handshake_code, authenticate_code, created_code, deleted_code, as_topic, listed_topics};
 ghost use Rattle.kb_admin.specs.Replies.{sole_created, sole_deleted};
 
 use crate::listed::Listed;
@@ -86,7 +86,7 @@ pub fn listed_topics(alloc: Global, body: &[u8]) -> Result<Array<Listed>, ReadFa
 
 /// What a reply of Metadata says of its topics.
 fn listed_all(alloc: Global, topics: &[MetadataTopic<'_>]) -> Result<Array<Listed>, AllocError>
-    ensures { IfOk result (λ all. all ≡ map listed topics.now) }
+    ensures { IfOk result (λ all. all ≡ map as_topic topics.now) }
 {
     let mut all = Array::new(alloc);
     for topic in topics {

@@ -2,7 +2,8 @@
 
 ghost use Rattle.std.specs.Prelude.{◌≡◌, ◌++◌, IfOk};
 ghost use Rattle.kb_admin.specs.Requests.{task_text};
-ghost use Rattle.kb_admin.specs.Session.{fresh, asked_text, performed, replied, heard, Comes, Passes, Stays, moved, settled, stage_after};
+ghost use Rattle.kb_admin.specs.Session.{new_admin_session, asked_text, performed, after_reply, heard, Comes, PassesCode, StaysUnread};
+ghost use Rattle.kb_admin.specs.Session.{moved, settled, stage_after};
 
 use crate::fault::AdminFault;
 use crate::listed::Listed;
@@ -53,7 +54,7 @@ impl Model for Session {
 impl Session {
     /// A task of a user. The first request has its turn. It takes no memory.
     pub fn new(alloc: Global, user: ShortText, password: ShortText, task: Task) -> Session
-        ensures { result ≡ fresh user password task }
+        ensures { result ≡ new_admin_session user password task }
     {
         Session {
             alloc,
@@ -103,7 +104,7 @@ impl Session {
     fn read(&mut self, piece: &[u8]) -> Result<Heard, AdminFault>
         ensures answer { Comes (heard (self.old.unread ++ piece.now) self.old) result }
         ensures rest { self.new ≡ record self.old { unread = self.new.unread } }
-        ensures unread { Stays result (self.old.unread ++ piece.now) self.new.unread }
+        ensures unread { StaysUnread result (self.old.unread ++ piece.now) self.new.unread }
     {
         if self.stage == Stage::Ended {
             return Err(AdminFault::Protocol);
@@ -124,7 +125,7 @@ impl Session {
 
     /// What the reply to its request comes to.
     fn reply(&self, frame: &[u8]) -> Result<Heard, AdminFault>
-        ensures { Comes (replied frame.now self.now) result }
+        ensures { Comes (after_reply frame.now self.now) result }
     {
         let body = replies::body_for(self.stage.correlation(), frame)?;
         match self.stage {
@@ -172,7 +173,7 @@ fn request_of(alloc: Global, id: i32, task: &Task) -> Result<Vec<u8>, AllocError
 
 /// What an error code calls for: `heard` where it is none.
 fn passed(code: Result<i16, ReadFault>, heard: Heard) -> Result<Heard, AdminFault>
-    ensures { Passes code heard result }
+    ensures { PassesCode code heard result }
 {
     match code? {
         0 => Ok(heard),

@@ -1,7 +1,7 @@
 //! What a person does to topics.
 
 ghost use Rattle.std.specs.Prelude.{◌≡◌, IfOk};
-ghost use Rattle.kb_admin.specs.Settings.{Says};
+ghost use Rattle.kb_admin.specs.Settings.{SaysSetting};
 
 use crate::short_text::ShortText;
 use std::alloc::{AllocError, Global};
@@ -18,7 +18,7 @@ impl Setting {
     ///
     /// `None`: it has no `=`, or the key or the value has more than 255 bytes.
     pub fn read(alloc: Global, text: &str) -> Result<Option<Setting>, AllocError>
-        ensures { IfOk result (λ setting. Says text.now setting) }
+        ensures { IfOk result (λ setting. SaysSetting text.now setting) }
     {
         let Some((key, value)) = text.split_once('=') else {
             return Ok(None);

@@ -4,7 +4,7 @@ use Rattle.std.specs.Prelude.{map}
 use Rattle.std.specs.List.{AllByRecursion}
 use Rattle.kb_isolation_spec.specs.Machine.{Happening, Opens, Comes, Closes, Moment, Line, Sent, those, those_sent}
 use Rattle.kb_isolation_spec.specs.Owners.{purge}
-use Rattle.kb_isolation_spec.specs.Broker.{BrokerState, IsCalmFor, IsRun, owned_by}
+use Rattle.kb_isolation_spec.specs.Broker.{BrokerState, IsCalmFor, IsEventRun, owned_by}
 use Rattle.kb_isolation_spec.specs.Isolation.{IsIsolated, own_events, own_sent}
 use Rattle.kb_isolation_spec.specs.Alone.{HasToItself}
 use Rattle.kb_isolation_spec.proofs.Alone.{sent-alone, owners-alone, unused-alone, run-own}
@@ -94,5 +94,5 @@ opened-alone opening t es fs shared after own own_after got own_got a b none e p
     let both : HasToItself t es shared own = subst (HasToItself t es shared) (a ∙ sym b) (unused-alone t es shared (ap (λ (x : BrokerState). x.lines) a ∙ none)) in
     written-alone t es fs shared after own own_after got own_got e p q numbered both first second
 
-pub run-fewer : (t : ℕ) (es fs : List Happening) (b : BrokerState) → fs ≡ own_events t es b → IsRun b.last es → IsRun b.last fs
-run-fewer t es fs b e r = subst (IsRun b.last) (sym e) (run-own t b.last es b r)
+pub run-fewer : (t : ℕ) (es fs : List Happening) (b : BrokerState) → fs ≡ own_events t es b → IsEventRun b.last es → IsEventRun b.last fs
+run-fewer t es fs b e r = subst (IsEventRun b.last) (sym e) (run-own t b.last es b r)

@@ -4,29 +4,29 @@ use Rattle.std.specs.List.{AllByRecursion}
 use Rattle.kb_isolation_spec.specs.Session.{BoundTo, Greets, Stage}
 use Rattle.kb_isolation_spec.specs.Greeting.{Setup}
 use Rattle.kb_isolation_spec.specs.Machine.{Happening, Line, those}
-use Rattle.kb_isolation_spec.specs.Owners.{Fits, destiny, heard, is_owner, whose}
+use Rattle.kb_isolation_spec.specs.Owners.{Fits, destiny, greeted_so_far, is_owner, whose}
 use Rattle.kb_isolation_spec.specs.Broker.{BrokerState, Mine, view_of}
 use Rattle.kb_isolation_spec.proofs.Owners.{destiny-bound, heard-bound}
-use Rattle.kb_broker.specs.Counts.{is_of, lines_of, waiting_lines}
+use Rattle.kb_broker.specs.Counts.{is_of, lines_bound_to, waiting_lines}
 use Rattle.kb_broker.specs.Places.{waits_in}
 
 module _ (setup : Setup) (t : ℕ) (mine : ℕ → Bool) (es : List Happening) where
   -- one that is bound to the tenant is among its own
-  own_by : (l : Line) (st : Stage) → l.session.stage ≡ st → Fits t (mine l.number) (destiny setup l.number (heard setup l.session) es)
+  own_by : (l : Line) (st : Stage) → l.session.stage ≡ st → Fits t (mine l.number) (destiny setup l.number (greeted_so_far setup l.session) es)
       → is_owner t (whose st) ≡ true → mine l.number ≡ true
   own_by l (Greets greeting) at fits h = absurd cc
   own_by l (BoundTo u wait) at fits h =
-      let heard_all : heard setup l.session ≡ l.session = heard-bound setup l.session u wait at in
+      let heard_all : greeted_so_far setup l.session ≡ l.session = heard-bound setup l.session u wait at in
       let bound : destiny setup l.number l.session es ≡ Some u = destiny-bound setup l.number l.session es u (record { wait = wait; is = at }) in
-      let whole : destiny setup l.number (heard setup l.session) es ≡ Some u = ap (λ s. destiny setup l.number s es) heard_all ∙ bound in
+      let whole : destiny setup l.number (greeted_so_far setup l.session) es ≡ Some u = ap (λ s. destiny setup l.number s es) heard_all ∙ bound in
       subst (Fits t (mine l.number)) whole fits ∙ h
 
-  own : (l : Line) → Fits t (mine l.number) (destiny setup l.number (heard setup l.session) es) → is_of t l ≡ true → mine l.number ≡ true
+  own : (l : Line) → Fits t (mine l.number) (destiny setup l.number (greeted_so_far setup l.session) es) → is_of t l ≡ true → mine l.number ≡ true
   own l fits h = own_by l l.session.stage refl fits h
 
   -- what is taken of those that are bound to the tenant is taken of its own
   taken : (p : Line → Bool) → ((l : Line) → p l ≡ true → is_of t l ≡ true) → (ls : List Line)
-      → AllByRecursion (λ l. Fits t (mine l.number) (destiny setup l.number (heard setup l.session) es)) ls → filter p (those mine ls) ≡ filter p ls
+      → AllByRecursion (λ l. Fits t (mine l.number) (destiny setup l.number (greeted_so_far setup l.session) es)) ls → filter p (those mine ls) ≡ filter p ls
   taken p bound [] all = refl
   taken p bound (l ∷ ls) all = go (mine l.number) refl (p l) refl (taken p bound ls all.1)
     where
@@ -42,7 +42,7 @@ first true q h = refl
 first false q h = absurd cc
 
 pub bound_lines : (t : ℕ) (mine : ℕ → Bool) (es : List Happening) (b : BrokerState) → Mine t mine es b
-    → lines_of t (view_of t mine b).lines ≡ lines_of t b.lines
+    → lines_bound_to t (view_of t mine b).lines ≡ lines_bound_to t b.lines
 bound_lines t mine es b owns = taken b.setup t mine es (is_of t) (λ l h. h) b.lines owns.now
 
 pub bound_waits : (t : ℕ) (mine : ℕ → Bool) (es : List Happening) (b : BrokerState) → Mine t mine es b

@@ -13,7 +13,7 @@ use Rattle.kb_waits.specs.Queue.{Queue}
 use Rattle.kb_tenant_api.specs.Hosted.{TenantState}
 use Rattle.kb_isolation_spec.specs.declared.shut.Shut.TheVariants as causes
 use Rattle.kb_isolation_spec.specs.Tenant.{Wait}
-use Rattle.kb_isolation_spec.specs.Session.{Stage, Greets, BoundTo, Session, fresh, is_free, fed, without_wait, shut_down}
+use Rattle.kb_isolation_spec.specs.Session.{Stage, Greets, BoundTo, Session, new_session, is_free, fed, without_wait, shut_down}
 use Rattle.kb_isolation_spec.specs.Machine.{Line, those}
 use Rattle.kb_isolation_spec.specs.Calls.{other_than}
 use Rattle.kb_isolation_spec.specs.Machine.{find_line}
@@ -271,7 +271,7 @@ minded-more_in H honest whom first a b ns i l m us e sound at is v =
 
 pub number-some : (b : BrokerState) (i n : ℕ) → i < length b.lines → ((d : Line) → (get_or b.lines i d).number ≡ n) → number_at i b ≡ n
 number-some b i n lt some =
-    let d : Line = record { number = 0; session = fresh 0 } in
+    let d : Line = record { number = 0; session = new_session 0 } in
     number_at-is b i (get_or b.lines i d) (get-at b.lines i d lt) ∙ some d
 
 pub minded-take : (whom : Whom) (a b : BrokerState) (ns : List ℕ) (j n : ℕ) → j < length ns → n ≡ get_or ns j 0 → AreMinded whom a b (take j ns ++ n ∷ []) → AreMinded whom a b (take (j + 1) ns)

@@ -15,7 +15,7 @@ use Rattle.kb_tenant_state.specs.Counts.{IsCalm, counted_once}
 use Rattle.kb_tenant_api.specs.Hosted.{Kept, TenantState, names_of, refusals_of}
 use Rattle.kb_tenant_api.specs.Turns.{IsTurn, HavePassed}
 use Rattle.kb_isolation_spec.specs.declared.shut.Shut.TheVariants as causes
-use Rattle.kb_isolation_spec.specs.Session.{Stage, Greets, BoundTo, Session, fresh, shut_down, without_wait, is_free, fed, overruns, room, can}
+use Rattle.kb_isolation_spec.specs.Session.{Stage, Greets, BoundTo, Session, new_session, shut_down, without_wait, is_free, fed, overruns, room, can}
 use Rattle.kb_tenant_api.specs.Hosted as hosted
 use Rattle.kb_tenant.specs.Replies.{Silent}
 use Rattle.kb_isolation_spec.specs.Tenant.{Awaited, Records, Group, Wait, ready, ready_for}
@@ -39,7 +39,7 @@ use Rattle.kb_isolation_spec.proofs.Feeds.{still-settled, fed-kept, fed-refused,
 use Rattle.kb_connection.specs.View.{with_session}
 use Rattle.kb_isolation_spec.specs.Stranded.{NoneStranded}
 use Rattle.kb_isolation_spec.proofs.Stranded.{left-nobody, spared-left, spared-served, stranded-begun, stranded-left, stranded-over, stranded-served}
-use Rattle.kb_broker.specs.Places.{numbers, number_at, waits_in, Leaves, IsSpent, IsTakenAt, IsMemberTurnAt, IsWaitTurnAt, IsTurnAt, AreIdle, IsNext, IsScoped, IsCountedAt, IsCountedFor, IsServedAt}
+use Rattle.kb_broker.specs.Places.{numbers, number_at, waits_in, LeavesQuietBut, IsSpent, IsTakenAt, IsMemberTurnAt, IsWaitTurnAt, IsTurnAt, AreIdle, IsNext, IsScoped, IsCountedAt, IsCountedFor, IsServedAt}
 use Rattle.kb_broker.specs.Parked.{deadline_at, IsReadyAmong, IsServedFor, IsWhose, IsAllOf}
 use Rattle.kb_broker.specs.declared.serving.Concerned.{Concerned}
 use Rattle.kb_broker.specs.declared.serving.Concerned.TheVariants as concerned
@@ -490,7 +490,7 @@ first-place (l ∷ ls) d = by (can l.session) (first-place ls d)
 
 pub nowhere-able : (ls : List Line) (o : Option ℕ) → o ≡ position (λ (l : Line). can l.session) ls → ((i : ℕ) → o ≡ Some i → ⊥) → first_able ls ≡ None
 nowhere-able ls o e none =
-    let d : Line = record { number = 0; session = fresh 0 } in
+    let d : Line = record { number = 0; session = new_session 0 } in
     let n = position_or_len (λ (l : Line). can l.session) ls in
     first-place ls d ∙ by (nat_lt n (length ls)) n (get_or ls n d) (λ i h. none i (e ∙ h))
   where
@@ -501,7 +501,7 @@ nowhere-able ls o e none =
 pub next-able : (b : BrokerState) (o : Option ℕ) (i : ℕ) → IsSound b → o ≡ position (λ (l : Line). can l.session) b.lines → o ≡ Some i → IsNext i b
 next-able b o i sound e some = record {
   sound = sound;
-  within = (position-Some (λ (l : Line). can l.session) b.lines i (record { number = 0; session = fresh 0 }) (sym e ∙ some)).0;
+  within = (position-Some (λ (l : Line). can l.session) b.lines i (record { number = 0; session = new_session 0 }) (sym e ∙ some)).0;
   first = λ d. first-place b.lines d ∙ by (nat_lt (position_or_len (λ (l : Line). can l.session) b.lines) (length b.lines)) d (position_or_len (λ (l : Line). can l.session) b.lines) (sym e ∙ some);
 }
   where
@@ -522,7 +522,7 @@ full-is (x ∷ xs) r e t h = cc
 -- a piece of no bytes is nothing
 pub step-empty : (b : BrokerState) (i n : ℕ) (piece : List ℕ) → IsReady b → i < length b.lines → ((d : Line) → (get_or b.lines i d).number ≡ n) → piece ≡ [] → IsStep (Comes n piece) b b
 step-empty b i n piece ready lt some e =
-    let d : Line = record { number = 0; session = fresh 0 } in
+    let d : Line = record { number = 0; session = new_session 0 } in
     let h = step-nothing b i (get_or b.lines i d) ready (get-at b.lines i d lt) in
     let k : IsStep (Comes n []) b b = subst (λ m. IsStep (Comes m []) b b) (some d) h in
     subst (λ p. IsStep (Comes n p) b b) (sym e) k
@@ -567,9 +567,9 @@ others-taken a b c i n l piece ready f fed turned k ne free =
 pub record HasBegun (H : Type 0) (now : ℕ) (answered : Option (Vec ℕ Global)) (a s : BrokerState) : Type 0 where
   pub is : s ≡ begun a now s.tenants
   pub passed : HavePassed (max a.clock now) H a.tenants s.tenants
-  pub leaves : H → Leaves answered a.tenants s.tenants
+  pub leaves : H → LeavesQuietBut answered a.tenants s.tenants
 
-pub has-begun : (H : Type 0) (now clock : ℕ) (answered : Option (Vec ℕ Global)) (a b s : BrokerState) → a ≡ b → clock ≡ max a.clock now → HavePassed clock H a.tenants s.tenants → s ≡ record a { clock = clock; tenants = s.tenants } → (H → Leaves answered a.tenants s.tenants) → HasBegun H now answered b s
+pub has-begun : (H : Type 0) (now clock : ℕ) (answered : Option (Vec ℕ Global)) (a b s : BrokerState) → a ≡ b → clock ≡ max a.clock now → HavePassed clock H a.tenants s.tenants → s ≡ record a { clock = clock; tenants = s.tenants } → (H → LeavesQuietBut answered a.tenants s.tenants) → HasBegun H now answered b s
 has-begun H now clock answered a b s e is passed rest leaves =
     subst (λ (x : BrokerState). HasBegun H now answered x s) e
     (record {
@@ -594,7 +594,7 @@ quiet-ready ns k l clock n w q apart silent = by w.awaited silent
     by Group h = q.told n apart h
 
 -- only what is due or was answered can be ready then
-begun-unready : (answered : Option (Vec ℕ Global)) (a : BrokerState) (now : ℕ) (ts : List TenantState) → AreUnready AnyWait a → Leaves answered a.tenants ts → IsReadyAmong answered (begun a now ts)
+begun-unready : (answered : Option (Vec ℕ Global)) (a : BrokerState) (now : ℕ) (ts : List TenantState) → AreUnready AnyWait a → LeavesQuietBut answered a.tenants ts → IsReadyAmong answered (begun a now ts)
 begun-unready None a now ts u quiet = tt
 begun-unready (Some ns) a now ts u quiet =
     all-map (λ (l : Line). IsUnready (IsPassedOver whoms.Due clock) (begun a now a.tenants) l.number l.session.stage) (λ (l : Line). Contains ns.items l.number ⊎ IsUnready (IsPassedOver whoms.Due clock) (begun a now ts) l.number l.session.stage)

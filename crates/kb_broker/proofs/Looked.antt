@@ -5,7 +5,7 @@ use Rattle.std.proofs.lemmas.List.{set-get_or, take_all}
 use Rattle.kb_tenant_api.specs.Hosted.{TenantState}
 use Rattle.kb_isolation_spec.specs.Session.{Stage, Greets, BoundTo}
 use Rattle.kb_isolation_spec.specs.Machine.{Line}
-use Rattle.kb_isolation_spec.specs.Broker.{BrokerState, IsSound, IsUnready, AreUnready, AnyWait, kept_of}
+use Rattle.kb_isolation_spec.specs.Broker.{BrokerState, IsSound, IsUnready, AreUnready, AnyWait, kept_of_tenant}
 use Rattle.kb_isolation_spec.specs.declared.whom.Whom.{Whom}
 use Rattle.kb_isolation_spec.specs.declared.whom.Whom.TheVariants as whoms
 use Rattle.kb_isolation_spec.specs.Turned.{Concerns, IsGoing, Waked, IsLookedFor, IsPassedOver}
@@ -76,7 +76,7 @@ take-set P (k ∷ ls) zero l m at h p = (p, tt)
 take-set P (k ∷ ls) (suc i) l m at h p = (h.0, take-set P ls i l m (tail-at k ls i l at) h.1 p)
 
 -- at a later moment, in which tenants keep the same
-all-same : (P : ℕ → Wait → Type 0) (b c : BrokerState) (ls : List Line) → c.clock ≡ b.clock → ((t : ℕ) → kept_of c t ≡ kept_of b t) → AllByRecursion (λ (l : Line). IsUnready P b l.number l.session.stage) ls → AllByRecursion (λ (l : Line). IsUnready P c l.number l.session.stage) ls
+all-same : (P : ℕ → Wait → Type 0) (b c : BrokerState) (ls : List Line) → c.clock ≡ b.clock → ((t : ℕ) → kept_of_tenant c t ≡ kept_of_tenant b t) → AllByRecursion (λ (l : Line). IsUnready P b l.number l.session.stage) ls → AllByRecursion (λ (l : Line). IsUnready P c l.number l.session.stage) ls
 all-same P b c ls clock kept h = all-map (λ (l : Line). IsUnready P b l.number l.session.stage) (λ (l : Line). IsUnready P c l.number l.session.stage) (λ l. unready-same P b c l.number l.session.stage clock kept) ls h
 
 -- whatever the store says: numbers stay, and a bound connection stays bound

@@ -18,11 +18,11 @@ use Rattle.kb_isolation_spec.specs.Machine.{first_able}
 use Rattle.kb_isolation_spec.specs.Broker.{BrokerState, AreUnready, AnyWait, IsSound}
 use Rattle.kb_store.specs.Disk.{Disk}
 use Rattle.kb_broker.specs.Hosts.{OnStore, IsReadyOn}
-use Rattle.kb_settings.specs.Names.{place_of}
+use Rattle.kb_settings.specs.Names.{place_of_name}
 use Rattle.kb_settings.specs.Values.{values_of}
 use Rattle.kb_tenant.specs.declared.node.Node.{Node}
 use Rattle.kb_broker.specs.Nodes.{node_named, node_unnamed}
-use Rattle.kb_broker.specs.Opening.{tenant_of, tenants_of, login_of, opening_listing, opening_over, opening_setup, listed, listed_as}
+use Rattle.kb_broker.specs.Opening.{tenant_of, tenants_of, login_of, opening_listing, opening_over, opening_setup, versions_of, listed_as}
 use Rattle.kb_broker.specs.declared.opening.Listing.{Listing}
 use Rattle.kb_broker.specs.declared.opening.Listing.TheVariants as listings
 use Rattle.kb_settings.specs.declared.settings.User.{User}
@@ -52,11 +52,11 @@ rows =
     listed_from_none 42 0 1 ∷ []
 
 -- from it each listing lists what it is to list
-pub all-listed : (listing : Listing) → filter_map (listed_as listing) rows ≡ listed listing
+pub all-listed : (listing : Listing) → filter_map (listed_as listing) rows ≡ versions_of listing
 all-listed listings.Served = refl
 all-listed listings.StockClients = refl
 
-pub few-listed : (listing : Listing) → length (listed listing) < 2 ^ 31
+pub few-listed : (listing : Listing) → length (versions_of listing) < 2 ^ 31
 few-listed listings.Served = lit< tt
 few-listed listings.StockClients = lit< tt
 
@@ -84,8 +84,8 @@ over-ready disk listing s ts b named is =
     let users : List User = s.users.items in
     let names : List (List ℕ) = tenants_of users in
     let many : length names ≡ length ts = sym (ap length named) ∙ length-map ts (λ (x : TenantState). x.name) in
-    let below : AllByRecursion (λ (u : User). place_of (tenant_of u) names < length ts) users = recursion_from_All _ users (λ k d lt.
-    subst (λ (n : ℕ). place_of (tenant_of (get_or users k d)) names < n) many
+    let below : AllByRecursion (λ (u : User). place_of_name (tenant_of u) names < length ts) users = recursion_from_All _ users (λ k d lt.
+    subst (λ (n : ℕ). place_of_name (tenant_of (get_or users k d)) names < n) many
     (place-below names (tenant_of (get_or users k d)) (rises-in_order (map tenant_of users)) (tenant-in users k (get_or users k d) lt (get_or_default users k d (get_or users k d) lt)))) in
     let sound : IsSound (opening_over listing s ts) = record {
       rising = lit≤ tt;
@@ -121,16 +121,16 @@ map-twice f g (x ∷ xs) = ap (λ zs. g (f x) ∷ zs) (map-twice f g xs)
 
 -- of these parts what is fixed is made
 pub setup-made : {X : Type 0} (listing : Listing) (f : X → List ℕ) (s : Settings) (names : List X) (versions : List ApiVersion) (users : List Login) (nodes : List Node) (node : Node) (limit : ℕ) (setup : Setup)
-    → map f names ≡ tenants_of s.users.items → versions ≡ listed listing → users ≡ map (login_of (tenants_of s.users.items)) s.users.items
+    → map f names ≡ tenants_of s.users.items → versions ≡ versions_of listing → users ≡ map (login_of (tenants_of s.users.items)) s.users.items
     → nodes ≡ map (λ n. node_named listing (values_of s) (f n)) names → node ≡ node_unnamed listing (values_of s)
     → limit ≡ s.requests.request_bytes
     → setup ≡ record { versions = versions; users = users; nodes = nodes; node = node; request_bytes = limit } → setup ≡ opening_setup listing s
 setup-made listing f s names versions users nodes node limit setup named v u ns n l is =
     let each : nodes ≡ map (node_named listing (values_of s)) (tenants_of s.users.items) = ns ∙ map-twice f (node_named listing (values_of s)) names ∙ ap (map (node_named listing (values_of s))) named in
     let made : List ApiVersion → List Login → List Node → Node → Setup = λ v u ns n. record { versions = v; users = u; nodes = ns; node = n; request_bytes = s.requests.request_bytes } in
-    is ∙ ap (λ k. record { versions = versions; users = users; nodes = nodes; node = node; request_bytes = k }) l ∙ ap (λ v. made v users nodes node) v ∙ ap (λ u. made (listed listing) u nodes node) u
-    ∙ ap (λ ns. made (listed listing) (map (login_of (tenants_of s.users.items)) s.users.items) ns node) each
-    ∙ ap (made (listed listing) (map (login_of (tenants_of s.users.items)) s.users.items) (map (node_named listing (values_of s)) (tenants_of s.users.items))) n
+    is ∙ ap (λ k. record { versions = versions; users = users; nodes = nodes; node = node; request_bytes = k }) l ∙ ap (λ v. made v users nodes node) v ∙ ap (λ u. made (versions_of listing) u nodes node) u
+    ∙ ap (λ ns. made (versions_of listing) (map (login_of (tenants_of s.users.items)) s.users.items) ns node) each
+    ∙ ap (made (versions_of listing) (map (login_of (tenants_of s.users.items)) s.users.items) (map (node_named listing (values_of s)) (tenants_of s.users.items))) n
 
 -- a broker that is made of these parts is the one at its start
 pub opening-made : {X : Type 0} (listing : Listing) (f : X → List ℕ) (s : Settings) (users : List User) (names : List X) (tenants : List TenantState) (setup : Setup) (b : BrokerState)

@@ -15,11 +15,11 @@ use Rattle.kb_tenant_api.specs.Hosted as hosted
 use Rattle.kb_tenant_api.specs.Hosted.{TenantState}
 use Rattle.kb_tenant_api.specs.Turns.{IsTurn, HavePassed}
 use Rattle.kb_tenant.specs.Replies.{Silent}
-use Rattle.kb_isolation_spec.specs.Tenant.{Awaited, Wait, Records, Group, is_past, ready, asked}
+use Rattle.kb_isolation_spec.specs.Tenant.{Awaited, Wait, Records, Group, is_overdue, ready, asked}
 use Rattle.kb_isolation_spec.specs.Session.{Stage, Greets, BoundTo, Session, is_free, can}
 use Rattle.kb_isolation_spec.specs.Machine.{Line, first_able}
 use Rattle.kb_isolation_spec.specs.Machine.{find_line}
-use Rattle.kb_isolation_spec.specs.Broker.{BrokerState, IsSound, IsUnready, AreUnready, AnyWait, Rising, kept_of}
+use Rattle.kb_isolation_spec.specs.Broker.{BrokerState, IsSound, IsUnready, AreUnready, AnyWait, Rising, kept_of_tenant}
 use Rattle.kb_isolation_spec.specs.declared.whom.Whom.{Whom}
 use Rattle.kb_isolation_spec.specs.declared.whom.Whom.TheVariants as whoms
 use Rattle.kb_isolation_spec.specs.Turned.{Waked, IsPassedOver, SameOthers}
@@ -256,7 +256,7 @@ waiting-on b u = all-map (λ (l : Line). IsUnready AnyWait b l.number l.session.
     at : (n : ℕ) (st : Stage) → IsUnready AnyWait b n st → IsWaitingOnAt b.tenants n st
     at n (Greets h) u = tt
     at n (BoundTo t None) u = tt
-    at n (BoundTo t (Some w)) u = first-silent (kept_of b t) b.clock n w (u tt)
+    at n (BoundTo t (Some w)) u = first-silent (kept_of_tenant b t) b.clock n w (u tt)
 
 -- 4. Unready, by number
 
@@ -270,12 +270,12 @@ unready-at b u k = by (find_line k b.lines) refl
 pub at-unready : (b : BrokerState) → IsSound b → ((k : ℕ) → IsUnreadyAt k b) → AreUnready AnyWait b
 at-unready b sound h = each-find (IsUnreadyIn b) 0 b.last b.lines sound.rising h
 
-unready-in : (a b : BrokerState) (k : ℕ) (o : Option Session) → b.clock ≡ a.clock → ((t : ℕ) → kept_of b t ≡ kept_of a t) → IsUnreadyIn a k o → IsUnreadyIn b k o
+unready-in : (a b : BrokerState) (k : ℕ) (o : Option Session) → b.clock ≡ a.clock → ((t : ℕ) → kept_of_tenant b t ≡ kept_of_tenant a t) → IsUnreadyIn a k o → IsUnreadyIn b k o
 unready-in a b k None clock kept u = tt
 unready-in a b k (Some s) clock kept u = unready-same AnyWait a b k s.stage clock kept u
 
 -- a connection that is the same at a later moment, in which tenants keep the same
-pub unready-later : (a b : BrokerState) (k : ℕ) → b.clock ≡ a.clock → ((t : ℕ) → kept_of b t ≡ kept_of a t) → find_line k b.lines ≡ find_line k a.lines → IsUnreadyAt k a → IsUnreadyAt k b
+pub unready-later : (a b : BrokerState) (k : ℕ) → b.clock ≡ a.clock → ((t : ℕ) → kept_of_tenant b t ≡ kept_of_tenant a t) → find_line k b.lines ≡ find_line k a.lines → IsUnreadyAt k a → IsUnreadyAt k b
 unready-later a b k clock kept same u = subst (IsUnreadyIn b k) (sym same) (unready-in a b k (find_line k a.lines) clock kept u)
 
 -- 5. Looks by number
@@ -376,11 +376,11 @@ when-ok (Ok x) P ok h = h
 when-ok (Err x) P ok h = absurd (cc)
 
 -- a fetch whose deadline has come stands in the queue until then
-due-there : (clock : ℕ) (w : Wait) (o : Option queue.Wait) → until_of o ≡ Some (until w.awaited) → is_past clock w.awaited ≡ true → IsSomeAnd o (queue.IsDue clock)
+due-there : (clock : ℕ) (w : Wait) (o : Option queue.Wait) → until_of o ≡ Some (until w.awaited) → is_overdue clock w.awaited ≡ true → IsSomeAnd o (queue.IsDue clock)
 due-there clock w None e h = absurd (cc)
 due-there clock w (Some x) e h = by w.awaited e h
   where
-    by : (a : Awaited) → until_of (Some x) ≡ Some (until a) → is_past clock a ≡ true → queue.IsDue clock x
+    by : (a : Awaited) → until_of (Some x) ≡ Some (until a) → is_overdue clock a ≡ true → queue.IsDue clock x
     by (Records version body deadline limit) e h = let is : x.deadline ≡ deadline = cc in let come : deadline ≤ clock = grind (arith, nat_tests, h) in omega (arith, is, come)
     by Group e h = let no : false ≡ true = h in absurd (cc)
 
@@ -411,9 +411,9 @@ sought-minded H q (Some told) b ns v sought ready k = by (find_line k b.lines) r
     waits : (s : Session) (st : Stage) → s.stage ≡ st → find_line k b.lines ≡ Some s → IsUnready (IsPassedOver whoms.Due b.clock) b k st → IsUnready AnyWait b k st ⊎ (Contains ns k × IsSoughtAt whoms.All b.clock st)
     waits s (Greets h) is e u = inl tt
     waits s (BoundTo t None) is e u = inl tt
-    waits s (BoundTo t (Some w)) is e u = when (is_past b.clock w.awaited) refl
+    waits s (BoundTo t (Some w)) is e u = when (is_overdue b.clock w.awaited) refl
       where
-        when : (c : Bool) → is_past b.clock w.awaited ≡ c → IsUnready AnyWait b k (BoundTo t (Some w)) ⊎ (Contains ns k × IsSoughtAt whoms.All b.clock (BoundTo t (Some w)))
+        when : (c : Bool) → is_overdue b.clock w.awaited ≡ c → IsUnready AnyWait b k (BoundTo t (Some w)) ⊎ (Contains ns k × IsSoughtAt whoms.All b.clock (BoundTo t (Some w)))
         when true c = inr ((sought k).1 (inl (due-there b.clock w (fin.get q k) (v.dated k ∙ (ap deadline_in e ∙ ap deadline_at is)) c)), refl)
         when false c = inl (λ any. u c)
 

@@ -8,11 +8,11 @@ use Rattle.std.specs.Ordering.{nat_cmp, ordering_index}
 use Rattle.std.proofs.lemmas.Bool.Decides.{nat_tests}
 use Rattle.std.proofs.lemmas.Cmp.{ranked}
 use Rattle.std.proofs.lemmas.List.{get_or-map, get_or_default}
-use Rattle.kb_isolation_spec.specs.Session.{fresh}
-use Rattle.kb_isolation_spec.specs.Machine.{Line, each, on, those}
+use Rattle.kb_isolation_spec.specs.Session.{new_session}
+use Rattle.kb_isolation_spec.specs.Machine.{Line, each_line, on, those}
 use Rattle.kb_isolation_spec.specs.Machine.{find_line}
 use Rattle.kb_isolation_spec.specs.Broker.{BrokerState, Rising}
-use Rattle.kb_isolation_spec.specs.Calls.{closed, left_by, left_in, other_than, taken, without_output, is_open, open_in}
+use Rattle.kb_isolation_spec.specs.Calls.{closed, left_by, left_in, other_than, output_taken, without_output, is_open, open_in}
 use Rattle.kb_isolation_spec.proofs.Sets.{IsAt, rising-places, set-on, each-on_none, find-at, find-none}
 use Rattle.kb_isolation_spec.proofs.Steps.{remove-those, those-all}
 use Rattle.kb_connection.specs.View.{with_session}
@@ -87,7 +87,7 @@ searched-some b n ls r o e f is =
 pub open-found : (b : BrokerState) (n : ℕ) (o : Option ℕ) → Rising 0 b.last b.lines → IfNone o (AllByRecursion (λ l. l.number ≢ n) b.lines) → IfSome o (λ i. i < length b.lines) → IfSome o (λ i. (d : Line) → (get_or b.lines i d).number ≡ n) → is_some o ≡ is_open n b
 open-found b n None r none within some = sym (ap open_in (find-none n b.lines none))
 open-found b n (Some i) r none within some =
-    let d : Line = record { number = 0; session = fresh 0 } in
+    let d : Line = record { number = 0; session = new_session 0 } in
     let l = get_or b.lines i d in
     sym (ap open_in (find-found b i n l r (record { at = get-at b.lines i d within; number = some d })))
 
@@ -118,10 +118,10 @@ closed-none b n h =
     ap (λ o. record b { tenants = left_in b.clock n o b.tenants }) (sym (find-none n b.lines h))
     ∙ ap (λ x. record b { tenants = left_in b.clock n (find_line n b.lines) b.tenants; lines = x }) (sym (those-all n b.lines h))
 
-pub taken-found : (a b : BrokerState) (i n : ℕ) (l m : Line) → a ≡ b → Rising 0 b.last b.lines → IsFound b i n l → m ≡ with_session l (without_output l.session) → record a { lines = set a.lines i m } ≡ taken b n
+pub taken-found : (a b : BrokerState) (i n : ℕ) (l m : Line) → a ≡ b → Rising 0 b.last b.lines → IsFound b i n l → m ≡ with_session l (without_output l.session) → record a { lines = set a.lines i m } ≡ output_taken b n
 taken-found a b i n l m e r f h =
-    let same : set b.lines i m ≡ each (on l.number without_output) b.lines = set-on 0 b.last without_output b.lines i l m r f.at (ap (λ (x : Line). x.number) h) (ap (λ (x : Line). x.session) h) in
-    ap (λ (x : BrokerState). record x { lines = set x.lines i m }) e ∙ (ap (λ x. record b { lines = x }) same ∙ ap (λ k. taken b k) f.number)
+    let same : set b.lines i m ≡ each_line (on l.number without_output) b.lines = set-on 0 b.last without_output b.lines i l m r f.at (ap (λ (x : Line). x.number) h) (ap (λ (x : Line). x.session) h) in
+    ap (λ (x : BrokerState). record x { lines = set x.lines i m }) e ∙ (ap (λ x. record b { lines = x }) same ∙ ap (λ k. output_taken b k) f.number)
 
-pub taken-none : (b : BrokerState) (n : ℕ) → AllByRecursion (λ l. l.number ≢ n) b.lines → b ≡ taken b n
+pub taken-none : (b : BrokerState) (n : ℕ) → AllByRecursion (λ l. l.number ≢ n) b.lines → b ≡ output_taken b n
 taken-none b n h = sym (ap (λ x. record b { lines = x }) (each-on_none n without_output b.lines h))

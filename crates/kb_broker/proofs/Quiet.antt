@@ -10,10 +10,10 @@ use Rattle.kb_waits.specs.Queue.{Queue, IsFirstDeadline}
 use Rattle.kb_store.specs.Disk.{Disk}
 use Rattle.kb_tenant_api.specs.Hosted.{TenantState, passed}
 use Rattle.kb_tenants.specs.Tenants.{IsIdleUntil}
-use Rattle.kb_isolation_spec.specs.Tenant.{Awaited, Records, Group, is_past}
+use Rattle.kb_isolation_spec.specs.Tenant.{Awaited, Records, Group, is_overdue}
 use Rattle.kb_isolation_spec.specs.Session.{Stage, Greets, BoundTo}
 use Rattle.kb_isolation_spec.specs.Machine.{Moment, Line, all_woken, find_line, turns}
-use Rattle.kb_isolation_spec.specs.Broker.{BrokerState, IsReady, IsUnready, AreUnready, AnyWait, IsStep, Mine, kept_of, view_of}
+use Rattle.kb_isolation_spec.specs.Broker.{BrokerState, IsReady, IsUnready, AreUnready, AnyWait, IsStep, Mine, kept_of_tenant, view_of}
 use Rattle.kb_isolation_spec.specs.Calls.{moved}
 use Rattle.kb_isolation_spec.specs.declared.whom.Whom.TheVariants as whoms
 use Rattle.kb_isolation_spec.specs.Turned.{IsPassedOver}
@@ -52,7 +52,7 @@ no-deadline H q ts ls quiet_until moment v next n = subst (λ o. IfSome o (λ d.
     by None e = tt
     by (Some w) e = let h = first-within q n w next.first quiet_until e next.first_is in subst (λ m. m ≤ w.deadline) (sym next.is) h
 
-early : (clock moment : ℕ) (x : Awaited) → clock < moment → moment ≤ until x → is_past clock x ≡ false
+early : (clock moment : ℕ) (x : Awaited) → clock < moment → moment ≤ until x → is_overdue clock x ≡ false
 early clock moment (Records version body deadline limit) before late = let h : clock < deadline = omega (arith, before, late) in grind (arith, nat_tests, h)
 early clock moment Group before late = refl
 
@@ -74,7 +74,7 @@ still-unready b now moment ready before late =
 -- 3. A moment
 
 -- where tenants keep what they keep, and nothing that waits is ready, a moment is nothing but the clock
-pub quiet-step : (b : BrokerState) (now : ℕ) → IsReady b → ((t : ℕ) → passed (max b.clock now) (kept_of b t) ≡ kept_of b t) → AreUnready AnyWait (moved b now) → IsStep (Moment now) b (moved b now)
+pub quiet-step : (b : BrokerState) (now : ℕ) → IsReady b → ((t : ℕ) → passed (max b.clock now) (kept_of_tenant b t) ≡ kept_of_tenant b t) → AreUnready AnyWait (moved b now) → IsStep (Moment now) b (moved b now)
 quiet-step b now ready kept unready = record {
   last = omega arith;
   grows = record { setup = refl; names = refl; own = λ t. omega arith; unbound = omega arith };
@@ -94,7 +94,7 @@ pub quiet-before : (b : BrokerState) (q : Queue) (quiet_until : ℤ) (moment : �
 quiet-before b q quiet_until moment ready next idle late = λ now before.
     let le : moment ≤ moment_after quiet_until = subst (λ m. m ≤ moment_after quiet_until) (sym next.is) (within-quiet next.first quiet_until) in
     let earlier : max b.clock now < moment_after quiet_until = omega (arith, before, le) in
-    let kept : (t : ℕ) → passed (max b.clock now) (kept_of b t) ≡ kept_of b t = λ t. idle t (max b.clock now) (up-to quiet_until (max b.clock now) earlier) in
+    let kept : (t : ℕ) → passed (max b.clock now) (kept_of_tenant b t) ≡ kept_of_tenant b t = λ t. idle t (max b.clock now) (up-to quiet_until (max b.clock now) earlier) in
     let unready = still-unready b now moment ready before late in
     record { kept = kept; unready = unready; step = quiet-step b now ready kept unready }
 

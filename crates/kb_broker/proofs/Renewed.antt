@@ -8,7 +8,7 @@ use Rattle.kb_tenant_api.specs.Hosted.{TenantState, kept_of, refusals_of}
 use Rattle.kb_tenant_api.specs.Turns.{HavePassed, IsTurn, PassesPartly}
 use Rattle.kb_tenant_api.specs.Waiters.{AreTicked}
 use Rattle.kb_tenants.specs.Tenants.{AreQuietBut, IsQuietBut}
-use Rattle.kb_broker.specs.Places.{Leaves}
+use Rattle.kb_broker.specs.Places.{LeavesQuietBut}
 
 module _ (H G : Type 0) (clock place : ℕ) (ts us vs : List TenantState) (back : G → H) (passed : HavePassed clock H ts us) (turn : IsTurn place G us vs)
     (stays : G → (t : ℕ) → kept_of vs t ≡ kept_of us t) where
@@ -30,6 +30,6 @@ module _ (H G : Type 0) (clock place : ℕ) (ts us vs : List TenantState) (back 
     waits = λ honest u. subst (λ k. AreTicked (kept_of ts u).groups k.groups) (sym (stays honest u)) (passed.waits (back honest) u);
   }
 
-  pub leaves-renewed : (answered : Option (Vec ℕ Global)) → IfSome answered (λ ns. H → AreQuietBut ns.items ts us) → G → Leaves answered ts vs
+  pub leaves-renewed : (answered : Option (Vec ℕ Global)) → IfSome answered (λ ns. H → AreQuietBut ns.items ts us) → G → LeavesQuietBut answered ts vs
   leaves-renewed None quiet honest = tt
   leaves-renewed (Some ns) quiet honest = λ t. subst (λ k. IsQuietBut ns.items (kept_of ts t) k) (sym (stays honest t)) (quiet (back honest) t)

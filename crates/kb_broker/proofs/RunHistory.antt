@@ -7,18 +7,18 @@ use Rattle.std.proofs.lemmas.List.{map-append, append-nil, length-map}
 use Rattle.std.proofs.lemmas.List.Sums.{sum_by-cons}
 use Rattle.std.proofs.lemmas.Simd.{map-map}
 use Rattle.std.proofs.lemmas.List.Sorted.{IsPermutation-refl, IsPermutation-trans, IsPermutation-middle, IsPermutation-map, IsPermutation-append_left, IsPermutation-append_right, IsPermutation-filter_both, length_permutation}
-use Rattle.kb_isolation_spec.specs.Session.{fresh}
+use Rattle.kb_isolation_spec.specs.Session.{new_session}
 use Rattle.kb_isolation_spec.specs.Machine.{Happening, Opens, Comes, Closes, Moment, Line, Sent, sent, leaving, those_sent, run}
 use Rattle.kb_isolation_spec.specs.Owners.{purge}
 use Rattle.kb_tenant_state.specs.Counts.{IsCalm}
-use Rattle.kb_isolation_spec.specs.Broker.{BrokerState, IsCalmFor, Grows, Mine, Rising, IsRun, view_of}
+use Rattle.kb_isolation_spec.specs.Broker.{BrokerState, IsCalmFor, Grows, Mine, Rising, IsEventRun, view_of}
 use Rattle.kb_isolation_spec.proofs.Runs.{run-step, those_sent-append, those_sent-map}
 use Rattle.kb_isolation_spec.proofs.Parts.{grows-then, calm-first, calm-then}
 use Rattle.kb_broker.specs.declared.run.Event.{Event}
 use Rattle.kb_broker.specs.declared.run.Event.TheVariants as events
 use Rattle.kb_store.specs.Disk.{Disk}
 use Rattle.kb_broker.specs.Hosts.{OnStore, is_honest}
-use Rattle.kb_broker.specs.Runs.{happening_of, happenings, is_opening, numbers_of_lines, opening, connections_of, Leads, emptied, IsPassed, Passes}
+use Rattle.kb_broker.specs.Runs.{happening_of, happenings, is_opening, numbers_of_lines, opening, connections_of, Leads, emptied, IsPassed, PassesEvents}
 use Rattle.kb_broker.proofs.Once.{once-loud}
 use Rattle.kb_broker.proofs.RunOrder.{AreRising, numbered}
 
@@ -27,7 +27,7 @@ use Rattle.kb_broker.proofs.RunOrder.{AreRising, numbered}
 grows-emptied : (b : BrokerState) → Grows b (emptied b)
 grows-emptied b = record { setup = refl; names = refl; own = λ t. omega arith; unbound = omega arith }
 
-pub grows-passes : (honest : Type 0) (es : List Happening) (old new : BrokerState) (got : List Sent) → honest → Passes honest es old new got → Grows old new
+pub grows-passes : (honest : Type 0) (es : List Happening) (old new : BrokerState) (got : List Sent) → honest → PassesEvents honest es old new got → Grows old new
 grows-passes honest [] old new got h p = subst (Grows old) (sym p.0) (grows-emptied old)
 grows-passes honest (e ∷ es) old new got h p = grows-then old p.0 new (p.3.step h).grows (grows-passes honest es p.0 new p.2 h p.4)
 
@@ -39,7 +39,7 @@ ended-leaving (Comes n piece) old new ended h q = h.1
 ended-leaving (Closes n) old new ended h q = h.1
 ended-leaving (Moment now) old new ended h q = h.1
 
-pub run-passes : (honest : Type 0) (t : ℕ) (mine : ℕ → Bool) (es : List Happening) (old new : BrokerState) (got : List Sent) → honest → Passes honest es old new got → Mine t mine es old → IsCalmFor t old new → those_sent mine got ≡ run (purge mine es) (view_of t mine old)
+pub run-passes : (honest : Type 0) (t : ℕ) (mine : ℕ → Bool) (es : List Happening) (old new : BrokerState) (got : List Sent) → honest → PassesEvents honest es old new got → Mine t mine es old → IsCalmFor t old new → those_sent mine got ≡ run (purge mine es) (view_of t mine old)
 run-passes honest t mine [] old new got h p m q = ap (those_sent mine) p.1 ∙ those_sent-map mine old.lines
 run-passes honest t mine (e ∷ es) old new got h p m q =
     let next = p.0 in
@@ -67,7 +67,7 @@ pub numbers-leads : (e : Happening) (es : List Happening) (old new : BrokerState
 numbers-leads (Opens n) es old new ended h = elim h [
   | inl k ↦ same-permutation (numbers_of_lines old.lines ++ n ∷ opening es) (numbered ended ++ connections_of es new) (
       sym (append_assoc (numbers_of_lines old.lines) (n ∷ []) (opening es))
-      ∙ (ap (λ xs. xs ++ opening es) (sym (map-append (λ (l : Line). l.number) old.lines (record { number = n; session = fresh old.setup.request_bytes } ∷ [])))
+      ∙ (ap (λ xs. xs ++ opening es) (sym (map-append (λ (l : Line). l.number) old.lines (record { number = n; session = new_session old.setup.request_bytes } ∷ [])))
       ∙ (ap (connections_of es) (sym k.0) ∙ ap (λ ss. numbered ss ++ connections_of es new) (sym k.1))))
   | inr k ↦ subst (IsPermutation (numbers_of_lines old.lines ++ n ∷ opening es)) (
       ap (λ ls. n ∷ (numbers_of_lines ls ++ opening es)) (sym (ap (λ (b : BrokerState). b.lines) k.0.is))
@@ -90,7 +90,7 @@ numbers-leads (Closes n) es old new ended h =
 numbers-leads (Moment now) es old new ended h = same-permutation (connections_of es old) (numbered ended ++ connections_of es new) (
     ap (λ xs. xs ++ opening es) (sym h.0) ∙ ap (λ ss. numbered ss ++ connections_of es new) (sym h.1))
 
-pub numbers-passes : (honest : Type 0) (es : List Happening) (old new : BrokerState) (got : List Sent) → Passes honest es old new got → IsPermutation (connections_of es old) (numbered got)
+pub numbers-passes : (honest : Type 0) (es : List Happening) (old new : BrokerState) (got : List Sent) → PassesEvents honest es old new got → IsPermutation (connections_of es old) (numbered got)
 numbers-passes honest [] old new got p = same-permutation (numbers_of_lines old.lines ++ []) (numbered got) (append-nil (numbers_of_lines old.lines) ∙ (sym (numbered-sent old.lines) ∙ ap numbered (sym p.1)))
 numbers-passes honest (e ∷ es) old new got p =
     let next = p.0 in
@@ -100,18 +100,18 @@ numbers-passes honest (e ∷ es) old new got p =
 
 -- their numbers rise
 
-rising-opening : (low last : ℕ) (es : List Happening) → low ≤ last → IsRun last es → AreRising low (opening es)
+rising-opening : (low last : ℕ) (es : List Happening) → low ≤ last → IsEventRun last es → AreRising low (opening es)
 rising-opening low last [] h r = tt
 rising-opening low last (Opens n ∷ es) h r = (let lt = r.0 in omega arith, rising-opening n n es (omega arith) r.1)
 rising-opening low last (Comes n piece ∷ es) h r = rising-opening low last es h r
 rising-opening low last (Closes n ∷ es) h r = rising-opening low last es h r
 rising-opening low last (Moment now ∷ es) h r = rising-opening low last es h r.1
 
-rising-lines : (low last : ℕ) (ls : List Line) (es : List Happening) → Rising low last ls → IsRun last es → AreRising low (numbers_of_lines ls ++ opening es)
+rising-lines : (low last : ℕ) (ls : List Line) (es : List Happening) → Rising low last ls → IsEventRun last es → AreRising low (numbers_of_lines ls ++ opening es)
 rising-lines low last [] es r run = rising-opening low last es r run
 rising-lines low last (l ∷ ls) es r run = (r.0, rising-lines l.number last ls es r.1 run)
 
-pub rising-connections : (es : List Happening) (b : BrokerState) → Rising 0 b.last b.lines → IsRun b.last es → AreRising 0 (connections_of es b)
+pub rising-connections : (es : List Happening) (b : BrokerState) → Rising 0 b.last b.lines → IsEventRun b.last es → AreRising 0 (connections_of es b)
 rising-connections es b r run = rising-lines 0 b.last b.lines es r run
 
 -- 3. How many there are
@@ -149,7 +149,7 @@ room-leads e es old new ended h =
 abbrev pub Continues : {S : Type 0} → (S → Disk) → List Happening → List Happening → OnStore S → OnStore S → List Sent → Type 0
 Continues {S = S} disk all left first now ended =
     (last : S) → ((disk last).honest → is_honest disk now) → (new : BrokerState) (got : List Sent)
-    → Passes (disk last).honest left now.state new got → Passes (disk last).honest all first.state new (ended ++ got)
+    → PassesEvents (disk last).honest left now.state new got → PassesEvents (disk last).honest all first.state new (ended ++ got)
 
 pub passed-weaker : (honest later : Type 0) (e : Happening) (old new : BrokerState) (ended : List Sent) → (later → honest) → IsPassed honest e old new ended → IsPassed later e old new ended
 passed-weaker honest later e old new ended h p = record { step = λ k. p.step (h k); leads = p.leads }
@@ -159,8 +159,8 @@ pub continues-next : {S : Type 0} (disk : S → Disk) (all left : List Happening
     → Continues disk all (e ∷ left) first now before → Continues disk all left first next after
 continues-next disk all left e first now next before ended after later is passed c = λ last honest new got p.
     let truthful = (disk last).honest in
-    let here : Passes truthful (e ∷ left) now.state new (ended ++ got) = (next.state, ended, got, passed-weaker (is_honest disk next) truthful e now.state next.state ended honest passed, p, refl) in
-    subst (Passes truthful all first.state new) (sym (ap (λ ss. ss ++ got) is ∙ append_assoc before ended got)) (c last (λ h. later (honest h)) new (ended ++ got) here)
+    let here : PassesEvents truthful (e ∷ left) now.state new (ended ++ got) = (next.state, ended, got, passed-weaker (is_honest disk next) truthful e now.state next.state ended honest passed, p, refl) in
+    subst (PassesEvents truthful all first.state new) (sym (ap (λ ss. ss ++ got) is ∙ append_assoc before ended got)) (c last (λ h. later (honest h)) new (ended ++ got) here)
 
 -- the events that are left, by the next of them
 pub happenings-next : (all : List Event) (i : ℕ) (e : Event) → i < length all → e ≡ get_or all i e → happenings (drop i all) ≡ happening_of e ∷ happenings (drop (suc i) all)

@@ -10,7 +10,7 @@ use Rattle.kb_isolation_spec.proofs.Isolation.{last-step}
 use Rattle.kb_isolation_spec.proofs.Laws.{those-each}
 use Rattle.kb_isolation_spec.proofs.Runs.{run-step, those_sent-append, those_sent-map}
 use Rattle.kb_isolation_spec.proofs.Parts.{calm-first, calm-then}
-use Rattle.kb_broker.specs.Runs.{emptied, Passes}
+use Rattle.kb_broker.specs.Runs.{emptied, PassesEvents}
 use Rattle.kb_broker.proofs.RunHistory.{ended-leaving, grows-passes}
 use Rattle.kb_broker.proofs.ScriptHush.{mine-hushed}
 
@@ -23,7 +23,7 @@ pub record IsTold (t : ℕ) (mine : ℕ → Bool) (es later : List Happening) (o
   pub world : view_of t mine new ≡ quieted (last_world (purge mine es) (view_of t mine old))
   pub owns : Mine t mine later new
 
-pub told-passes : (honest : Type 0) (t : ℕ) (mine : ℕ → Bool) (es later : List Happening) (old new : BrokerState) (got : List Sent) → honest → Passes honest es old new got → Mine t mine (es ++ later) old → IsCalmFor t old new
+pub told-passes : (honest : Type 0) (t : ℕ) (mine : ℕ → Bool) (es later : List Happening) (old new : BrokerState) (got : List Sent) → honest → PassesEvents honest es old new got → Mine t mine (es ++ later) old → IsCalmFor t old new
     → IsTold t mine es later old new got
 told-passes honest t mine [] later old new got h p m q = record {
   sent = ap (those_sent mine) p.1 ∙ those_sent-map mine old.lines;

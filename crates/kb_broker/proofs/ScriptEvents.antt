@@ -8,14 +8,14 @@ use Rattle.kb_isolation_spec.specs.Session.{Session}
 use Rattle.kb_isolation_spec.specs.Machine.{Happening, Opens, Comes, Closes, Moment}
 use Rattle.kb_isolation_spec.specs.Broker.{BrokerState, IsReady, IsStep}
 use Rattle.kb_isolation_spec.specs.Machine.{find_line}
-use Rattle.kb_isolation_spec.specs.Calls.{opened, closed, left_in, taken, is_calm, is_shut, output_of}
+use Rattle.kb_isolation_spec.specs.Calls.{opened, closed, left_in, output_taken, is_calm, is_shut, output_of}
 use Rattle.kb_isolation_spec.specs.Turned.{SameOthers}
 use Rattle.kb_isolation_spec.proofs.Steps.{sound-opened, settled-opened, unready-opened, step-opened, sound-closed, settled-closed, unready-closed, step-closed}
 use Rattle.kb_broker.specs.declared.script.ScriptFault.{ScriptFault}
 use Rattle.kb_broker.specs.declared.script.ScriptFault.TheVariants as faults
 use Rattle.kb_broker.specs.Places.{numbers}
 use Rattle.kb_broker.specs.Script.{Told, Event, Plays, Stops, here, is_in_place, course_of, sent_text, step_text}
-use Rattle.kb_broker.specs.ScriptRun.{IsQuiet, hushed, Happens, HappensSilently, IsSpoken, IsUnwritten, IsDone, IsBroken, words, shut_marks, said_since}
+use Rattle.kb_broker.specs.ScriptRun.{IsQuiet, hushed, Happens, HappensSilently, IsSpoken, IsUnwritten, IsLinePlayed, IsBroken, words, shut_marks, said_since}
 use Rattle.kb_broker.proofs.Left.{left-cases}
 use Rattle.kb_broker.proofs.ScriptWords.{silent-opened, silent-closed, silent-same, quiet-opened, quiet-closed, quiet-same, said-one, taken-hushed, hushed-quiet, open-opened, open-closed, open-stays}
 use Rattle.kb_broker.proofs.ScriptSaid.{words-since}
@@ -69,7 +69,7 @@ silently e b new happens quiet same = record {
 pub text-is : (b new : BrokerState) (n : ℕ) (text output : List ℕ) (shut : Bool) → IsReady new → IsQuiet b → SameOthers n b new → text ≡ sent_text n output shut → output ≡ output_of n new → shut ≡ (is_shut n new && not (is_shut n b)) → text ≡ words b new
 text-is b new n text output shut ready quiet others is got closed = is ∙ ap (λ o. sent_text n o shut) got ∙ ap (sent_text n (output_of n new)) closed ∙ sym (said-one n b new ready.sound.rising quiet others)
 
-pub final-is : (b new final : BrokerState) (n : ℕ) → IsReady new → IsQuiet b → SameOthers n b new → final ≡ taken new n → final ≡ hushed new
+pub final-is : (b new final : BrokerState) (n : ℕ) → IsReady new → IsQuiet b → SameOthers n b new → final ≡ output_taken new n → final ≡ hushed new
 final-is b new final n ready quiet others is = is ∙ taken-hushed n b new ready.sound.rising quiet others
 
 -- a silent event, as one that was written
@@ -116,10 +116,10 @@ if-err-both (Ok x) P Q f h s = tt
 if-err-both (Err e) P Q f h s = f e h s
 
 pub done-silently : {A E : Type 0} (r : Result A E) (number : ℕ) (b new : BrokerState) (t : Told) (e : Happening) (w : Option (List ℕ)) → t ≡ Event e → is_in_place (here b) e ≡ true → OnOk r (HappensSilently e b new)
-    → OnOk r (IsDone (course_of number (here b) t) b new w w)
+    → OnOk r (IsLinePlayed (course_of number (here b) t) b new w w)
 done-silently r number b new t e w is placed h =
-    on-ok r (HappensSilently e b new) (IsDone (course_of number (here b) t) b new w w)
-    (λ s. subst (λ k. IsDone k b new w w) (sym (course-plays number b t e is placed)) (spoken-silently e b new w s)) h
+    on-ok r (HappensSilently e b new) (IsLinePlayed (course_of number (here b) t) b new w w)
+    (λ s. subst (λ k. IsLinePlayed k b new w w) (sym (course-plays number b t e is placed)) (spoken-silently e b new w s)) h
 
 -- the writer failed
 pub cut-off : {A : Type 0} (r : Result A ScriptFault) (e : Happening) (b new : BrokerState) (text : List ℕ) (from to : Option (List ℕ)) → Happens e b new → text ≡ words b new → IfErr r (λ fault. fault ≡ faults.Write)

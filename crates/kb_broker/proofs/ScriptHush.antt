@@ -12,7 +12,7 @@ use Rattle.kb_isolation_spec.specs.Requests.{Asked, Versions, OtherVersions, Han
 use Rattle.kb_isolation_spec.specs.Session.{Greeting, Unshaken, Shaken, Bare, Stage, Greets, BoundTo, Session, shut_down, replied, throttled, fed, room, unanswerable, in_front}
 use Rattle.kb_isolation_spec.specs.Greeting.{Setup, bound, failed, failed_reply, login, logged_in, bare_login, greeting_after, shaken, authenticated, greeted_by, greeted_frame, greeted_at, greeted}
 use Rattle.kb_isolation_spec.specs.Machine.{Happening, Opens, Comes, Closes, Moment, Line, again}
-use Rattle.kb_isolation_spec.specs.Owners.{greet_turn_at, greet_turn, heard, whose, destiny, Pairwise}
+use Rattle.kb_isolation_spec.specs.Owners.{greet_turn_at, greet_turn, greeted_so_far, whose, destiny, Pairwise}
 use Rattle.kb_isolation_spec.specs.Broker.{BrokerState, Mine}
 use Rattle.kb_isolation_spec.specs.Calls.{without_output}
 use Rattle.kb_isolation_spec.specs.Told.{quieted_lines}
@@ -102,8 +102,8 @@ same-again : (setup : Setup) (n : ℕ) (s t : Session) → Same s t → Same (ag
 same-again setup zero s t e = e
 same-again setup (suc n) s t e = same-again setup n (greet_turn setup s) (greet_turn setup t) (same-turn setup s t e)
 
-same-heard : (setup : Setup) (s t : Session) → Same s t → Same (heard setup s) (heard setup t)
-unfolding heard
+same-heard : (setup : Setup) (s t : Session) → Same s t → Same (greeted_so_far setup s) (greeted_so_far setup t)
+unfolding greeted_so_far
 same-heard setup s t e =
     let f : length s.unread ≡ length t.unread = ap (λ (x : Session). length x.unread) e in
     same-again setup (length s.unread) s t e ∙ ap (λ n. without_output (again (greet_turn setup) n t)) f
@@ -124,9 +124,9 @@ same-fed piece s t e = fed-hushed piece s ∙ ap (fed piece) e ∙ sym (fed-hush
 same-destiny : (setup : Setup) (n : ℕ) (s t : Session) (es : List Happening) → Same s t → destiny setup n s es ≡ destiny setup n t es
 same-destiny setup n s t [] e = ap (λ (x : Session). whose x.stage) e
 same-destiny setup n s t (Opens m ∷ es) e = same-destiny setup n s t es e
-same-destiny setup n s t (Comes m piece ∷ es) e = by (eqb m n) (same-destiny setup n (heard setup (fed piece s)) (heard setup (fed piece t)) es (same-heard setup (fed piece s) (fed piece t) (same-fed piece s t e))) (same-destiny setup n s t es e)
+same-destiny setup n s t (Comes m piece ∷ es) e = by (eqb m n) (same-destiny setup n (greeted_so_far setup (fed piece s)) (greeted_so_far setup (fed piece t)) es (same-heard setup (fed piece s) (fed piece t) (same-fed piece s t e))) (same-destiny setup n s t es e)
   where
-    by : (b : Bool) → destiny setup n (heard setup (fed piece s)) es ≡ destiny setup n (heard setup (fed piece t)) es → destiny setup n s es ≡ destiny setup n t es → cond b (destiny setup n (heard setup (fed piece s)) es) (destiny setup n s es) ≡ cond b (destiny setup n (heard setup (fed piece t)) es) (destiny setup n t es)
+    by : (b : Bool) → destiny setup n (greeted_so_far setup (fed piece s)) es ≡ destiny setup n (greeted_so_far setup (fed piece t)) es → destiny setup n s es ≡ destiny setup n t es → cond b (destiny setup n (greeted_so_far setup (fed piece s)) es) (destiny setup n s es) ≡ cond b (destiny setup n (greeted_so_far setup (fed piece t)) es) (destiny setup n t es)
     by true here rest = here
     by false here rest = rest
 same-destiny setup n s t (Closes m ∷ es) e = by (eqb m n) (same-destiny setup n s t es e)
@@ -137,7 +137,7 @@ same-destiny setup n s t (Closes m ∷ es) e = by (eqb m n) (same-destiny setup 
 same-destiny setup n s t (Moment now ∷ es) e = same-destiny setup n s t es e
 
 fate-hushed : (setup : Setup) (l : Line) → SameFate setup l (record { number = l.number; session = without_output l.session })
-fate-hushed setup l = record { number = refl; fate = λ es. same-destiny setup l.number (heard setup (without_output l.session)) (heard setup l.session) es (same-heard setup (without_output l.session) l.session refl) }
+fate-hushed setup l = record { number = refl; fate = λ es. same-destiny setup l.number (greeted_so_far setup (without_output l.session)) (greeted_so_far setup l.session) es (same-heard setup (without_output l.session) l.session refl) }
 
 fates-hushed : (setup : Setup) (ls : List Line) → Pairwise (SameFate setup) ls (quieted_lines ls)
 fates-hushed setup [] = tt

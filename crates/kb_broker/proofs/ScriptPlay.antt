@@ -13,8 +13,8 @@ use Rattle.kb_isolation_spec.specs.Calls.{is_calm}
 use Rattle.kb_isolation_spec.specs.Told.{said}
 use Rattle.kb_broker.specs.declared.script.ScriptFault.{ScriptFault}
 use Rattle.kb_broker.specs.declared.script.ScriptFault.TheVariants as faults
-use Rattle.kb_broker.specs.Script.{MOST_LINES, MOST_BYTES, LONGEST_LINE, Place, Told, Event, Nothing, Wrong, Course, Plays, Passes, Stops, Script, here, told, is_in_place, after_event, after_course, has_room, fault_where, fault_within, IsLengthFault, course_of, course_by, course, onto, pieces, and_then, read_from, said_by, script, script_text}
-use Rattle.kb_broker.specs.ScriptRun.{IsQuiet, hushed, IsAt, IsCutOff, IsDone, IsBroken, IsWritten, IsWrittenInPart, IsPlayed, IsEnded, IsCut, AreTaken, ArePlayed, HavePlayed, IsStopped, words}
+use Rattle.kb_broker.specs.Script.{MOST_LINES, MOST_BYTES, LONGEST_LINE, Place, Told, Event, Nothing, Wrong, Course, Plays, Passes, Stops, Script, here, told, is_in_place, after_event, after_course, may_add_line, fault_where, fault_within, IsLengthFault, course_of, course_by, course, onto, pieces, and_then, read_from, said_by, script, script_text}
+use Rattle.kb_broker.specs.ScriptRun.{IsQuiet, hushed, IsPlaceIn, IsCutOff, IsLinePlayed, IsBroken, AreStepsWritten, IsWrittenInPart, IsPlayed, IsEnded, IsCut, AreTaken, ArePlayed, HavePlayed, IsStopped, words}
 use Rattle.kb_broker.proofs.ScriptWords.{at-hushed, ready-hushed, quiet-hushed}
 use Rattle.kb_broker.proofs.ScriptReading.{in-length}
 use Rattle.kb_broker.proofs.ScriptTells.{Runs, runs-more, text-more, runs-tell}
@@ -58,7 +58,7 @@ read-none before p = refl
 
 -- so many bytes are left behind those lines
 abbrev HasLeft : List (List ℕ) → ℕ → Type 0
-HasLeft before room = (bytes : ℕ) → 0 < bytes → has_room before bytes ≡ nat_le bytes room
+HasLeft before room = (bytes : ℕ) → 0 < bytes → may_add_line before bytes ≡ nat_le bytes room
 
 le-shift : (start bytes room most : ℕ) → start + room ≡ most → nat_le (start + bytes) most ≡ nat_le bytes room
 le-shift start bytes room most e = by (nat_le (start + bytes) most) refl (nat_le bytes room) refl
@@ -89,8 +89,8 @@ course-fault : (before : List (List ℕ)) (p : Place) (line : List ℕ) (number 
     → course before p line ≡ course_by number p line found
 unfolding course
 course-fault before p line number room found e left some is =
-    ap (λ n. course_by n p line (fault_where n (has_room before) line)) e
-    ∙ ap (course_by number p line) (fault-same number (has_room before) (λ bytes. nat_le bytes room) line (left (LONGEST_LINE + 1) (omega arith)) (left (length line) some) ∙ is)
+    ap (λ n. course_by n p line (fault_where n (may_add_line before) line)) e
+    ∙ ap (course_by number p line) (fault-same number (may_add_line before) (λ bytes. nat_le bytes room) line (left (LONGEST_LINE + 1) (omega arith)) (left (length line) some) ∙ is)
 
 in-place-same : (p q : Place) (e : Happening) → ((k : ℕ) → p.open_now k ≡ q.open_now k) → p.last ≡ q.last → is_in_place p e ≡ is_in_place q e
 in-place-same p q (Opens n) o l = ap (λ x. nat_lt x n) l
@@ -98,12 +98,12 @@ in-place-same p q (Comes n piece) o l = o n
 in-place-same p q (Closes n) o l = o n
 in-place-same p q (Moment now) o l = refl
 
-course-same : (p : Place) (b : BrokerState) (number : ℕ) (t : Told) → IsAt p b → course_of number p t ≡ course_of number (here b) t
+course-same : (p : Place) (b : BrokerState) (number : ℕ) (t : Told) → IsPlaceIn p b → course_of number p t ≡ course_of number (here b) t
 course-same p b number Nothing a = refl
 course-same p b number Wrong a = refl
 course-same p b number (Event f) a = ap (λ x. cond x (Plays f) (Stops (faults.BadLine number))) (in-place-same p (here b) f a.open_now a.last)
 
-at-event : (p : Place) (b new : BrokerState) (e : Happening) → IsAt p b → IsAt (after_event e (here b)) new → IsAt (after_event e p) new
+at-event : (p : Place) (b new : BrokerState) (e : Happening) → IsPlaceIn p b → IsPlaceIn (after_event e (here b)) new → IsPlaceIn (after_event e p) new
 at-event p b new (Opens n) a h = record { open_now = λ k. ap (λ x. k == n || x) (a.open_now k) ∙ h.open_now k; last = h.last }
 at-event p b new (Comes n piece) a h = record { open_now = λ k. a.open_now k ∙ h.open_now k; last = a.last ∙ h.last }
 at-event p b new (Closes n) a h = record { open_now = λ k. ap (λ x. not (k == n) && x) (a.open_now k) ∙ h.open_now k; last = a.last ∙ h.last }
@@ -140,7 +140,7 @@ pub record Played (a b : BrokerState) (xs : List ℕ) (to from_writer to_writer 
   pub lines : pieces xs ≡ before ++ pieces ys
   pub at_line : length before + 1 ≡ line
   pub at_room : length (concat before) + room ≡ MOST_BYTES
-  pub stands : IsAt place b
+  pub stands : IsPlaceIn place b
   pub runs : Runs a es steps b
   pub wrote : Appends from_writer to_writer (script_text steps)
   pub is : (rest : List (List ℕ)) → said_by a (before ++ rest) ≡ record { events = es ++ (read_from before place rest).events; fault = (read_from before place rest).fault }
@@ -164,7 +164,7 @@ played-start a (Some xs) w = record {
 }
 
 -- what was played is written
-written : (a b : BrokerState) (es : List Happening) (steps : List (List Sent)) (from to : Option (List ℕ)) → is_calm a ≡ true → IsSound a → Runs a es steps b → Appends from to (script_text steps) → IsWritten a es from to
+written : (a b : BrokerState) (es : List Happening) (steps : List (List Sent)) (from to : Option (List ℕ)) → is_calm a ≡ true → IsSound a → Runs a es steps b → Appends from to (script_text steps) → AreStepsWritten a es from to
 written a b es steps from to calm sound runs wrote = (steps, runs-tell a b es steps runs calm sound, wrote)
 
 -- the events of a text are those that were played and those of what is left
@@ -182,7 +182,7 @@ lines-played : (a b : BrokerState) (xs : List ℕ) (to w0 w w2 : Option (List �
 lines-played a b xs to w0 w w2 line room calm sound h wrote =
     let is : said_by a h.before ≡ record { events = h.es; fault = None } = said-is a b xs to w0 w line room h in (
       ap (λ (x : Script). x.fault) is,
-      subst (λ es. IsWritten a es w0 w2) (sym (ap (λ (x : Script). x.events) is)) (written a b h.es h.steps w0 w2 calm sound h.runs wrote),
+      subst (λ es. AreStepsWritten a es w0 w2) (sym (ap (λ (x : Script). x.events) is)) (written a b h.es h.steps w0 w2 calm sound h.runs wrote),
     )
 
 same_events : (s : Script) (es : List Happening) (t : Script) → s ≡ record { events = es ++ t.events; fault = t.fault } → t.events ≡ [] → es ≡ s.events
@@ -200,12 +200,12 @@ played-end a b (Some xs) to w0 w line room calm sound h none =
 
 -- the next line ends the script
 played-stop : (a b : BrokerState) (xs : List ℕ) (to w0 w : Option (List ℕ)) (line room : ℕ) (fault : ScriptFault) → is_calm a ≡ true → IsSound a → (h : Played a b xs to w0 w line room)
-    → read_from h.before h.place (pieces h.ys) ≡ record { events = []; fault = Some fault } → ((script a xs).fault ≡ Some fault) × IsWritten a (script a xs).events w0 w
+    → read_from h.before h.place (pieces h.ys) ≡ record { events = []; fault = Some fault } → ((script a xs).fault ≡ Some fault) × AreStepsWritten a (script a xs).events w0 w
 played-stop a b xs to w0 w line room fault calm sound h left =
     let is = script-is a b xs to w0 w line room h in
     let same : h.es ≡ (script a xs).events = same_events (script a xs) h.es (read_from h.before h.place (pieces h.ys)) is (ap (λ (x : Script). x.events) left) in (
       ap (λ (x : Script). x.fault) is ∙ ap (λ (x : Script). x.fault) left,
-      subst (λ es. IsWritten a es w0 w) same (written a b h.es h.steps w0 w calm sound h.runs h.wrote),
+      subst (λ es. AreStepsWritten a es w0 w) same (written a b h.es h.steps w0 w calm sound h.runs h.wrote),
     )
 
 no-fault : (number room : ℕ) (fault : ScriptFault) → fault_within number room [] ≡ Some fault → ⊥
@@ -320,7 +320,7 @@ more-room before text room most e fits =
 
 -- one line more
 more-at : (a b c : BrokerState) (xs text : List ℕ) (to then_to w0 w1 w2 : Option (List ℕ)) (line room : ℕ) (k : Course) → (h : Played a b xs to w0 w1 line room) → line ≤ 1000000 → fault_within line room text ≡ None → 0 < length text
-    → text ≡ take_through 10 h.ys → then_to ≡ Some (drop_through 10 h.ys) → course_of line (here b) (told (strip_last 10 text)) ≡ k → IsDone k b c w1 w2 → Played a c xs then_to w0 w2 (line + 1) (room - length text)
+    → text ≡ take_through 10 h.ys → then_to ≡ Some (drop_through 10 h.ys) → course_of line (here b) (told (strip_last 10 text)) ≡ k → IsLinePlayed k b c w1 w2 → Played a c xs then_to w0 w2 (line + 1) (room - length text)
 more-at a b c xs text to then_to w0 w1 w2 line room (Plays e) h within sized some is left k done =
     let new : BrokerState = done.0 in
     let next : List (List ℕ) = h.before ++ text ∷ [] in
@@ -336,7 +336,7 @@ more-at a b c xs text to then_to w0 w1 w2 line room (Plays e) h within sized som
       lines = more-lines a b xs text to w0 w1 line room h some is;
       at_line = more-line h.before text line h.at_line;
       at_room = more-room h.before text room MOST_BYTES h.at_room (fits-room line room text sized);
-      stands = subst (IsAt place) (sym done.2) (at-hushed place new (at-event h.place b new e h.stands done.1.stands));
+      stands = subst (IsPlaceIn place) (sym done.2) (at-hushed place new (at-event h.place b new e h.stands done.1.stands));
       runs = subst (Runs a (h.es ++ e ∷ []) all) (sym done.2) (runs-more e a b new h.es h.steps h.runs done.1);
       wrote = subst (Appends w0 w2) (sym (text-more h.steps (said b.lines new.lines))) (Appends-trans w0 w1 w2 (script_text h.steps) (words b new) h.wrote done.3);
       is = λ rest. (
@@ -355,7 +355,7 @@ more-at a b c xs text to then_to w0 w1 w2 line room Passes h within sized some i
   lines = more-lines a b xs text to w0 w1 line room h some is;
   at_line = more-line h.before text line h.at_line;
   at_room = more-room h.before text room MOST_BYTES h.at_room (fits-room line room text sized);
-  stands = subst (IsAt h.place) (sym done.0) h.stands;
+  stands = subst (IsPlaceIn h.place) (sym done.0) h.stands;
   runs = subst (Runs a h.es h.steps) (sym done.0) h.runs;
   wrote = subst (Appends w0 w2) (append-nil (script_text h.steps)) (Appends-trans w0 w1 w2 (script_text h.steps) [] h.wrote done.1);
   is = λ rest. (
@@ -366,7 +366,7 @@ more-at a b c xs text to then_to w0 w1 w2 line room Passes h within sized some i
 more-at a b c xs text to then_to w0 w1 w2 line room (Stops fault) h within sized some is left k done = absurd done
 
 pub played-more : (a b c : BrokerState) (text : List ℕ) (from to then_to w0 w1 w2 : Option (List ℕ)) (line room : ℕ) → line ≤ 1000000 → fault_within line room text ≡ None → 0 < length text
-    → IfSome from (λ xs. Played a b xs to w0 w1 line room) → IfSome to (λ ys. text ≡ take_through 10 ys) → DropsThrough to then_to 10 → IsDone (course_of line (here b) (told (strip_last 10 text))) b c w1 w2
+    → IfSome from (λ xs. Played a b xs to w0 w1 line room) → IfSome to (λ ys. text ≡ take_through 10 ys) → DropsThrough to then_to 10 → IsLinePlayed (course_of line (here b) (told (strip_last 10 text))) b c w1 w2
     → IfSome from (λ xs. Played a c xs then_to w0 w2 (line + 1) (room - length text))
 played-more a b c text None to then_to w0 w1 w2 line room within sized some h is drops done = tt
 played-more a b c text (Some xs) to then_to w0 w1 w2 line room within sized some h is drops done =
@@ -394,7 +394,7 @@ broken-at a b xs text to w0 w1 w2 line room (faults.BadLine j) calm sound h with
     let whole = script-is a b xs to w0 w1 line room h in
     let same : h.es ≡ (script a xs).events = same_events (script a xs) h.es (read_from h.before h.place (pieces h.ys)) whole (ap (λ (x : Script). x.events) read) in (
       ap (λ (x : Script). x.fault) whole ∙ ap (λ (x : Script). x.fault) read,
-      subst (λ es. IsWritten a es w0 w2) same (written a b h.es h.steps w0 w2 calm sound h.runs (nothing-more w0 w1 w2 (script_text h.steps) h.wrote broken.1)),
+      subst (λ es. AreStepsWritten a es w0 w2) same (written a b h.es h.steps w0 w2 calm sound h.runs (nothing-more w0 w1 w2 (script_text h.steps) h.wrote broken.1)),
     )
 broken-at a b xs text to w0 w1 w2 line room faults.TooLong calm sound h within sized some is broken = absurd broken
 broken-at a b xs text to w0 w1 w2 line room faults.Read calm sound h within sized some is broken = absurd broken
@@ -468,11 +468,11 @@ pub stopped-first : (a : BrokerState) (from w : Option (List ℕ)) → IfSome fr
 stopped-first a None w = tt
 stopped-first a (Some xs) w =
     let none : said_by a [] ≡ record { events = []; fault = None } = read-none [] (here a) in
-    let nothing : IsWritten a [] w w = ([], record { owned = λ t. refl; unowned = λ n free. refl; in_order = tt }, Appends-nil w) in (
+    let nothing : AreStepsWritten a [] w w = ([], record { owned = λ t. refl; unowned = λ n free. refl; in_order = tt }, Appends-nil w) in (
       [],
       [],
       record { behind = xs; left_is = refl; lines_are = refl; within = (take_through 10 xs, refl) },
-      (ap (λ (x : Script). x.fault) none, subst (λ es. IsWritten a es w w) (sym (ap (λ (x : Script). x.events) none)) nothing),
+      (ap (λ (x : Script). x.fault) none, subst (λ es. AreStepsWritten a es w w) (sym (ap (λ (x : Script). x.events) none)) nothing),
     )
 
 -- the broker is at rest behind a line
@@ -481,7 +481,7 @@ pub record AtRest (b : BrokerState) : Type 0 where
   pub quiet : IsQuiet b
   pub calm : is_calm b ≡ true
 
-pub rest-done : (k : Course) (b c : BrokerState) (from to : Option (List ℕ)) → AtRest b → IsDone k b c from to → AtRest c
+pub rest-done : (k : Course) (b c : BrokerState) (from to : Option (List ℕ)) → AtRest b → IsLinePlayed k b c from to → AtRest c
 rest-done (Plays e) b c from to r done = subst AtRest (sym done.2) (record { ready = ready-hushed done.0 done.1.ready; quiet = quiet-hushed done.0; calm = done.1.calm })
 rest-done Passes b c from to r done = subst AtRest (sym done.0) r
 rest-done (Stops fault) b c from to r done = absurd done

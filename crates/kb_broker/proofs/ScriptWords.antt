@@ -2,18 +2,18 @@
 use Rattle.std.proofs.Common.{◌≡◌, ◌≢◌, ℕ, ◌≤◌, ◌==◌, ◌&&◌, ◌||◌, Bool, true, false, not, cond, eqb, List, [], ◌∷◌, ◌++◌, length, map, refl, sym, ap, subst, ◌∙◌, arith, Option, Some, None, append-nil}
 use Rattle.std.proofs.lemmas.Bool.Decides.{nat_tests}
 use Rattle.std.specs.List.{AllByRecursion}
-use Rattle.kb_isolation_spec.specs.Session.{Session, fresh, can}
-use Rattle.kb_isolation_spec.specs.Machine.{Line, each, on, those}
+use Rattle.kb_isolation_spec.specs.Session.{Session, new_session, can}
+use Rattle.kb_isolation_spec.specs.Machine.{Line, each_line, on, those}
 use Rattle.kb_isolation_spec.specs.Machine.{find_line}
 use Rattle.kb_isolation_spec.specs.Broker.{IsUnready, AnyWait, BrokerState, Rising, InRange, IsReady}
-use Rattle.kb_isolation_spec.specs.Calls.{opened, closed, taken, without_output, other_than, open_in, output_in, shut_in, is_open, is_shut, output_of}
+use Rattle.kb_isolation_spec.specs.Calls.{opened, closed, output_taken, without_output, other_than, open_in, output_in, shut_in, is_open, is_shut, output_of}
 use Rattle.kb_isolation_spec.specs.Told.{said, quieted_lines}
 use Rattle.kb_isolation_spec.specs.Turned.{SameOthers}
 use Rattle.kb_isolation_spec.proofs.Sets.{all-map, all-those, all-push, none-able, all-still as all-settled}
 use Rattle.kb_isolation_spec.proofs.Owned.{found}
 use Rattle.kb_broker.specs.Places.{numbers, waits_in}
 use Rattle.kb_broker.specs.Script.{Place, sent_text, step_text}
-use Rattle.kb_broker.specs.ScriptRun.{IsQuiet, IsAt, hushed, words}
+use Rattle.kb_broker.specs.ScriptRun.{IsQuiet, IsPlaceIn, hushed, words}
 
 -- 1. Nothing is said
 
@@ -41,13 +41,13 @@ still-old : (b : BrokerState) → Rising 0 b.last b.lines → IsQuiet b → AllB
 still-old b rising quiet = all-still b.lines b.lines quiet (found 0 b.last b.lines rising)
 
 pub silent-opened : (b : BrokerState) (n : ℕ) → Rising 0 b.last b.lines → IsQuiet b → words b (opened b n) ≡ []
-silent-opened b n rising quiet = silent b.lines (b.lines ++ record { number = n; session = fresh b.setup.request_bytes } ∷ []) (all-push (Still b.lines) b.lines (record { number = n; session = fresh b.setup.request_bytes }) (still-old b rising quiet) (record { output = refl; shut = refl }))
+silent-opened b n rising quiet = silent b.lines (b.lines ++ record { number = n; session = new_session b.setup.request_bytes } ∷ []) (all-push (Still b.lines) b.lines (record { number = n; session = new_session b.setup.request_bytes }) (still-old b rising quiet) (record { output = refl; shut = refl }))
 
 pub silent-closed : (b : BrokerState) (n : ℕ) → Rising 0 b.last b.lines → IsQuiet b → words b (closed b n) ≡ []
 silent-closed b n rising quiet = silent b.lines (those (other_than n) b.lines) (all-those (Still b.lines) (other_than n) b.lines (still-old b rising quiet))
 
 pub quiet-opened : (b : BrokerState) (n : ℕ) → IsQuiet b → IsQuiet (opened b n)
-quiet-opened b n quiet = all-push (λ (l : Line). l.session.output ≡ []) b.lines (record { number = n; session = fresh b.setup.request_bytes }) quiet refl
+quiet-opened b n quiet = all-push (λ (l : Line). l.session.output ≡ []) b.lines (record { number = n; session = new_session b.setup.request_bytes }) quiet refl
 
 pub quiet-closed : (b : BrokerState) (n : ℕ) → IsQuiet b → IsQuiet (closed b n)
 quiet-closed b n quiet = all-those (λ (l : Line). l.session.output ≡ []) (other_than n) b.lines quiet
@@ -118,17 +118,17 @@ said-one n old new rising quiet others = one n 0 new.last old.lines new.lines ri
 same_session : (s : Session) → s.output ≡ [] → s ≡ without_output s
 same_session s e = ap (λ x. record s { output = x }) e
 
-each-hushed : (n : ℕ) (ls : List Line) → AllByRecursion (λ (l : Line). l.number ≢ n → l.session.output ≡ []) ls → each (on n without_output) ls ≡ quieted_lines ls
+each-hushed : (n : ℕ) (ls : List Line) → AllByRecursion (λ (l : Line). l.number ≢ n → l.session.output ≡ []) ls → each_line (on n without_output) ls ≡ quieted_lines ls
 each-hushed n [] h = refl
 each-hushed n (l ∷ ls) h = by (eqb l.number n) refl (each-hushed n ls h.1)
   where
-    by : (b : Bool) → eqb l.number n ≡ b → each (on n without_output) ls ≡ quieted_lines ls → record { number = l.number; session = cond b (without_output l.session) l.session } ∷ each (on n without_output) ls ≡ record { number = l.number; session = without_output l.session } ∷ quieted_lines ls
+    by : (b : Bool) → eqb l.number n ≡ b → each_line (on n without_output) ls ≡ quieted_lines ls → record { number = l.number; session = cond b (without_output l.session) l.session } ∷ each_line (on n without_output) ls ≡ record { number = l.number; session = without_output l.session } ∷ quieted_lines ls
     by true e rest = ap (λ x. record { number = l.number; session = without_output l.session } ∷ x) rest
     by false e rest =
         let ne : l.number ≢ n = grind (arith, nat_tests) in
-        ap (λ s. record { number = l.number; session = s } ∷ each (on n without_output) ls) (same_session l.session (h.0 ne)) ∙ ap (λ x. record { number = l.number; session = without_output l.session } ∷ x) rest
+        ap (λ s. record { number = l.number; session = s } ∷ each_line (on n without_output) ls) (same_session l.session (h.0 ne)) ∙ ap (λ x. record { number = l.number; session = without_output l.session } ∷ x) rest
 
-pub taken-hushed : (n : ℕ) (old new : BrokerState) → Rising 0 new.last new.lines → IsQuiet old → SameOthers n old new → taken new n ≡ hushed new
+pub taken-hushed : (n : ℕ) (old new : BrokerState) → Rising 0 new.last new.lines → IsQuiet old → SameOthers n old new → output_taken new n ≡ hushed new
 taken-hushed n old new rising quiet others =
     ap (λ ls. record new { lines = ls })
     (each-hushed n new.lines (all-map (λ l. l.number ≢ n → Still old.lines l) (λ (l : Line). l.number ≢ n → l.session.output ≡ []) (λ l f ne. (f ne).output) new.lines (others-still n old new rising quiet others)))
@@ -157,13 +157,13 @@ open-lines k (l ∷ ls) = by (eqb l.number k) (open-lines k ls)
     by true rest = refl
     by false rest = rest
 
-pub at-hushed : (p : Place) (b : BrokerState) → IsAt p b → IsAt p (hushed b)
+pub at-hushed : (p : Place) (b : BrokerState) → IsPlaceIn p b → IsPlaceIn p (hushed b)
 at-hushed p b a = record { open_now = λ k. a.open_now k ∙ sym (open-lines k b.lines); last = a.last }
 
-open-push : (limit k n : ℕ) (ls : List Line) → (k == n || open_in (find_line k ls)) ≡ open_in (find_line k (ls ++ record { number = n; session = fresh limit } ∷ []))
+open-push : (limit k n : ℕ) (ls : List Line) → (k == n || open_in (find_line k ls)) ≡ open_in (find_line k (ls ++ record { number = n; session = new_session limit } ∷ []))
 open-push limit k n [] = by (eqb n k) refl (eqb k n) refl
   where
-    by : (b : Bool) → eqb n k ≡ b → (d : Bool) → eqb k n ≡ d → (d || false) ≡ open_in (cond b (Some (fresh limit)) None)
+    by : (b : Bool) → eqb n k ≡ b → (d : Bool) → eqb k n ≡ d → (d || false) ≡ open_in (cond b (Some (new_session limit)) None)
     by true e true f = refl
     by false e false f = refl
     by true e false f = grind (arith, nat_tests)
@@ -174,7 +174,7 @@ open-push limit k n (l ∷ ls) = by (eqb l.number k) (open-push limit k n ls)
     or_true true = refl
     or_true false = refl
 
-    by : (b : Bool) → (k == n || open_in (find_line k ls)) ≡ open_in (find_line k (ls ++ record { number = n; session = fresh limit } ∷ [])) → (k == n || open_in (cond b (Some l.session) (find_line k ls))) ≡ open_in (cond b (Some l.session) (find_line k (ls ++ record { number = n; session = fresh limit } ∷ [])))
+    by : (b : Bool) → (k == n || open_in (find_line k ls)) ≡ open_in (find_line k (ls ++ record { number = n; session = new_session limit } ∷ [])) → (k == n || open_in (cond b (Some l.session) (find_line k ls))) ≡ open_in (cond b (Some l.session) (find_line k (ls ++ record { number = n; session = new_session limit } ∷ [])))
     by true rest = or_true (eqb k n)
     by false rest = rest
 

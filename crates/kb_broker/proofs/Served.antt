@@ -24,13 +24,13 @@ use Rattle.kb_tenant_api.specs.declared.answer.Answer.TheVariants as answers
 use Rattle.kb_tenant.specs.declared.node.Node.{Node}
 use Rattle.kb_isolation_spec.specs.declared.shut.Shut.TheVariants as causes
 use Rattle.kb_isolation_spec.specs.declared.head.Head.{Head}
-use Rattle.kb_isolation_spec.specs.Tenant.{Awaited, Wait, Records, Group, answer, asked, kept_after}
+use Rattle.kb_isolation_spec.specs.Tenant.{Awaited, Wait, Records, Group, reaction_to, asked, kept_after}
 use Rattle.kb_isolation_spec.specs.Requests as requests
 use Rattle.kb_api_group.specs.declared.api_versions.ApiVersion.{ApiVersion}
 use Rattle.kb_isolation_spec.specs.Requests.{Asked, Versions, OtherVersions, Handshake, Authenticate, Another, Malformed}
 use Rattle.kb_isolation_spec.specs.Session.{Greeting, Stage, Greets, BoundTo, Session, shut_down, waiting, without_wait, is_free, in_front}
 use Rattle.kb_isolation_spec.specs.Greeting.{Setup, greeted, for_tenant, node_of}
-use Rattle.kb_isolation_spec.specs.Machine.{Line, after_reaction, after_turn, served_by, served_at, put}
+use Rattle.kb_isolation_spec.specs.Machine.{Line, after_reaction, after_turn, served_by, served_at, kept_by_turn}
 use Rattle.kb_isolation_spec.proofs.Owners.{stage-shut}
 use Rattle.kb_isolation_spec.proofs.Quiet.{asked-group, asked-parks}
 use Rattle.kb_isolation_spec.proofs.Turns.{free-greeted, free-replied, free-without}
@@ -40,7 +40,7 @@ use Rattle.kb_connection.specs.View.{with_session, without_front}
 use Rattle.kb_connection.proofs.Fronts.{fewer-behind}
 use Rattle.kb_broker.specs.Places.{IsSpent}
 use Rattle.kb_tenants.specs.Tenants as tenants
-use Rattle.kb_broker.specs.Parked.{key_of, keys_for, keys_of, tenant_key, until, deadline_at, until_of, places_of, parked_for, AreAllOf, AreAnswered, AreConcerned, AreTheTenants, AreWaitingFor, IsKeyedAt, IsOwnedAt, IsTouchedBy, IsTouchedTurn, IsTouchedTurnBy, IsUnderTenant, IsConcern, IsLeftAmong, IsLeftBy, IsOwnTo}
+use Rattle.kb_broker.specs.Parked.{key_of, keys_for, keys_of, tenant_key, until, deadline_at, until_of, wait_keys_of, parked_for, AreAllOf, AreAnswered, AreConcerned, AreTheTenants, AreWaitingFor, IsKeyedAt, IsOwnedAt, IsTouchedBy, IsTouchedTurn, IsTouchedTurnBy, IsUnderTenant, IsConcern, IsLeftAmong, IsLeftBy, IsOwnTo}
 use Rattle.kb_broker.specs.declared.serving.Touched.{Touched}
 use Rattle.kb_broker.specs.declared.serving.Touched.TheVariants as touches
 use Rattle.kb_broker.specs.declared.serving.Concerned.{Concerned}
@@ -190,10 +190,10 @@ keyed-calm us t n (BoundTo u None) o e k = tt
 keyed-calm us t n (BoundTo u (Some w)) o e k = λ calm silent. let is : u ≡ t = cc in k (ap (refusals_of us) (sym is) ∙ calm) calm silent
 
 -- it stands under what it asks
-keyed-waiting : (us : List TenantState) (t n : ℕ) (st : Stage) (w : Wait) (o : Option queue.Wait) → st ≡ BoundTo t None → places_of o ≡ Some (keys_for t (asked (kept_of us t) w)) → IsKeyedAt us n (waiting w st) o
+keyed-waiting : (us : List TenantState) (t n : ℕ) (st : Stage) (w : Wait) (o : Option queue.Wait) → st ≡ BoundTo t None → wait_keys_of o ≡ Some (keys_for t (asked (kept_of us t) w)) → IsKeyedAt us n (waiting w st) o
 keyed-waiting us t n st w o bound is = subst (λ x. IsKeyedAt us n (waiting w x) o) (sym bound) (λ calm silent. is)
 
-keyed-by : (node : Node) (us : List TenantState) (t clock n : ℕ) (k : Kept) (key version : ℤ) (head : Head) (body : List ℕ) (s : Session) (is : Reaction) (r : Answer) → answer node k clock n key version body ≡ is → kept_of us t ≡ kept_after node k clock n key version body → s.stage ≡ BoundTo t None
+keyed-by : (node : Node) (us : List TenantState) (t clock n : ℕ) (k : Kept) (key version : ℤ) (head : Head) (body : List ℕ) (s : Session) (is : Reaction) (r : Answer) → reaction_to node k clock n key version body ≡ is → kept_of us t ≡ kept_after node k clock n key version body → s.stage ≡ BoundTo t None
     → IsAnswer head.correlation_id is r → IsKeyedAt us n (after_reaction is head version body s).stage (parked_for t r)
 keyed-by node us t clock n k key version head body s (Plain (Replies reply)) r e kept bound told = keyed-none us n _ (parked_for t r) (free-replied head reply s (ap is_free bound))
 keyed-by node us t clock n k key version head body s (Plain (Waits deadline limit places)) (answers.Plain (plain.Reply reply)) e kept bound told = absurd told
@@ -212,7 +212,7 @@ keyed-by node us t clock n k key version head body s Rebalances answers.Rebalanc
 
 -- the connection that was answered stands in the queue under what it asks
 pub keyed-answered : (H : Type 0) → H → (setup : Setup) (t clock n : ℕ) (ts us : List TenantState) (l new : Line) (key version : ℤ) (head : Head) (body : List ℕ) (r : Answer) (o : Option queue.Wait) → l.session.stage ≡ BoundTo t None → IsSpent l.session new.session → IsAsked setup l.session key version head body → IsTurn t H ts us
-    → IsMet t H ts us (λ k m. (m ≡ kept_after (node_of setup t) k clock n key version body) × IsAnswer head.correlation_id (answer (node_of setup t) k clock n key version body) r)
+    → IsMet t H ts us (λ k m. (m ≡ kept_after (node_of setup t) k clock n key version body) × IsAnswer head.correlation_id (reaction_to (node_of setup t) k clock n key version body) r)
     → ((key version : ℤ) (head : Head) (body : List ℕ) (reaction : Reaction) → IsAsked setup l.session key version head body → IsAnswer head.correlation_id reaction r → new ≡ with_session l (after_reaction reaction head version body (without_front l.session)))
     → o ≡ parked_for t r → IsKeyedAt us n new.session.stage o
 keyed-answered H honest setup t clock n ts us l new key version head body r o bound spent asks turn meets ok parked =
@@ -221,15 +221,15 @@ keyed-answered H honest setup t clock n ts us l new key version head body r o bo
     let up = turn.grows t in
     let before : refusals_of ts t ≡ 0 = omega (arith, none, up) in
     let done = meets honest (record { same = none ∙ sym before; below = grind (arith, nat_tests, before) }) in
-    let is = ok key version head body (answer (node_of setup t) (kept_of ts t) clock n key version body) asks done.1 in
+    let is = ok key version head body (reaction_to (node_of setup t) (kept_of ts t) clock n key version body) asks done.1 in
     subst (IsKeyedAt us n new.session.stage) (sym parked)
-    (subst (λ (x : Line). IsKeyedAt us n x.session.stage (parked_for t r)) (sym is) (keyed-by (node_of setup t) us t clock n (kept_of ts t) key version head body (without_front l.session) (answer (node_of setup t) (kept_of ts t) clock n key version body) r refl done.0 bound done.1)))
+    (subst (λ (x : Line). IsKeyedAt us n x.session.stage (parked_for t r)) (sym is) (keyed-by (node_of setup t) us t clock n (kept_of ts t) key version head body (without_front l.session) (reaction_to (node_of setup t) (kept_of ts t) clock n key version body) r refl done.0 bound done.1)))
 
 -- 4. Whom a turn concerns
 
 -- what the tenant was asked is the turn
 pub turned-touched : (H : Type 0) (setup : Setup) (t clock n : ℕ) (ts us : List TenantState) (s r : Session) (touched : Touched) → (H → IsTouchedBy touched t clock ts us)
-    → IsMet t H ts us (λ k l. (r ≡ after_turn (for_tenant setup t) k clock n s) × (l ≡ put (for_tenant setup t) k clock n (in_front s))) → H → IsTouchedTurnBy touched setup t clock n ts us s r
+    → IsMet t H ts us (λ k l. (r ≡ after_turn (for_tenant setup t) k clock n s) × (l ≡ kept_by_turn (for_tenant setup t) k clock n (in_front s))) → H → IsTouchedTurnBy touched setup t clock n ts us s r
 turned-touched H setup t clock n ts us s r (touches.Partitions places) touched meets honest =
     let h = touched honest in
     let both = meets honest h.calm in
@@ -245,7 +245,7 @@ contains-key t (x ∷ xs) place c = at c.0 (contains-key t xs place) c.1 c.2
     at zero rest lt is = (0, omega arith, ap (key_of t) is)
     at (suc i) rest lt is = let there = rest (i, omega (arith, lt), is) in (suc there.0, (let h = there.1 in omega (arith, h)), there.2)
 
-under-key : (t : ℕ) (places : List TopicPartition) (place : TopicPartition) (o : Option queue.Wait) → places_of o ≡ Some (keys_for t places) → Contains places place → IsSomeAnd o (IsUnder (key_of t place))
+under-key : (t : ℕ) (places : List TopicPartition) (place : TopicPartition) (o : Option queue.Wait) → wait_keys_of o ≡ Some (keys_for t places) → Contains places place → IsSomeAnd o (IsUnder (key_of t place))
 under-key t places place None e c = absurd (cc)
 under-key t places place (Some w) e c =
     let is : w.keys ≡ keys_for t places = cc in
@@ -323,7 +323,7 @@ left-by H honest c setup t clock n q p ts us s r st touched bound others concern
       calm = c.calm;
       own = c.own;
       others = λ k w ne apart parked silent. h.ready k w
-          (λ place asks touches. apart (c.under k place touches (under-key t (asked (kept_of ts t) w) place (fin.get p k) (ap places_of (others k ne) ∙ parked) asks)))
+          (λ place asks touches. apart (c.under k place touches (under-key t (asked (kept_of ts t) w) place (fin.get p k) (ap wait_keys_of (others k ne) ∙ parked) asks)))
           silent;
     })
     touching places ns h (inr c) = inr (inl (all-of t n q p ns others c))

@@ -20,10 +20,10 @@ use Rattle.kb_tenant_api.specs.Serve.{Outcome, IsOutcome, has_released, served}
 use Rattle.kb_tenant_api.specs.declared.answer.Answer.{Answer}
 use Rattle.kb_tenant.specs.declared.answer.Answer.TheVariants as answers
 use Rattle.kb_tenant.specs.declared.node.Node.{Node}
-use Rattle.kb_isolation_spec.specs.Tenant.{Awaited, Records, Group, Wait, is_members, answer, asked, ready, ready_for, kept_after}
+use Rattle.kb_isolation_spec.specs.Tenant.{Awaited, Records, Group, Wait, is_members, reaction_to, asked, ready, ready_for, kept_after}
 use Rattle.kb_isolation_spec.specs.Session.{Greeting, Greets, BoundTo, Session, can, shut_down, waiting, without_wait, unanswerable, in_front}
 use Rattle.kb_isolation_spec.specs.Greeting.{Setup, greeted, for_tenant, node_of}
-use Rattle.kb_isolation_spec.specs.Machine.{Line, after_reaction, told, woken, woken_by, after_turn as served_by_turn, put}
+use Rattle.kb_isolation_spec.specs.Machine.{Line, after_reaction, told, woken, woken_by, after_turn as served_by_turn, kept_by_turn}
 use Rattle.kb_isolation_spec.proofs.Laws.{can-turn, some-left, greeted-less, served-less}
 use Rattle.kb_isolation_spec.proofs.Owners.{stage-served, stage-shut}
 use Rattle.kb_isolation_spec.proofs.RequestLimits.{limit-greeted, limit-served}
@@ -57,18 +57,18 @@ use Rattle.kb_isolation_spec.proofs.Parts.{turn-then, calm-right}
 
 -- what is answered, and kept
 pub answered-now : (node : Node) (k l : Kept) (clock n : ℕ) (id key version : ℤ) (body : List ℕ) (touched : List TopicPartition) (r : Answer) → IsOutcome id (served node k.world clock k.groups n key version body) l.world l.groups touched r
-    → (l ≡ kept_after node k clock n key version body) × IsAnswer id (answer node k clock n key version body) r
-unfolding answer kept_after
+    → (l ≡ kept_after node k clock n key version body) × IsAnswer id (reaction_to node k clock n key version body) r
+unfolding reaction_to kept_after
 answered-now node k l clock n id key version body touched r h =
     let o = served node k.world clock k.groups n key version body in
     (ap (λ w. kept_in w l.groups) h.0 ∙ ap (kept_in o.world) h.1, h.3)
 
 -- what stands in front was asked, and answered so: the connection is the machine's
-pub asked-now : (setup : Setup) (t clock n : ℕ) (k m : Kept) (l new : Line) (key version : ℤ) (head : Head) (body : List ℕ) (r : Answer) → IsAsked setup l.session key version head body → m ≡ kept_after (node_of setup t) k clock n key version body → IsAnswer head.correlation_id (answer (node_of setup t) k clock n key version body) r
+pub asked-now : (setup : Setup) (t clock n : ℕ) (k m : Kept) (l new : Line) (key version : ℤ) (head : Head) (body : List ℕ) (r : Answer) → IsAsked setup l.session key version head body → m ≡ kept_after (node_of setup t) k clock n key version body → IsAnswer head.correlation_id (reaction_to (node_of setup t) k clock n key version body) r
     → ((key' version' : ℤ) (head' : Head) (body' : List ℕ) (reaction : Reaction) → IsAsked setup l.session key' version' head' body' → IsAnswer head'.correlation_id reaction r → new ≡ with_session l (after_reaction reaction head' version' body' (without_front l.session)))
-    → (new.session ≡ served_by_turn (for_tenant setup t) k clock n l.session) × (m ≡ put (for_tenant setup t) k clock n (in_front l.session))
+    → (new.session ≡ served_by_turn (for_tenant setup t) k clock n l.session) × (m ≡ kept_by_turn (for_tenant setup t) k clock n (in_front l.session))
 asked-now setup t clock n k m l new key version head body r asked kept told ok =
-    let is = ok key version head body (answer (node_of setup t) k clock n key version body) asked told in
+    let is = ok key version head body (reaction_to (node_of setup t) k clock n key version body) asked told in
     (ap (λ (x : Line). x.session) is ∙ sym (asked.served t k clock n), kept ∙ sym (asked.put t k clock n))
 
 -- where nothing was refused, and nobody's group answered it, only a fetch that asks a touched partition may have become ready

@@ -8,8 +8,8 @@ use Rattle.kb_tenant.specs.Told.{FailedBy}
 use Rattle.kb_isolation_spec.specs.declared.shut.Shut.TheVariants as causes
 use Rattle.kb_isolation_spec.specs.Session.{Stage, Greets, BoundTo, fed, shut_down, without_wait}
 use Rattle.kb_isolation_spec.specs.Machine.{Happening, Opens, Comes, Closes, Line, find_line, first_able}
-use Rattle.kb_isolation_spec.specs.Broker.{BrokerState, IsSound, IsUntaken, kept_of}
-use Rattle.kb_isolation_spec.specs.Calls.{IsRefused, closed, opened}
+use Rattle.kb_isolation_spec.specs.Broker.{BrokerState, IsSound, IsUntaken, kept_of_tenant}
+use Rattle.kb_isolation_spec.specs.Calls.{IsRefusedUnbound, closed, opened}
 use Rattle.kb_isolation_spec.specs.declared.whom.Whom.{Whom}
 use Rattle.kb_isolation_spec.proofs.Leaving.{left_fed}
 use Rattle.kb_isolation_spec.proofs.Sets.{IsAt, find-at, find-set_other, rising-set, set-at}
@@ -43,7 +43,7 @@ at_once e a b begins = record { begun = b; begins = begins; spoken = speaks_same
 pub at_then : (e : Happening) (a b c : BrokerState) → SpeaksAt e a b → SpeaksTruth b c → SpeaksAt e a c
 at_then e a b c p q = record { begun = p.begun; begins = p.begins; spoken = speaks_then p.begun b c p.spoken q }
 
-pub at_opened : {A E : Type 0} (r : Result A E) (a c : BrokerState) (n : ℕ) → OnOk r (c ≡ opened a n) → OnErr r (IsRefused a c)
+pub at_opened : {A E : Type 0} (r : Result A E) (a c : BrokerState) (n : ℕ) → OnOk r (c ≡ opened a n) → OnErr r (IsRefusedUnbound a c)
     → SpeaksAt (Opens n) a c
 at_opened (Ok x) a c n ok err = at_once (Opens n) a c (inl ok)
 at_opened (Err x) a c n ok err = at_once (Opens n) a c (inr err)
@@ -174,7 +174,7 @@ true_look H honest failed fails next whom a b i l m us e sound at is told =
       l = l;
       m = m;
       one = of_one a b i l m us e sound at (looked-number H whom b.clock b.tenants us l m l.session.stage here);
-      kept = subst (λ (x : BrokerState). (t : ℕ) → kept_of (put_with x i m us) t ≡ kept_of b t) (sym e) waked.kept;
+      kept = subst (λ (x : BrokerState). (t : ℕ) → kept_of_tenant (put_with x i m us) t ≡ kept_of_tenant b t) (sym e) waked.kept;
       failed = failed;
       fails = fails;
       next = next;

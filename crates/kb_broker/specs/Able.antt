@@ -10,5 +10,5 @@ pub record Numbers : Type 0 where
   pub items : List ℕ
   pub room : ℕ
 
-abbrev pub numbers_in : BinaryHeap (Reverse ℕ) Global → Numbers
-numbers_in h = record { items = map (λ (r : Reverse ℕ). r.0) (heap_items h); room = heap_capacity h }
+abbrev pub heap_numbers : BinaryHeap (Reverse ℕ) Global → Numbers
+heap_numbers h = record { items = map (λ (r : Reverse ℕ). r.0) (heap_items h); room = heap_capacity h }

@@ -9,8 +9,8 @@ abbrev pub is_of : ℕ → Line → Bool
 is_of t l = is_owner t (whose l.session.stage)
 
 -- the connections that are bound to it
-abbrev pub lines_of : ℕ → List Line → List Line
-lines_of t ls = filter (is_of t) ls
+abbrev pub lines_bound_to : ℕ → List Line → List Line
+lines_bound_to t ls = filter (is_of t) ls
 
 -- those of them that wait for the answer to a request
 abbrev pub waiting_lines : ℕ → List Line → List Line

@@ -3,7 +3,7 @@ use Rattle.std.specs.Prelude.{◌≡◌, ◌<◌, ◌+◌, ℕ, ℤ, pos, negsuc
 use Rattle.kb_waits.specs.Queue.{Queue, IsFirstDeadline}
 use Rattle.kb_tenant_api.specs.Hosted.{passed}
 use Rattle.kb_isolation_spec.specs.Machine.{Moment}
-use Rattle.kb_isolation_spec.specs.Broker.{BrokerState, AreUnready, AnyWait, IsStep, kept_of}
+use Rattle.kb_isolation_spec.specs.Broker.{BrokerState, AreUnready, AnyWait, IsStep, kept_of_tenant}
 use Rattle.kb_isolation_spec.specs.Calls.{moved}
 
 -- 1. Which moment it is
@@ -29,7 +29,7 @@ pub record IsNextDeadline (queue : Queue) (quiet_until : ℤ) (moment : ℕ) : T
 -- A moment at that time changes nothing but the clock: it leaves each tenant what it keeps, nothing that waits is ready then, and to the
 -- machine of each tenant it is that alone. One before the clock acts as one at the clock.
 pub record IsQuietAt (now : ℕ) (b : BrokerState) : Type 0 where
-  pub kept : (t : ℕ) → passed (max b.clock now) (kept_of b t) ≡ kept_of b t
+  pub kept : (t : ℕ) → passed (max b.clock now) (kept_of_tenant b t) ≡ kept_of_tenant b t
   pub unready : AreUnready AnyWait (moved b now)
   pub step : IsStep (Moment now) b (moved b now)
 

@@ -12,7 +12,7 @@ use Rattle.kb_tenants.specs.Tenants.{AreKept, AreKeptIn, AreLeftAlone, hosted, n
 use Rattle.kb_tenants.specs.declared.tenants.Tenants.{Tenants}
 use Rattle.kb_isolation_spec.specs.Machine.{Happening, first_able}
 use Rattle.kb_broker.specs.Truth.{SpeaksTruth}
-use Rattle.kb_isolation_spec.specs.Broker.{BrokerState, AreUnready, AnyWait, IsSound, IsStep, kept_of}
+use Rattle.kb_isolation_spec.specs.Broker.{BrokerState, AreUnready, AnyWait, IsSound, IsStep, kept_of_tenant}
 
 -- 1. The tenants
 
@@ -86,11 +86,11 @@ NoneReady disk b = is_honest disk b → AreUnready AnyWait b.state
 
 -- the logs of each tenant are within their limits, unless the store lied
 abbrev pub AreSmall : {S : Type 0} → (S → Disk) → OnStore S → Type 0
-AreSmall disk b = is_honest disk b → (t : ℕ) → HasSmallLogs (kept_of b.state t).world
+AreSmall disk b = is_honest disk b → (t : ℕ) → HasSmallLogs (kept_of_tenant b.state t).world
 
 -- no group of a tenant has two offsets of one partition, unless the store lied
 abbrev pub AreOrdered : {S : Type 0} → (S → Disk) → OnStore S → Type 0
-AreOrdered disk b = is_honest disk b → (t : ℕ) → HasOrderedCommits (kept_of b.state t).world
+AreOrdered disk b = is_honest disk b → (t : ℕ) → HasOrderedCommits (kept_of_tenant b.state t).world
 
 -- what holds between the events
 pub record IsReadyOn {S : Type 0} (disk : S → Disk) (b : OnStore S) : Type 0 where

@@ -12,7 +12,7 @@ use Rattle.kb_isolation_spec.specs.Requests.{is_served}
 use Rattle.kb_coordinator.specs.Groups.{none}
 use Rattle.kb_tenant_api.specs.Hosted.{TenantState, kept_of, new_tenant}
 use Rattle.kb_isolation_spec.specs.Broker.{BrokerState}
-use Rattle.kb_settings.specs.Names.{in_order, place_of}
+use Rattle.kb_settings.specs.Names.{in_order, place_of_name}
 use Rattle.kb_settings.specs.Values.{values_of}
 use Rattle.kb_settings.specs.declared.settings.User.{User}
 use Rattle.kb_settings.specs.declared.settings.Settings.{Settings}
@@ -34,7 +34,7 @@ tenants_of users = in_order (map tenant_of users)
 
 -- a user's login: its tenant is a place among the names
 abbrev pub login_of : List (List ℕ) → User → Login
-login_of names u = record { name = string_bytes u.name; password = string_bytes u.password; tenant = place_of (tenant_of u) names }
+login_of names u = record { name = string_bytes u.name; password = string_bytes u.password; tenant = place_of_name (tenant_of u) names }
 
 -- an API from one version to another
 abbrev pub between : ℤ → ℕ → ℕ → ApiVersion
@@ -68,13 +68,13 @@ stock_versions =
     between DELETE_GROUPS 0 1 ∷ []
 
 -- the versions that are listed
-abbrev pub listed : Listing → List ApiVersion
-listed listings.Served = served_versions
-listed listings.StockClients = stock_versions
+abbrev pub versions_of : Listing → List ApiVersion
+versions_of listings.Served = served_versions
+versions_of listings.StockClients = stock_versions
 
 -- whether it has a version of an API
 abbrev pub lists : Listing → ℤ → ℕ → Bool
-lists listing key version = is_served (listed listing) key (pos version)
+lists listing key version = is_served (versions_of listing) key (pos version)
 
 -- an API from one version to another, if there is one
 abbrev pub entry_between : ℤ → ℤ → ℤ → Option ApiVersion
@@ -89,7 +89,7 @@ listed_as listings.StockClients api = entry_between api.0 api.3 api.4
 -- what is fixed
 abbrev pub opening_setup : Listing → Settings → Setup
 opening_setup listing s = record {
-  versions = listed listing;
+  versions = versions_of listing;
   users = map (login_of (tenants_of s.users.items)) s.users.items;
   nodes = map (node_named listing (values_of s)) (tenants_of s.users.items);
   node = node_unnamed listing (values_of s);

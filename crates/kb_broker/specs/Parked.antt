@@ -22,7 +22,7 @@ use Rattle.kb_tenant_api.specs.declared.answer.Answer.TheVariants as answers
 use Rattle.kb_isolation_spec.specs.Tenant.{Awaited, Records, Group, Wait, ready, asked}
 use Rattle.kb_isolation_spec.specs.Session.{Stage, Greets, BoundTo, Session, can, is_free, in_front}
 use Rattle.kb_isolation_spec.specs.Greeting.{Setup, for_tenant}
-use Rattle.kb_isolation_spec.specs.Machine.{Line, after_turn, put}
+use Rattle.kb_isolation_spec.specs.Machine.{Line, after_turn, kept_by_turn}
 use Rattle.kb_isolation_spec.specs.Owners.{whose}
 use Rattle.kb_isolation_spec.specs.Machine.{find_line}
 use Rattle.kb_isolation_spec.specs.Broker.{BrokerState, IsUnready, AnyWait}
@@ -70,8 +70,8 @@ deadline_in (Some s) = deadline_at s.stage
 abbrev pub until_of : Option queue.Wait → Option ℕ
 until_of o = option_map (λ (w : queue.Wait). w.deadline) o
 
-abbrev pub places_of : Option queue.Wait → Option (List WaitKey)
-places_of o = option_map (λ (w : queue.Wait). w.keys) o
+abbrev pub wait_keys_of : Option queue.Wait → Option (List WaitKey)
+wait_keys_of o = option_map (λ (w : queue.Wait). w.keys) o
 
 -- as long as nothing was refused to its tenant, the connection of number n that waits at that stage for what is not ready stands under
 -- its tenant and exactly the partitions that its request asks
@@ -79,7 +79,7 @@ abbrev pub IsKeyedAt : List TenantState → ℕ → Stage → Option queue.Wait 
 IsKeyedAt ts n (Greets handshaken) o = ⊤
 IsKeyedAt ts n (BoundTo t None) o = ⊤
 IsKeyedAt ts n (BoundTo t (Some w)) o = hosted.refusals_of ts t ≡ 0 → ready (hosted.kept_of ts t) 0 n w ≡ Silent
-    → places_of o ≡ Some (keys_for t (asked (hosted.kept_of ts t) w))
+    → wait_keys_of o ≡ Some (keys_for t (asked (hosted.kept_of ts t) w))
 
 abbrev pub IsKeyedIn : List TenantState → ℕ → Option Session → Option queue.Wait → Type 0
 IsKeyedIn ts n None o = ⊤
@@ -132,10 +132,10 @@ IsAskedOnAt (BoundTo t wait) old new = IsAskedOn t old new
 -- what waits and was not ready is not ready, if the queue has it under what it asks and its connection is not among those
 pub record IsPassedOn (setup : Setup) (t clock n : ℕ) (q : Queue) (old new : List TenantState) (s r : Session) (ns : List ℕ) : Type 0 where
   pub session : r ≡ after_turn (for_tenant setup t) (hosted.kept_of old t) clock n s
-  pub kept : hosted.kept_of new t ≡ put (for_tenant setup t) (hosted.kept_of old t) clock n (in_front s)
+  pub kept : hosted.kept_of new t ≡ kept_by_turn (for_tenant setup t) (hosted.kept_of old t) clock n (in_front s)
   pub calm : hosted.refusals_of new t ≡ 0
   pub own : Contains ns n
-  pub others : (k : ℕ) (w : Wait) → k ≢ n → (Contains ns k → ⊥) → places_of (get q k) ≡ Some (keys_for t (asked (hosted.kept_of old t) w))
+  pub others : (k : ℕ) (w : Wait) → k ≢ n → (Contains ns k → ⊥) → wait_keys_of (get q k) ≡ Some (keys_for t (asked (hosted.kept_of old t) w))
       → ready (hosted.kept_of old t) clock k w ≡ Silent → ready (hosted.kept_of new t) clock k w ≡ Silent
 
 -- the connection of that number is among those, and all others that stand in the queue under the tenant
@@ -174,7 +174,7 @@ IsTouchedBy touches.Unknown t clock old new = ⊤
 pub record IsTouchedTurn (setup : Setup) (t clock n : ℕ) (old new : List TenantState) (s r : Session)
     (places : List TopicPartition) : Type 0 where
   pub session : r ≡ after_turn (for_tenant setup t) (hosted.kept_of old t) clock n s
-  pub kept : hosted.kept_of new t ≡ put (for_tenant setup t) (hosted.kept_of old t) clock n (in_front s)
+  pub kept : hosted.kept_of new t ≡ kept_by_turn (for_tenant setup t) (hosted.kept_of old t) clock n (in_front s)
   pub own : (has_released (hosted.kept_of new t).groups ≡ false) ⊎ (is_free r.stage ≡ true)
   pub ready : (k : ℕ) (w : Wait) → AreApart (asked (hosted.kept_of old t) w) places → ready (hosted.kept_of old t) clock k w ≡ Silent
       → ready (hosted.kept_of new t) clock k w ≡ Silent
@@ -238,7 +238,7 @@ IsLeftAmong setup t clock n q old new s r ns =
 -- nothing then, or the groups answer nobody who waited, and what waits elsewhere and was not ready is not ready
 pub record IsQuietTurn (setup : Setup) (t clock n : ℕ) (q : Queue) (old new : List TenantState) (s r : Session) : Type 0 where
   pub session : r ≡ after_turn (for_tenant setup t) (hosted.kept_of old t) clock n s
-  pub kept : hosted.kept_of new t ≡ put (for_tenant setup t) (hosted.kept_of old t) clock n (in_front s)
+  pub kept : hosted.kept_of new t ≡ kept_by_turn (for_tenant setup t) (hosted.kept_of old t) clock n (in_front s)
   pub own : (has_released (hosted.kept_of new t).groups ≡ false) ⊎ (is_free r.stage ≡ true)
   pub others : IsLeftAmong setup t clock n q old new s r (n ∷ [])
 

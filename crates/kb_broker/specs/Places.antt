@@ -6,7 +6,7 @@ use Rattle.std.specs.declared.alloc.Global.{Global}
 use Rattle.std.specs.declared.vec.Vec.{Vec}
 use Rattle.kb_tenants.specs.Tenants.{AreQuietBut, IsTruthfulFor}
 use Rattle.kb_connection.specs.Fronts.{IsAsked, IsOwn}
-use Rattle.kb_connection.specs.TenantAnswers.{answered, answered_again}
+use Rattle.kb_connection.specs.TenantAnswers.{with_answer, answered_again}
 use Rattle.kb_connection.specs.View.{without_front}
 use Rattle.kb_tenant_state.specs.Counts.{IsCalm, counted_once}
 use Rattle.kb_tenant_state.specs.declared.topic_partition.TopicPartition.{TopicPartition}
@@ -28,9 +28,9 @@ use Rattle.kb_isolation_spec.specs.Stranded.{IsMembersAt, members_of}
 use Rattle.kb_isolation_spec.specs.Tenant.{Awaited, Group, Records, Wait, is_members, ready}
 use Rattle.kb_isolation_spec.specs.Session.{Stage, Greets, BoundTo, Session, shut_down, without_wait, is_free, can, in_front}
 use Rattle.kb_isolation_spec.specs.Greeting.{Setup, greeted, for_tenant, node_of}
-use Rattle.kb_isolation_spec.specs.Machine.{Line, after_turn, put, woken, first_able, work}
+use Rattle.kb_isolation_spec.specs.Machine.{Line, after_turn, kept_by_turn, woken, first_able, work}
 use Rattle.kb_isolation_spec.specs.Broker.{BrokerState, IsSound, IsUnready, AreUnready, AnyWait, refusals_of}
-use Rattle.kb_isolation_spec.specs.Calls.{IsRefused}
+use Rattle.kb_isolation_spec.specs.Calls.{IsRefusedUnbound}
 use Rattle.kb_isolation_spec.specs.declared.whom.Whom.{Whom}
 use Rattle.kb_isolation_spec.specs.Turned.{Scope, AreStill, IsGoing, SameOthers, Turned, Served, Waked, IsLookedFor, IsPassedOver}
 
@@ -63,9 +63,9 @@ ArePassed whom b = AllByRecursion (λ (l : Line). IsPassed whom b.clock l.sessio
 
 -- after the tenants' own parts of a moment, but for what is due, only requests on those connections may be ready; where it is not known
 -- on which, any
-abbrev pub Leaves : Option (Vec ℕ Global) → List TenantState → List TenantState → Type 0
-Leaves None old new = ⊤
-Leaves (Some ns) old new = AreQuietBut ns.items old new
+abbrev pub LeavesQuietBut : Option (Vec ℕ Global) → List TenantState → List TenantState → Type 0
+LeavesQuietBut None old new = ⊤
+LeavesQuietBut (Some ns) old new = AreQuietBut ns.items old new
 
 -- no connection but that one can take a turn
 abbrev pub AreIdle : ℕ → BrokerState → Type 0
@@ -91,7 +91,7 @@ abbrev pub IsTakenAt : Type 0 → Setup → ℕ → ℕ → Stage → List Tenan
 IsTakenAt honest setup clock n (Greets handshaken) old new s r = r ≡ greeted setup handshaken s
 IsTakenAt honest setup clock n (BoundTo tenant wait) old new s r =
     IsMet tenant honest old new (λ k l. (r ≡ after_turn (for_tenant setup tenant) k clock n s)
-    × (l ≡ put (for_tenant setup tenant) k clock n (in_front s)))
+    × (l ≡ kept_by_turn (for_tenant setup tenant) k clock n (in_front s)))
 
 -- The turn of a connection of number n at that stage, also where it is refused, leaves no member more waiting but on that connection,
 -- and of those who waited each waits still or was answered; or it leaves the tenant's groups as they were.
@@ -123,7 +123,7 @@ pub record IsCountedFor (t n : ℕ) (old new : BrokerState) : Type 0 where
 -- a refusal, for which the connection of number n is shut, was counted for the tenant that it is bound to, or for none where it still
 -- greets
 abbrev pub IsCountedAt : ℕ → Stage → BrokerState → BrokerState → Type 0
-IsCountedAt n (Greets handshaken) old new = IsRefused old new
+IsCountedAt n (Greets handshaken) old new = IsRefusedUnbound old new
 IsCountedAt n (BoundTo tenant wait) old new = IsCountedFor tenant n old new
 
 -- the turn of a connection at that stage, before its tenant's waiting requests are looked at again
@@ -202,7 +202,7 @@ IsDoneOrShut defined s r = (r ≡ defined) ⊎ (r ≡ shut_down causes.Memory s)
 -- The request of that head, version and body, which stood in front of a connection, was answered so: it is gone, what was answered stands
 -- behind the output, and the connection waits where the answer says so; or the connection was shut.
 abbrev pub IsPutOut : Head → ℤ → List ℕ → AnyAnswer → Session → Session → Type 0
-IsPutOut head version body answer s r = IsDoneOrShut (answered head version body answer (without_front s)) s r
+IsPutOut head version body answer s r = IsDoneOrShut (with_answer head version body answer (without_front s)) s r
 
 -- The answer to a request of a tenant, which had kept k and keeps l, is the truth of its topics; and its groups are those that the request
 -- makes, or those of before without the last replies, and then the connection is shut. Where groups are deleted some of these may be gone.

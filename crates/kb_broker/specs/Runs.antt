@@ -3,7 +3,7 @@ use Rattle.std.specs.Prelude.{◌≡◌, ℕ, List, [], ◌∷◌, ◌++◌, map
 use Rattle.kb_isolation_spec.specs.declared.shut.Shut.TheVariants as causes
 use Rattle.kb_isolation_spec.specs.Machine.{Happening, Opens, Comes, Closes, Moment, Line, Sent, sent, leaving}
 use Rattle.kb_isolation_spec.specs.Broker.{BrokerState, IsStep}
-use Rattle.kb_isolation_spec.specs.Calls.{opened, closed, IsRefused}
+use Rattle.kb_isolation_spec.specs.Calls.{opened, closed, IsRefusedUnbound}
 use Rattle.kb_isolation_spec.specs.Told.{quieted_lines}
 use Rattle.kb_broker.specs.declared.run.Event.{Event}
 use Rattle.kb_broker.specs.declared.run.Event.TheVariants as events
@@ -54,7 +54,7 @@ unkept n = record { number = n; bytes = []; shut = true; why = Some causes.Memor
 
 -- where an event leads, and which connections it ends: one that cannot be kept, and one that closes
 abbrev pub Leads : Happening → BrokerState → BrokerState → List Sent → Type 0
-Leads (Opens n) old new ended = ((new ≡ opened old n) × (ended ≡ [])) ⊎ (IsRefused old new × (ended ≡ unkept n ∷ []))
+Leads (Opens n) old new ended = ((new ≡ opened old n) × (ended ≡ [])) ⊎ (IsRefusedUnbound old new × (ended ≡ unkept n ∷ []))
 Leads (Comes n piece) old new ended = (numbers_of_lines new.lines ≡ numbers_of_lines old.lines) × (ended ≡ [])
 Leads (Closes n) old new ended = (new ≡ closed old n) × (ended ≡ leaving (Closes n) old.lines)
 Leads (Moment now) old new ended = (numbers_of_lines new.lines ≡ numbers_of_lines old.lines) × (ended ≡ [])
@@ -70,7 +70,7 @@ pub record IsPassed (honest : Type 0) (e : Happening) (old new : BrokerState) (e
 
 -- events, one after another, and what each connection got: those that ended, in order, and then those that are still open, whose output
 -- is taken
-abbrev pub Passes : Type 0 → List Happening → BrokerState → BrokerState → List Sent → Type 0
-Passes honest [] old new got = (new ≡ emptied old) × (got ≡ map sent old.lines)
-Passes honest (e ∷ es) old new got = (next : BrokerState) × (ended later : List Sent) × IsPassed honest e old next ended
-    × Passes honest es next new later × (got ≡ ended ++ later)
+abbrev pub PassesEvents : Type 0 → List Happening → BrokerState → BrokerState → List Sent → Type 0
+PassesEvents honest [] old new got = (new ≡ emptied old) × (got ≡ map sent old.lines)
+PassesEvents honest (e ∷ es) old new got = (next : BrokerState) × (ended later : List Sent) × IsPassed honest e old next ended
+    × PassesEvents honest es next new later × (got ≡ ended ++ later)

@@ -1,5 +1,6 @@
 -- Scripts: what a text says, line by line, and what is written of the steps of a broker.
 use Rattle.std.specs.Prelude.{◌≡◌, ◌≢◌, ℕ, ◌+◌, ◌^◌, ◌==◌, ◌&&◌, ◌||◌, List, [], ◌∷◌, ◌++◌, length, drop, codes, decimal, nat_lt, nat_le}
+use Rattle.kb_wire.specs.declared.clock.TheConstants.{MAX_CLOCK}
 use Rattle.std.specs.Prelude.{Bool, true, false, not, if◌then◌else◌, Option, Some, None, Result, Ok, Err, bytes_eq}
 use Rattle.std.specs.List.{before_first, concat, position_or_len}
 use Rattle.std.specs.Str.{all_ascii_digits}
@@ -90,7 +91,7 @@ abbrev pub is_in_place : Place → Happening → Bool
 is_in_place p (Opens n) = nat_lt p.last n
 is_in_place p (Comes n piece) = p.open_now n
 is_in_place p (Closes n) = p.open_now n
-is_in_place p (Moment now) = nat_le now (2 ^ 62)
+is_in_place p (Moment now) = nat_le now MAX_CLOCK
 
 -- whether a line says nothing, or an event that may happen there
 abbrev pub is_placed : Place → Told → Bool
@@ -133,8 +134,8 @@ abbrev pub LONGEST_LINE : ℕ
 LONGEST_LINE = 8400000
 
 -- whether a script may have one line more behind those lines, of so many bytes
-abbrev pub has_room : List (List ℕ) → ℕ → Bool
-has_room before bytes = nat_lt (length before) MOST_LINES && nat_le (length (concat before) + bytes) MOST_BYTES
+abbrev pub may_add_line : List (List ℕ) → ℕ → Bool
+may_add_line before bytes = nat_lt (length before) MOST_LINES && nat_le (length (concat before) + bytes) MOST_BYTES
 
 -- a line, with its line feed or without, by which lengths have room: it is bad where it is longer than a line may be and its first byte
 -- past that has room, else the script is too long where the line has none
@@ -146,7 +147,7 @@ fault_where number fits line =
 
 -- a line behind those lines
 abbrev pub length_fault : List (List ℕ) → List ℕ → Option ScriptFault
-length_fault before line = fault_where (length before + 1) (has_room before) line
+length_fault before line = fault_where (length before + 1) (may_add_line before) line
 
 -- a line that is taken where so many bytes are left
 abbrev pub fault_within : ℕ → ℕ → List ℕ → Option ScriptFault

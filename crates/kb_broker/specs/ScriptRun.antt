@@ -26,7 +26,7 @@ hushed b = record b { lines = quieted_lines b.lines }
 abbrev pub NoneWaits : BrokerState → Type 0
 NoneWaits b = AllByRecursion (λ (l : Line). waits_in (Some l.session) ≡ false) b.lines
 
-pub record IsAt (p : Place) (b : BrokerState) : Type 0 where
+pub record IsPlaceIn (p : Place) (b : BrokerState) : Type 0 where
   pub open_now : (k : ℕ) → p.open_now k ≡ is_open k b
   pub last : p.last ≡ b.last
 
@@ -35,7 +35,7 @@ pub record Happens (e : Happening) (old new : BrokerState) : Type 0 where
   pub step : IsStep e old new
   pub ready : IsReady new
   pub calm : is_calm new ≡ true
-  pub stands : IsAt (after_event e (here old)) new
+  pub stands : IsPlaceIn (after_event e (here old)) new
 
 -- what the broker said at an event
 abbrev pub words : BrokerState → BrokerState → List ℕ
@@ -77,10 +77,10 @@ IsUnwritten faults.Write text from to = (front : List ℕ) × (rest : List ℕ) 
 IsUnwritten faults.Memory text from to = Appends from to []
 
 -- a line that was played
-abbrev pub IsDone : Course → BrokerState → BrokerState → Option (List ℕ) → Option (List ℕ) → Type 0
-IsDone (Plays e) old final from to = IsSpoken e old final from to
-IsDone Passes old final from to = (final ≡ old) × Appends from to []
-IsDone (Stops fault) old final from to = ⊥
+abbrev pub IsLinePlayed : Course → BrokerState → BrokerState → Option (List ℕ) → Option (List ℕ) → Type 0
+IsLinePlayed (Plays e) old final from to = IsSpoken e old final from to
+IsLinePlayed Passes old final from to = (final ≡ old) × Appends from to []
+IsLinePlayed (Stops fault) old final from to = ⊥
 
 -- a line at which the script ended
 abbrev pub IsBroken : Course → ScriptFault → BrokerState → Option (List ℕ) → Option (List ℕ) → Type 0
@@ -93,8 +93,8 @@ IsBroken course faults.Memory old from to = Appends from to []
 -- 2. A whole script
 
 -- a machine's steps at those events, and their text was written
-abbrev pub IsWritten : BrokerState → List Happening → Option (List ℕ) → Option (List ℕ) → Type 0
-IsWritten b es from to = (steps : List (List Sent)) × Tells b es steps × Appends from to (script_text steps)
+abbrev pub AreStepsWritten : BrokerState → List Happening → Option (List ℕ) → Option (List ℕ) → Type 0
+AreStepsWritten b es from to = (steps : List (List Sent)) × Tells b es steps × Appends from to (script_text steps)
 
 -- and their text was written, of the last step the front alone
 abbrev pub IsWrittenInPart : BrokerState → List Happening → Option (List ℕ) → Option (List ℕ) → Type 0
@@ -107,15 +107,15 @@ OfSome events P = (es : List Happening) × (rest : List Happening) × (events �
 
 -- the whole script was played
 abbrev pub IsPlayed : BrokerState → Script → Option (List ℕ) → Option (List ℕ) → Type 0
-IsPlayed b s from to = (s.fault ≡ None) × IsWritten b s.events from to
+IsPlayed b s from to = (s.fault ≡ None) × AreStepsWritten b s.events from to
 
 -- it ended with a fault: a bad line or too long a script is that of the text, and all before it was played; any other ended it earlier
 abbrev pub IsEnded : BrokerState → Script → ScriptFault → Option (List ℕ) → Option (List ℕ) → Type 0
-IsEnded b s (faults.BadLine k) from to = (s.fault ≡ Some (faults.BadLine k)) × IsWritten b s.events from to
-IsEnded b s faults.TooLong from to = (s.fault ≡ Some faults.TooLong) × IsWritten b s.events from to
-IsEnded b s faults.Read from to = OfSome s.events (λ es. IsWritten b es from to)
+IsEnded b s (faults.BadLine k) from to = (s.fault ≡ Some (faults.BadLine k)) × AreStepsWritten b s.events from to
+IsEnded b s faults.TooLong from to = (s.fault ≡ Some faults.TooLong) × AreStepsWritten b s.events from to
+IsEnded b s faults.Read from to = OfSome s.events (λ es. AreStepsWritten b es from to)
 IsEnded b s faults.Write from to = OfSome s.events (λ es. IsWrittenInPart b es from to)
-IsEnded b s faults.Memory from to = OfSome s.events (λ es. IsWritten b es from to)
+IsEnded b s faults.Memory from to = OfSome s.events (λ es. AreStepsWritten b es from to)
 
 -- 3. Which lines were played
 
@@ -123,15 +123,15 @@ IsEnded b s faults.Memory from to = OfSome s.events (λ es. IsWritten b es from 
 abbrev pub IsCut : Option (List ℕ) → Option (List ℕ) → Type 0
 IsCut old new = (front : List ℕ) × All (λ x. x ≢ 10) front × Consumes old new front
 
-abbrev pub IsFrontOf : List ℕ → List ℕ → Type 0
-IsFrontOf front text = (rest : List ℕ) × (text ≡ front ++ rest)
+abbrev pub IsPrefixOf : List ℕ → List ℕ → Type 0
+IsPrefixOf front text = (rest : List ℕ) × (text ≡ front ++ rest)
 
 -- of a text those lines were taken, whole, and of the next one that front; what is left stands behind it
 pub record AreTaken (text : List ℕ) (left : Option (List ℕ)) (lines : List (List ℕ)) (front : List ℕ) : Type 0 where
   pub behind : List ℕ
   pub left_is : left ≡ Some behind
   pub lines_are : pieces text ≡ lines ++ pieces (front ++ behind)
-  pub within : IsFrontOf front (take_through 10 (front ++ behind))
+  pub within : IsPrefixOf front (take_through 10 (front ++ behind))
 
 -- those lines were played, and what the broker said to them was written
 abbrev pub ArePlayed : BrokerState → List (List ℕ) → Option (List ℕ) → Option (List ℕ) → Type 0

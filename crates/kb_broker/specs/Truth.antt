@@ -5,8 +5,8 @@ use Rattle.kb_tenant.specs.Told.{FailedBy}
 use Rattle.kb_isolation_spec.specs.Session.{fed, overruns, shut_down}
 use Rattle.kb_isolation_spec.specs.declared.shut.Shut.TheVariants as causes
 use Rattle.kb_isolation_spec.specs.Machine.{Happening, Opens, Comes, Closes, Moment, Line, find_line, first_able}
-use Rattle.kb_isolation_spec.specs.Broker.{BrokerState, IsUntaken, kept_of}
-use Rattle.kb_isolation_spec.specs.Calls.{IsRefused, closed, left_by, moved, opened}
+use Rattle.kb_isolation_spec.specs.Broker.{BrokerState, IsUntaken, kept_of_tenant}
+use Rattle.kb_isolation_spec.specs.Calls.{IsRefusedUnbound, closed, left_by, moved, opened}
 use Rattle.kb_isolation_spec.specs.Told.{quieted_lines}
 use Rattle.kb_isolation_spec.specs.Turned.{SameOthers}
 use Rattle.kb_broker.specs.Places.{IsCountedAt, IsToldAgain, IsToldAt, IsTurnAt}
@@ -41,7 +41,7 @@ pub record IsTrueLook (old new : BrokerState) : Type 0 where
   pub l : Line
   pub m : Line
   pub one : IsOfOne old new l m
-  pub kept : (t : ℕ) → kept_of new t ≡ kept_of old t
+  pub kept : (t : ℕ) → kept_of_tenant new t ≡ kept_of_tenant old t
   pub failed : ℕ
   pub fails : ℕ
   pub next : ℕ
@@ -97,7 +97,7 @@ pub record IsTrueMoment (old new : BrokerState) : Type 0 where
 
 -- what an event brings, of which nothing is said yet
 abbrev pub Begins : Happening → BrokerState → BrokerState → Type 0
-Begins (Opens n) old new = (new ≡ opened old n) ⊎ IsRefused old new
+Begins (Opens n) old new = (new ≡ opened old n) ⊎ IsRefusedUnbound old new
 Begins (Comes n piece) old new = (IsUntaken n piece old × (new ≡ old)) ⊎ (IsPiece n piece old new ⊎ IsRefusedPiece n piece old new)
 Begins (Closes n) old new = new ≡ closed old n
 Begins (Moment now) old new = IsTrueMoment (moved old now) new

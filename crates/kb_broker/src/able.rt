@@ -18,11 +18,11 @@ pub struct Able {
 impl Model for Able {
     ghost use Rattle.std.specs.Ordering.{nat_cmp};
     ghost use Rattle.std.specs.BinaryHeap.{heap_items, IsHeap};
-    ghost use Rattle.kb_broker.specs.Able.{Numbers, numbers_in};
+    ghost use Rattle.kb_broker.specs.Able.{Numbers, heap_numbers};
 
     ghost Value = { Numbers };
 
-    ghost view = { λ a. numbers_in a.numbers };
+    ghost view = { λ a. heap_numbers a.numbers };
 
     ghost invariant = { λ a. IsHeap (λ x y. nat_cmp y.0 x.0) (heap_items a.numbers) };
 }

@@ -5,7 +5,7 @@ ghost use Rattle.std.specs.List.{Contains, filter_map};
 ghost use Rattle.std.specs.List.Sorted.{IsStrictlySortedBy};
 ghost use Rattle.kb_wire.specs.Codec.{array};
 ghost use Rattle.kb_api_group.specs.Layouts.{api_version};
-ghost use Rattle.kb_settings.specs.Names.{byte_order, in_order, place_of};
+ghost use Rattle.kb_settings.specs.Names.{byte_order, in_order, place_of_name};
 ghost use Rattle.kb_store.specs.Disk.{Keeps};
 ghost use Rattle.kb_isolation_spec.specs.Stranded.{NoneStranded};
 ghost use Rattle.kb_tenant_api.specs.Hosted.{names_of, new_tenant};
@@ -13,7 +13,7 @@ ghost use Rattle.kb_tenants.specs.Members.{HaveNoGroup};
 ghost use Rattle.kb_tenants.specs.Tenants.{numbers_in};
 ghost use Rattle.kb_broker.specs.Hosts.{tenants_in, AreHosted};
 ghost use Rattle.kb_broker.specs.Nodes.{has_stock_clients};
-ghost use Rattle.kb_broker.specs.Opening.{entry_between, listed, listed_as, opening, opening_listing, opening_over, opening_setup};
+ghost use Rattle.kb_broker.specs.Opening.{entry_between, versions_of, listed_as, opening, opening_listing, opening_over, opening_setup};
 ghost use Rattle.kb_broker.specs.Opening.{tenants_of, login_of, fault_for, BlamesStore, HaveNoGroups};
 
 use crate::broker::Broker;
@@ -271,7 +271,7 @@ fn new_setup(
 
 /// The versions that are listed. They fit a reply.
 fn listed_versions(alloc: Global, listing: Listing) -> Result<Array<ApiVersion>, AllocError>
-    ensures is { IfOk result (λ versions. versions ≡ listed listing) }
+    ensures is { IfOk result (λ versions. versions ≡ versions_of listing) }
     ensures fits { IfOk result (λ versions. (array api_version).Fits versions) }
 {
     let versions = entries(alloc, listing, &APIS)?;
@@ -310,7 +310,7 @@ fn logins_of<'a>(
 fn place_of<'a>(names: &[&'a str], name: &'a str) -> usize
     requires rise { IsStrictlySortedBy byte_order (map (λ n. n.now) names.now) }
     requires named { Contains (map (λ n. n.now) names.now) name.now }
-    ensures { result ≡ place_of name.now (map (λ n. n.now) names.now) }
+    ensures { result ≡ place_of_name name.now (map (λ n. n.now) names.now) }
 {
     names.binary_search(&name).unwrap_or_else(|place| place)
 }
@@ -351,7 +351,7 @@ pub fn names_in_order()
 /// At the place of a name among names in order stands the name.
 pub fn places_of_names()
     ensures within { (names : List (List ℕ)) (name : List ℕ) → Contains names name
-        → place_of name (in_order names) < length (in_order names) }
+        → place_of_name name (in_order names) < length (in_order names) }
     ensures there { (names : List (List ℕ)) (name d : List ℕ) → Contains names name
-        → get_or (in_order names) (place_of name (in_order names)) d ≡ name }
+        → get_or (in_order names) (place_of_name name (in_order names)) d ≡ name }
 {}

@@ -4,7 +4,7 @@ ghost use Rattle.std.specs.Prelude.{◌≡◌, ◌≢◌, ℕ, Bool, List, Some,
 ghost use Rattle.kb_wire.specs.declared.api_key.TheConstants.{FETCH, LIST_OFFSETS, METADATA, PRODUCE};
 ghost use Rattle.kb_settings.specs.declared.settings.Settings.{Settings};
 ghost use Rattle.kb_tenant.specs.LimitsKept.{AreLimitsKept};
-ghost use Rattle.kb_isolation_spec.specs.Broker.{BrokerState, IsCalmFor, IsRun, Mine, bound_to, kept_of, view_of};
+ghost use Rattle.kb_isolation_spec.specs.Broker.{BrokerState, IsCalmFor, IsEventRun, Mine, bound_to, kept_of_tenant, view_of};
 ghost use Rattle.kb_isolation_spec.specs.Greeting.{node_of};
 ghost use Rattle.kb_isolation_spec.specs.Left.{LeavesWorlds};
 ghost use Rattle.kb_isolation_spec.specs.LimitsKept.{StaysWithin};
@@ -18,9 +18,9 @@ ghost use Rattle.kb_isolation_spec.specs.Isolation.{IsIsolated, own_events, own_
 ghost use Rattle.kb_broker.specs.declared.opening.Listing.{Listing};
 ghost use Rattle.kb_broker.specs.declared.run.Event.{Event};
 ghost use Rattle.kb_broker.specs.declared.run.Written.{Written};
-ghost use Rattle.kb_broker.specs.Counts.{lines_of, waiting_lines};
+ghost use Rattle.kb_broker.specs.Counts.{lines_bound_to, waiting_lines};
 ghost use Rattle.kb_broker.specs.Hosts.{is_honest};
-ghost use Rattle.kb_broker.specs.Members.{numbered_from};
+ghost use Rattle.kb_broker.specs.Members.{broker_numbered_from};
 ghost use Rattle.kb_broker.specs.Opening.{lists, opening_listing};
 ghost use Rattle.kb_broker.specs.Runs.{happenings, sent_of, connections_of};
 
@@ -51,7 +51,8 @@ pub fn opened_alone_is_the_same()
     // So it is where both number their members from the same number on.
     ensures numbered { (first : ℕ) (listing : Listing) (settings : Settings) (t : ℕ) (events fewer : List Event)
         (shared after own own_after : BrokerState) (written own_written : List Written)
-        → shared ≡ numbered_from first (opening_listing listing settings) → own ≡ numbered_from first (opening_listing listing settings)
+        → shared ≡ broker_numbered_from first (opening_listing listing settings) → own
+        ≡ broker_numbered_from first (opening_listing listing settings)
         → happenings fewer ≡ own_events t (happenings events) shared
         → IsIsolated (happenings events) shared after (map sent_of written)
         → IsIsolated (happenings fewer) own own_after (map sent_of own_written)
@@ -59,7 +60,7 @@ pub fn opened_alone_is_the_same()
         → IsCalmFor t shared after → IsCalmFor t own own_after
         → map sent_of own_written ≡ own_sent t (happenings events) shared (map sent_of written) }
     ensures run { (t : ℕ) (events fewer : List Event) (shared : BrokerState) → happenings fewer ≡ own_events t (happenings events) shared
-        → IsRun shared.last (happenings events) → IsRun shared.last (happenings fewer) }
+        → IsEventRun shared.last (happenings events) → IsEventRun shared.last (happenings fewer) }
 {}
 
 /// No member of a group is left waiting where nobody answers, which each call of the broker keeps (`held`): none of any tenant waits on a
@@ -77,7 +78,7 @@ pub fn nobody_is_stranded()
 /// brokers that give it the same view they are the same, as many and in the same order.
 pub fn connections_are_in_the_view()
     ensures bound { (t : ℕ) (mine : ℕ → Bool) (es : List Happening) (b : BrokerState) → Mine t mine es b
-        → lines_of t (view_of t mine b).lines ≡ lines_of t b.lines }
+        → lines_bound_to t (view_of t mine b).lines ≡ lines_bound_to t b.lines }
     ensures waiting { (t : ℕ) (mine : ℕ → Bool) (es : List Happening) (b : BrokerState) → Mine t mine es b
         → waiting_lines t (view_of t mine b).lines ≡ waiting_lines t b.lines }
 {}
@@ -101,13 +102,13 @@ pub fn listings_are_coherent()
 /// behind a run in which nothing was refused to it, nor to a connection that is not bound. What is said of that run is what
 /// `Broker::run` ensures (`worlds`).
 pub fn limits_are_kept<S: Store, L: PartitionLog + Drop>(broker: &Broker<S, L>)
-    ensures moments { is_honest S.disk broker.now → (t : ℕ) (mine : ℕ → Bool) (es : List Happening) → IsRun broker.now.state.last es
+    ensures moments { is_honest S.disk broker.now → (t : ℕ) (mine : ℕ → Bool) (es : List Happening) → IsEventRun broker.now.state.last es
         → Mine t mine es broker.now.state
-        → StaysWithin (node_of broker.now.state.setup t).limits (kept_of broker.now.state t).world (purge mine es)
+        → StaysWithin (node_of broker.now.state.setup t).limits (kept_of_tenant broker.now.state t).world (purge mine es)
         (view_of t mine broker.now.state) }
     ensures worlds { is_honest S.disk broker.now → (t : ℕ) (es : List Happening) (after : BrokerState) (got : List Sent)
-        → IsRun broker.now.state.last es → LeavesWorlds es broker.now.state after got → IsCalmFor t broker.now.state after
-        → AreLimitsKept (node_of broker.now.state.setup t).limits (kept_of broker.now.state t).world (kept_of after t).world }
+        → IsEventRun broker.now.state.last es → LeavesWorlds es broker.now.state after got → IsCalmFor t broker.now.state after
+        → AreLimitsKept (node_of broker.now.state.setup t).limits (kept_of_tenant broker.now.state t).world (kept_of_tenant after t).world }
 {
     broker.connections();
 }

@@ -6,7 +6,7 @@ ghost use Rattle.kb_isolation_spec.specs.Machine.{Closes, Sent, those_sent, by_n
 ghost use Rattle.kb_isolation_spec.specs.Calls.{closed};
 ghost use Rattle.kb_isolation_spec.specs.Stranded.{NoneStranded};
 ghost use Rattle.kb_tenant_state.specs.Counts.{IsCalm};
-ghost use Rattle.kb_isolation_spec.specs.Broker.{IsCalmFor, IsRun, IsUnowned, alone_unowned, last_after, only, owned_by, view_of};
+ghost use Rattle.kb_isolation_spec.specs.Broker.{IsCalmFor, IsEventRun, IsUnowned, alone_unowned, last_after, only, owned_by, view_of};
 ghost use Rattle.kb_isolation_spec.specs.Fetches.{FetchesGetBatches};
 ghost use Rattle.kb_isolation_spec.specs.Isolation.{IsIsolated, AreAlike, own_events, own_sent};
 ghost use Rattle.kb_isolation_spec.specs.Left.{LeavesWorlds};
@@ -14,7 +14,7 @@ ghost use Rattle.kb_isolation_spec.specs.Alone.{HasToItself};
 ghost use Rattle.kb_isolation_spec.specs.Greetings.{greeted_alone};
 ghost use Rattle.kb_broker.specs.Hosts.{is_honest, IsInFiles, IsLaterBy, IsReadyOn, StepsTo};
 ghost use Rattle.kb_broker.specs.Truth.{SpeaksAt, SpeaksThrough};
-ghost use Rattle.kb_broker.specs.Runs.{happening_of, happenings, sent_of, is_opening, connections_of, emptied, IsPassed, Passes};
+ghost use Rattle.kb_broker.specs.Runs.{happening_of, happenings, sent_of, is_opening, connections_of, emptied, IsPassed, PassesEvents};
 
 use crate::broker::Broker;
 use kb_isolation_spec::Shut;
@@ -61,7 +61,7 @@ impl<S: Store, L: PartitionLog + Drop> Broker<S, L> {
     ///
     /// An `Err`, for want of memory, comes before the first event and changes nothing.
     pub fn run(&mut self, alloc: Global, events: &[Event]) -> Result<Vec<Written>, AllocError>
-        requires { IsRun self.old.state.last (happenings events.now) }
+        requires { IsEventRun self.old.state.last (happenings events.now) }
         ensures headline { IfOk result (λ written.
             is_honest S.disk self.new → IsIsolated (happenings events.now) self.old.state self.new.state (map sent_of written.items)) }
         ensures unowned { IfOk result (λ written.
@@ -81,7 +81,7 @@ impl<S: Store, L: PartitionLog + Drop> Broker<S, L> {
             map (λ (w : Written). w.conn) written.items ≡ connections_of (happenings events.now) self.old.state) }
         ensures history { IfOk result (λ written.
             (got : List Sent) × (map sent_of written.items ≡ by_number got)
-            × Passes (is_honest S.disk self.new) (happenings events.now) self.old.state self.new.state got) }
+            × PassesEvents (is_honest S.disk self.new) (happenings events.now) self.old.state self.new.state got) }
         // Whatever was refused, what is answered with no error is done, unless the store lied (`spoken`): in each event, in order, the
         // broker did what the event brings, and then only steps in each of which what it said to a tenant's request is the truth.
         ensures later { IfOk result (λ written. IsLaterBy S.disk (SpeaksThrough (happenings events.now)) self.old self.new) }
@@ -104,7 +104,7 @@ impl<S: Store, L: PartitionLog + Drop> Broker<S, L> {
     /// One event. What a connection got that ends in it is added.
     fn happen(&mut self, alloc: Global, event: &Event, written: &mut Vec<Written>)
         requires ready { IsReadyOn S.disk self.old }
-        requires run { IsRun self.old.state.last (happening_of event.now ∷ []) }
+        requires run { IsEventRun self.old.state.last (happening_of event.now ∷ []) }
         requires room { vec_len written.old + length
             (connections_of (happening_of event.now ∷ []) self.old.state) ≤ vec_capacity written.old }
         ensures ready { IsReadyOn S.disk self.new }
@@ -207,8 +207,8 @@ pub fn run_both<S: Store, L: PartitionLog + Drop>(
     events: &[Event],
     others: &[Event],
 ) -> Result<(Vec<Written>, Vec<Written>), AllocError>
-    requires first { IsRun first.old.state.last (happenings events.now) }
-    requires second { IsRun second.old.state.last (happenings others.now) }
+    requires first { IsEventRun first.old.state.last (happenings events.now) }
+    requires second { IsEventRun second.old.state.last (happenings others.now) }
     ensures alike { IfOk result (λ both. is_honest S.disk first.new → is_honest S.disk second.new → (t : ℕ)
         → AreAlike t (happenings events.now) (happenings others.now) first.old.state first.new.state second.old.state second.new.state →
         own_sent t (happenings others.now) second.old.state (map sent_of both.1.items)

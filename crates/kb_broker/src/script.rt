@@ -1,6 +1,7 @@
 //! Scripts: lines that say what happens to a broker, and what it says after each.
 
-ghost use Rattle.std.specs.Prelude.{◌≡◌, ◌≤◌, ◌<◌, ◌^◌, ◌&&◌, true, not, IfSome, IfErr, OnOk};
+ghost use Rattle.std.specs.Prelude.{◌≡◌, ◌≤◌, ◌<◌, ◌&&◌, true, not, IfSome, IfErr, OnOk};
+ghost use Rattle.kb_wire.specs.declared.clock.TheConstants.{MAX_CLOCK};
 ghost use Rattle.std.specs.Io.BufRead.{strip_last};
 ghost use Rattle.kb_isolation_spec.specs.Machine.{Opens, Comes, Closes, Moment};
 ghost use Rattle.kb_isolation_spec.specs.Broker.{IsReady};
@@ -8,7 +9,8 @@ ghost use Rattle.kb_isolation_spec.specs.Calls.{is_calm, is_shut};
 ghost use Rattle.kb_broker.specs.Hosts.{is_honest};
 ghost use Rattle.kb_broker.specs.Opening.{opening};
 ghost use Rattle.kb_broker.specs.Script.{Plays, script, told, told_of, course_of, here, is_placed};
-ghost use Rattle.kb_broker.specs.ScriptRun.{IsQuiet, NoneWaits, HappensSilently, IsSpoken, IsDone, IsBroken, IsPlayed, IsEnded, IsStopped};
+ghost use Rattle.kb_broker.specs.ScriptRun.{IsQuiet, NoneWaits, HappensSilently, IsSpoken, IsLinePlayed, IsBroken, IsPlayed, IsEnded};
+ghost use Rattle.kb_broker.specs.ScriptRun.{IsStopped};
 
 mod answer;
 mod line;
@@ -20,6 +22,7 @@ use answer::{answer_of, write_all};
 use kb_log::PartitionLog;
 use kb_settings::Settings;
 use kb_store::{MemoryStore, Store};
+use kb_wire::MAX_CLOCK;
 use line::Line;
 use reading::next_line;
 use saying::{say, shut_places};
@@ -32,9 +35,6 @@ const LINES: u64 = 1_000_000;
 
 /// The most bytes of a script.
 const SCRIPT_BYTES: usize = 1_073_741_824;
-
-/// The greatest moment.
-const LAST_MOMENT: u64 = 4_611_686_018_427_387_904;
 
 /// What ends a script early.
 #[derive(Clone, Copy, Debug, PartialEq, Eq, Error)]
@@ -132,8 +132,8 @@ fn play_line<S: Store, L: PartitionLog + Drop, W: Write>(
     requires ready { is_honest S.disk broker.old → IsReady broker.old.state }
     ensures honest { is_honest S.disk broker.new → is_honest S.disk broker.old }
     ensures ok { is_honest S.disk broker.new
-        → OnOk result (IsDone (course_of number (here broker.old.state) (told (strip_last 10 text.now))) broker.old.state broker.new.state
-        (W.contents writer.old) (W.contents writer.new)) }
+        → OnOk result (IsLinePlayed (course_of number (here broker.old.state) (told (strip_last 10 text.now)))
+        broker.old.state broker.new.state (W.contents writer.old) (W.contents writer.new)) }
     ensures err { is_honest S.disk broker.new
         → IfErr result (λ fault. IsBroken (course_of number (here broker.old.state) (told (strip_last 10 text.now))) fault broker.old.state
         (W.contents writer.old) (W.contents writer.new)) }
@@ -170,7 +170,7 @@ fn is_in_place<S: Store, L: PartitionLog + Drop>(broker: &Broker<S, L>, line: &L
     match line {
         Line::Open(connection) => broker.last_connection() < *connection,
         Line::In(connection, _) | Line::Close(connection) => broker.is_open(*connection),
-        Line::At(now) => *now <= LAST_MOMENT,
+        Line::At(now) => *now <= MAX_CLOCK,
         Line::Empty => true,
         Line::Bad => false,
     }
@@ -223,7 +223,7 @@ fn pass<S: Store, L: PartitionLog + Drop, W: Write>(
     requires calm { is_honest S.disk broker.old → is_calm broker.old.state ≡ true }
     requires quiet { is_honest S.disk broker.old → IsQuiet broker.old.state }
     requires ready { is_honest S.disk broker.old → IsReady broker.old.state }
-    requires in_time { now ≤ 2 ^ 62 }
+    requires in_time { now ≤ MAX_CLOCK }
     ensures honest { is_honest S.disk broker.new → is_honest S.disk broker.old }
     ensures ok { is_honest S.disk broker.new
         → OnOk result (IsSpoken (Moment now) broker.old.state broker.new.state (W.contents writer.old) (W.contents writer.new)) }

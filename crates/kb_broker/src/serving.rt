@@ -1,7 +1,8 @@
 //! The turn of one connection, beside the tenants.
 
 ghost use Rattle.kb_isolation_spec.specs.Greeting.{for_tenant, node_of};
-ghost use Rattle.std.specs.Prelude.{◌≡◌, ◌≢◌, ◌<◌, ◌≤◌, ◌^◌, ◌⊎◌, ℕ, ℤ, List, length, OnOk, OnErr, IfOk, Ok, None, true};
+ghost use Rattle.kb_wire.specs.declared.clock.TheConstants.{MAX_CLOCK};
+ghost use Rattle.std.specs.Prelude.{◌≡◌, ◌≢◌, ◌<◌, ◌≤◌, ◌⊎◌, ℕ, ℤ, List, length, OnOk, OnErr, IfOk, Ok, None, true};
 ghost use Rattle.std.specs.Prelude.{false};
 ghost use Rattle.std.specs.FinMap as fin;
 ghost use Rattle.kb_tenant_api.specs.Hosted.{kept_of};
@@ -13,9 +14,9 @@ ghost use Rattle.kb_tenant.specs.Told.{FailedBy};
 ghost use Rattle.kb_isolation_spec.specs.declared.head.Head.{Head};
 ghost use Rattle.kb_isolation_spec.specs.declared.shut.Shut.TheVariants as causes;
 ghost use Rattle.kb_isolation_spec.specs.Session.{BoundTo, shut_down, can, in_front};
-ghost use Rattle.kb_isolation_spec.specs.Machine.{after_reaction, after_turn, put};
+ghost use Rattle.kb_isolation_spec.specs.Machine.{after_reaction, after_turn, kept_by_turn};
 ghost use Rattle.kb_isolation_spec.specs.Broker.{InRange};
-ghost use Rattle.kb_isolation_spec.specs.Tenant.{answer, kept_after, is_past, ready};
+ghost use Rattle.kb_isolation_spec.specs.Tenant.{reaction_to, kept_after, is_overdue, ready};
 ghost use Rattle.kb_isolation_spec.specs.Turned.{is_looked_for};
 ghost use Rattle.kb_tenant_state.specs.declared.topic_partition.TopicPartition.{TopicPartition};
 ghost use Rattle.kb_tenants.specs.Counts.{AreSameCounts};
@@ -76,7 +77,7 @@ pub fn take_turn<L: PartitionLog + Drop, S: Store>(
     connection: &mut Connection,
 ) -> Result<Concerned, AllocError>
     requires hosted { AreHosted L.log S.disk tenants.old }
-    requires clock { clock ≤ 2 ^ 62 }
+    requires clock { clock ≤ MAX_CLOCK }
     requires tenant { InRange (length (tenants_in L.log S.disk tenants.old)) connection.old.session.stage }
     requires able { can connection.old.session ≡ true }
     requires free { fin.get parking.old connection.old.number ≡ None }
@@ -229,7 +230,7 @@ fn serve_bound<L: PartitionLog + Drop, S: Store>(
     connection: &mut Connection,
 ) -> Result<Touched, AllocError>
     requires hosted { AreHosted L.log S.disk tenants.old }
-    requires clock { clock ≤ 2 ^ 62 }
+    requires clock { clock ≤ MAX_CLOCK }
     requires tenant { tenant < length (tenants_in L.log S.disk tenants.old) }
     requires bound { connection.old.session.stage ≡ BoundTo tenant None }
     requires able { can connection.old.session ≡ true }
@@ -252,7 +253,7 @@ fn serve_bound<L: PartitionLog + Drop, S: Store>(
         (tenants_in L.log S.disk tenants.new)
         (λ k l. let own = for_tenant setup.now tenant in
         (connection.new.session ≡ after_turn own k clock connection.old.number connection.old.session)
-        × (l ≡ put own k clock connection.old.number (in_front connection.old.session)))) }
+        × (l ≡ kept_by_turn own k clock connection.old.number (in_front connection.old.session)))) }
     ensures told { shelf_is_honest S.disk tenants.new → IsToldAt
         (FailedBy (S.disk tenants.old.shelf.store).failures (S.disk tenants.new.shelf.store).failures tenants.new.shelf.next)
         (IsCatalogFull L.log tenants.new) setup.now clock connection.old.number (BoundTo tenant None)
@@ -370,7 +371,7 @@ fn ask<L: PartitionLog + Drop, S: Store>(
     request: &Request<'_>,
 ) -> (Answer, Touched)
     requires hosted { AreHosted L.log S.disk tenants.old }
-    requires clock { clock ≤ 2 ^ 62 }
+    requires clock { clock ≤ MAX_CLOCK }
     requires tenant { tenant < length (tenants_in L.log S.disk tenants.old) }
     ensures hosted { AreHosted L.log S.disk tenants.new }
     ensures later { AreLater L.log S.disk tenants.old tenants.new }
@@ -380,7 +381,7 @@ fn ask<L: PartitionLog + Drop, S: Store>(
         (tenants_in L.log S.disk tenants.new)
         (λ k l. let node = node_of setup.now tenant in
         (l ≡ kept_after node k clock request.now.connection request.now.api_key request.now.api_version request.now.body.now)
-        × IsAnswer request.now.correlation_id (answer node k clock request.now.connection request.now.api_key
+        × IsAnswer request.now.correlation_id (reaction_to node k clock request.now.connection request.now.api_key
         request.now.api_version request.now.body.now) result.0) }
     ensures truthful { shelf_is_honest S.disk tenants.new → (touched : List TopicPartition) × IsTrueAnswer
         (FailedBy (S.disk tenants.old.shelf.store).failures (S.disk tenants.new.shelf.store).failures tenants.new.shelf.next)
@@ -509,7 +510,7 @@ fn is_looked_for(whom: Whom, clock: u64, tenant: usize, waiting: &Waiting) -> bo
 
 /// Whether a fetch's deadline has come. One that waits for its group has none.
 fn is_past(clock: u64, awaited: &Awaited) -> bool
-    ensures { result ≡ is_past clock (awaited_of awaited.now) }
+    ensures { result ≡ is_overdue clock (awaited_of awaited.now) }
 {
     match awaited {
         Awaited::Records { deadline, .. } => *deadline <= clock,

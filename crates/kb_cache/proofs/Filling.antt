@@ -2,23 +2,23 @@
 use Rattle.std.proofs.Common.{◌≡◌, ◌∙◌, ◌≤◌, ◌<◌, ◌+◌, ◌-◌, ◌++◌, ◌==◌, ℕ, zero, suc, true, false, cond, List, [], ◌∷◌, length, take, refl, sym, ap, arith, append_assoc, eq-eqb}
 use Rattle.std.proofs.lemmas.Bool.{ne_eqb}
 use Rattle.std.proofs.lemmas.List.{append-nil, length-append, length-take, take_all, take_at}
-use Rattle.kb_cache.specs.Kept.{Entry, found, is_kept, joined, reads, used}
+use Rattle.kb_cache.specs.Kept.{Entry, cached_at, is_kept, prepended, reads, used}
 
 reads_none : (k : ℕ) (es : List Entry) (file at n : ℕ) → n ≡ 0 → reads k es file at n ≡ ([], es)
 reads_none zero es file at n none = refl
 reads_none (suc k) es file at n none =
-    let b = take n (found es file at) in
-    ap (λ c. cond c ([], es) (joined b (used es file at) (reads k (used es file at) file (at + length b) (n - length b)))) (eq-eqb n 0 none)
+    let b = take n (cached_at es file at) in
+    ap (λ c. cond c ([], es) (prepended b (used es file at) (reads k (used es file at) file (at + length b) (n - length b)))) (eq-eqb n 0 none)
 
-joined_same : (b : List ℕ) (es : List Entry) (x y : List ℕ × List Entry) → (0 < length b → x ≡ y) → joined b es x ≡ joined b es y
+joined_same : (b : List ℕ) (es : List Entry) (x y : List ℕ × List Entry) → (0 < length b → x ≡ y) → prepended b es x ≡ prepended b es y
 joined_same [] es x y same = refl
-joined_same (c ∷ b) es x y same = ap (λ r. joined (c ∷ b) es r) (same (omega arith))
+joined_same (c ∷ b) es x y same = ap (λ r. prepended (c ∷ b) es r) (same (omega arith))
 
-joined_none : (b : List ℕ) (es : List Entry) (r : List ℕ × List Entry) → length b ≡ 0 → joined b es r ≡ ([], es)
+joined_none : (b : List ℕ) (es : List Entry) (r : List ℕ × List Entry) → length b ≡ 0 → prepended b es r ≡ ([], es)
 joined_none [] es r none = refl
 joined_none (x ∷ b) es r none = absurd (omega (arith, none))
 
-joined_some : (b : List ℕ) (es : List Entry) (r : List ℕ × List Entry) → 0 < length b → joined b es r ≡ (b ++ r.0, r.1)
+joined_some : (b : List ℕ) (es : List Entry) (r : List ℕ × List Entry) → 0 < length b → prepended b es r ≡ (b ++ r.0, r.1)
 joined_some [] es r some = absurd (omega (arith, some))
 joined_some (x ∷ b) es r some = refl
 
@@ -27,19 +27,19 @@ reads_same : (k m : ℕ) (es : List Entry) (file at n : ℕ) → n ≤ k → n �
 reads_same zero m es file at n l h = sym (reads_none m es file at n (omega (arith, l)))
 reads_same (suc k) zero es file at n l h = reads_none (suc k) es file at n (omega (arith, h))
 reads_same (suc k) (suc m) es file at n l h =
-    let b = take n (found es file at) in
+    let b = take n (cached_at es file at) in
     let next = used es file at in
     ap (λ r. cond (n == 0) ([], es) r) (joined_same b next (reads k next file (at + length b) (n - length b)) (reads m next file (at + length b) (n - length b))
     (λ some. reads_same k m next file (at + length b) (n - length b) (omega (arith, l, some)) (omega (arith, h, some))))
 
-reads_some : (es : List Entry) (file at n : ℕ) → 0 < n → (b : List ℕ) → b ≡ take n (found es file at)
-    → reads n es file at n ≡ joined b (used es file at) (reads (n - length b) (used es file at) file (at + length b) (n - length b))
+reads_some : (es : List Entry) (file at n : ℕ) → 0 < n → (b : List ℕ) → b ≡ take n (cached_at es file at)
+    → reads n es file at n ≡ prepended b (used es file at) (reads (n - length b) (used es file at) file (at + length b) (n - length b))
 reads_some es file at zero some b is = absurd (omega (arith, some))
 reads_some es file at (suc n) some b is =
-    let found_here = take (suc n) (found es file at) in
+    let found_here = take (suc n) (cached_at es file at) in
     let next = used es file at in
-    ap (λ c. cond c ([], es) (joined found_here next (reads n next file (at + length found_here) (suc n - length found_here)))) (ne_eqb (suc n) 0 (λ e. absurd (omega (arith, e))))
-    ∙ ap (λ x. joined x next (reads n next file (at + length x) (suc n - length x))) (sym is)
+    ap (λ c. cond c ([], es) (prepended found_here next (reads n next file (at + length found_here) (suc n - length found_here)))) (ne_eqb (suc n) 0 (λ e. absurd (omega (arith, e))))
+    ∙ ap (λ x. prepended x next (reads n next file (at + length x) (suc n - length x))) (sym is)
     ∙ joined_same b next (reads n next file (at + length b) (suc n - length b)) (reads (suc n - length b) next file (at + length b) (suc n - length b))
     (λ more. reads_same n (suc n - length b) next file (at + length b) (suc n - length b) (omega (arith, more)) (omega arith))
 
@@ -55,20 +55,20 @@ filling_none es file at n buffer =
     record { within = omega arith; bytes = ap (λ r. r.0) begins; entries = ap (λ r. r.1) begins }
 
 module _ (first : List Entry) (file at n : ℕ) (es next : List Entry) (done : ℕ) (buffer b : List ℕ) (is : Filling first file at n es done buffer)
-    (less : done < n) (here : b ≡ take (n - done) (found es file (at + done))) (then : next ≡ used es file (at + done)) where
-  step : reads (n - done) es file (at + done) (n - done) ≡ joined b next (reads (n - done - length b) next file (at + done + length b) (n - done - length b))
+    (less : done < n) (here : b ≡ take (n - done) (cached_at es file (at + done))) (then : next ≡ used es file (at + done)) where
+  step : reads (n - done) es file (at + done) (n - done) ≡ prepended b next (reads (n - done - length b) next file (at + done + length b) (n - done - length b))
   step = reads_some es file (at + done) (n - done) (omega (arith, less)) b here
-      ∙ ap (λ x. joined b x (reads (n - done - length b) x file (at + done + length b) (n - done - length b))) (sym then)
+      ∙ ap (λ x. prepended b x (reads (n - done - length b) x file (at + done + length b) (n - done - length b))) (sym then)
 
   short : length b ≤ n - done
-  short = omega (arith, ap length here, length-take (n - done) (found es file (at + done)))
+  short = omega (arith, ap length here, length-take (n - done) (cached_at es file (at + done)))
 
   more : 0 < length b → reads (n - done) es file (at + done) (n - done)
       ≡ (b ++ (reads (n - (done + length b)) next file (at + (done + length b)) (n - (done + length b))).0, (reads (n - (done + length b)) next file (at + (done + length b)) (n - (done + length b))).1)
   more some =
       let left : n - done - length b ≡ n - (done + length b) = omega arith in
       let place : at + done + length b ≡ at + (done + length b) = omega arith in
-      step ∙ (λ i. joined b next (reads (left i) next file (place i) (left i)))
+      step ∙ (λ i. prepended b next (reads (left i) next file (place i) (left i)))
       ∙ joined_some b next (reads (n - (done + length b)) next file (at + (done + length b)) (n - (done + length b))) some
 
   pub filling_more : (buffer' rest : List ℕ) → 0 < length b → done ≤ length buffer → buffer' ≡ take done buffer ++ (b ++ rest) → Filling first file at n next (done + length b) buffer'
@@ -109,10 +109,10 @@ module _ (first : List Entry) (file at n : ℕ) (es : List Entry) (done : ℕ) (
   filled_whole size = sym (eq-eqb (length (reads n first file at n).0) n (sym (ap length (filled_bytes size)) ∙ size))
 
 -- an entry that is long enough has what is asked for
-pub kept_long : (es : List Entry) (file at n : ℕ) → 0 < n → n ≤ length (found es file at) → is_kept es file at n ≡ true
+pub kept_long : (es : List Entry) (file at n : ℕ) → 0 < n → n ≤ length (cached_at es file at) → is_kept es file at n ≡ true
 kept_long es file at n some long =
-    let b = take n (found es file at) in
-    let size : length b ≡ n = omega (arith, length-take n (found es file at), long) in
+    let b = take n (cached_at es file at) in
+    let size : length b ≡ n = omega (arith, length-take n (cached_at es file at), long) in
     let next = used es file at in
     let r = reads (n - length b) next file (at + length b) (n - length b) in
     let none : r ≡ ([], next) = reads_none (n - length b) next file (at + length b) (n - length b) (omega (arith, size)) in

@@ -12,7 +12,7 @@ use Rattle.kb_store.proofs.Maps.{get_inserted, get_other, get_kept}
 use Rattle.kb_store.specs.Disk.{Disk, Table, Files, Becomes, IsThere, IsLawfulDisk, Keeps, Creates, Appends, Cuts, Removes, MayCreate, len_of, bytes_of}
 use Rattle.std.specs.declared.vec.Vec.{Vec}
 use Rattle.lru.specs.LruCache.{LruCache}
-use Rattle.kb_cache.specs.Kept.{Entry, AreWithin, total, after_keep, behind_cut, found, is_fit, is_kept, joined, reads, same_place, stays, used, with_bytes, with_room}
+use Rattle.kb_cache.specs.Kept.{Entry, AreWithin, total, after_keep, behind_cut, cached_at, is_fit, is_kept, prepended, reads, same_place, stays, used, with_bytes, with_room}
 use Rattle.kb_cache.specs.Cached.{AreRight, HasCap, IsRight, IsTidy, entries_in}
 use Rattle.kb_cache.proofs.Seen.{same_place_equiv}
 use Rattle.kb_cache.proofs.Sums.{all_kept, all_map, all_passed, all_reads, fit_some, reads_keep, total_reads, within_kept, within_reads}
@@ -151,7 +151,7 @@ removed_right d d' file es b all = all_map (λ e. IsRight d e × (stays file 0 e
 
 -- ---- what is found, and what is read
 
-found_right : (d : Disk) (es : List Entry) (file at : ℕ) → d.honest → AreRight d es → found es file at ≡ take (length (found es file at)) (drop at (bytes_of d file))
+found_right : (d : Disk) (es : List Entry) (file at : ℕ) → d.honest → AreRight d es → cached_at es file at ≡ take (length (cached_at es file at)) (drop at (bytes_of d file))
 found_right d [] file at h all = refl
 found_right d (e ∷ es) file at h all = (elim (same_place (file, at) e.0) as (λ b. same_place (file, at) e.0 ≡ b
     → unwrap_or (cond b (Some e.1) (lookup (same_place (file, at)) es)) []
@@ -211,29 +211,29 @@ lookup_front : (q k : ℕ × ℕ) (es : List Entry) (o : Option Entry) → looku
 lookup_front q k es None is = refl
 lookup_front q k es (Some e) is = behind_moved q k es e is (Contains-lookup_entry (same_place k) es e is).1
 
-found_moved : (es : List Entry) (k : ℕ × ℕ) (file at : ℕ) → found (promoted (same_place k) es) file at ≡ found es file at
+found_moved : (es : List Entry) (k : ℕ × ℕ) (file at : ℕ) → cached_at (promoted (same_place k) es) file at ≡ cached_at es file at
 found_moved es k file at = ap (λ o. unwrap_or o []) (lookup_front (file, at) k es (lookup_entry (same_place k) es) refl)
 
-found_read : (k : ℕ) (es : List Entry) (file at n a : ℕ) → found (reads k es file at n).1 file a ≡ found es file a
-found_read k es file at n a = reads_keep (λ x. found x file a) (λ place x. found_moved x place file a) k es file at n
+found_read : (k : ℕ) (es : List Entry) (file at n a : ℕ) → cached_at (reads k es file at n).1 file a ≡ cached_at es file a
+found_read k es file at n a = reads_keep (λ x. cached_at x file a) (λ place x. found_moved x place file a) k es file at n
 
-joined_first : (b : List ℕ) (es fs : List Entry) (r s : List ℕ × List Entry) → r.0 ≡ s.0 → (joined b es r).0 ≡ (joined b fs s).0
+joined_first : (b : List ℕ) (es fs : List Entry) (r s : List ℕ × List Entry) → r.0 ≡ s.0 → (prepended b es r).0 ≡ (prepended b fs s).0
 joined_first [] es fs r s more = refl
 joined_first (x ∷ b) es fs r s more = ap (λ y. x ∷ b ++ y) more
 
-joined_alike : (b c : List ℕ) (es fs : List Entry) (r s : List ℕ × List Entry) → b ≡ c → r.0 ≡ s.0 → (joined b es r).0 ≡ (joined c fs s).0
-joined_alike b c es fs r s same more = joined_first b es fs r s more ∙ ap (λ x. (joined x fs s).0) same
+joined_alike : (b c : List ℕ) (es fs : List Entry) (r s : List ℕ × List Entry) → b ≡ c → r.0 ≡ s.0 → (prepended b es r).0 ≡ (prepended c fs s).0
+joined_alike b c es fs r s same more = joined_first b es fs r s more ∙ ap (λ x. (prepended x fs s).0) same
 
-reads_alike : (k : ℕ) (es fs : List Entry) (file at n : ℕ) → ((a : ℕ) → found es file a ≡ found fs file a) → (reads k es file at n).0 ≡ (reads k fs file at n).0
+reads_alike : (k : ℕ) (es fs : List Entry) (file at n : ℕ) → ((a : ℕ) → cached_at es file a ≡ cached_at fs file a) → (reads k es file at n).0 ≡ (reads k fs file at n).0
 reads_alike zero es fs file at n same = refl
 reads_alike (suc k) es fs file at n same =
-    let b = take n (found es file at) in
-    let c = take n (found fs file at) in
+    let b = take n (cached_at es file at) in
+    let c = take n (cached_at fs file at) in
     let e : b ≡ c = ap (take n) (same at) in
     let x = used es file at in
     let y = used fs file at in
     let more = reads_alike k x y file (at + length b) (n - length b) (λ a. found_moved es (file, at) file a ∙ same a ∙ sym (found_moved fs (file, at) file a)) in
-    elim (n == 0) as (λ d. (cond d ([], es) (joined b x (reads k x file (at + length b) (n - length b)))).0 ≡ (cond d ([], fs) (joined c y (reads k y file (at + length c) (n - length c)))).0) [
+    elim (n == 0) as (λ d. (cond d ([], es) (prepended b x (reads k x file (at + length b) (n - length b)))).0 ≡ (cond d ([], fs) (prepended c y (reads k y file (at + length c) (n - length c)))).0) [
       | true ↦ refl
       | false ↦ joined_alike b c x y (reads k x file (at + length b) (n - length b)) (reads k y file (at + length c) (n - length c)) e
           (more ∙ (λ i. (reads k y file (at + length (e i)) (n - length (e i))).0))
@@ -251,9 +251,9 @@ kept_now most_entries most_bytes es file at bytes fit =
     let some = fit_some most_entries most_bytes bytes fit in
     let front = used es file at in
     let more = with_bytes most_entries most_bytes es file at bytes in
-    ap (λ f. is_kept (cond (not f) es (cond (nat_le n (length (found es file at))) front more)) file at n) fit
-    ∙ (elim (nat_le n (length (found es file at))) as (λ c. nat_le n (length (found es file at)) ≡ c → is_kept (cond c front more) file at n ≡ true) [
-      | true ↦ λ c. kept_long front file at n some (omega (arith, leb-true n (length (found es file at)) c, ap length (found_moved es (file, at) file at)))
+    ap (λ f. is_kept (cond (not f) es (cond (nat_le n (length (cached_at es file at))) front more)) file at n) fit
+    ∙ (elim (nat_le n (length (cached_at es file at))) as (λ c. nat_le n (length (cached_at es file at)) ≡ c → is_kept (cond c front more) file at n ≡ true) [
+      | true ↦ λ c. kept_long front file at n some (omega (arith, leb-true n (length (cached_at es file at)) c, ap length (found_moved es (file, at) file at)))
       | false ↦ λ c. kept_long more file at n some (omega (arith, ap (λ d. length (unwrap_or (cond d (Some bytes) (lookup (same_place (file, at)) (with_room most_entries most_bytes es file at bytes))) [])) (same_place_equiv.refl (file, at))))
     ]) refl
 
@@ -265,7 +265,7 @@ kept_told most_entries most_bytes es es' file at at' n bytes kept is told fit pl
     ∙ kept_now most_entries most_bytes es file at bytes fit
 
 joined_right : (b s : List ℕ) (at : ℕ) (es : List Entry) (r : List ℕ × List Entry) → b ≡ take (length b) (drop at s) → r.0 ≡ take (length r.0) (drop (at + length b) s)
-    → (joined b es r).0 ≡ take (length (joined b es r).0) (drop at s)
+    → (prepended b es r).0 ≡ take (length (prepended b es r).0) (drop at s)
 joined_right [] s at es r is more = refl
 joined_right (x ∷ b) s at es r is more =
     let c = x ∷ b in
@@ -273,15 +273,15 @@ joined_right (x ∷ b) s at es r is more =
     ∙ ap (λ y. take (length c) (drop at s) ++ take (length r.0) y) (sym (drop-drop (length c) at s))
     ∙ take_add (length c) (length r.0) (drop at s) ∙ ap (λ k. take k (drop at s)) (sym (length-append c r.0))
 
-reads_right : (d : Disk) (k : ℕ) (es : List Entry) (file at n : ℕ) → d.honest → ((a : ℕ) → found es file a ≡ take (length (found es file a)) (drop a (bytes_of d file)))
+reads_right : (d : Disk) (k : ℕ) (es : List Entry) (file at n : ℕ) → d.honest → ((a : ℕ) → cached_at es file a ≡ take (length (cached_at es file a)) (drop a (bytes_of d file)))
     → (reads k es file at n).0 ≡ take (length (reads k es file at n).0) (drop at (bytes_of d file))
 reads_right d zero es file at n h right = refl
 reads_right d (suc k) es file at n h right =
-    let b = take n (found es file at) in
+    let b = take n (cached_at es file at) in
     let next = used es file at in
-    let here = part_found n (found es file at) (drop at (bytes_of d file)) (right at) in
-    elim (n == 0) as (λ c. (cond c ([], es) (joined b next (reads k next file (at + length b) (n - length b)))).0
-    ≡ take (length (cond c ([], es) (joined b next (reads k next file (at + length b) (n - length b)))).0) (drop at (bytes_of d file))) [
+    let here = part_found n (cached_at es file at) (drop at (bytes_of d file)) (right at) in
+    elim (n == 0) as (λ c. (cond c ([], es) (prepended b next (reads k next file (at + length b) (n - length b)))).0
+    ≡ take (length (cond c ([], es) (prepended b next (reads k next file (at + length b) (n - length b)))).0) (drop at (bytes_of d file))) [
       | true ↦ refl
       | false ↦ joined_right b (bytes_of d file) at next (reads k next file (at + length b) (n - length b)) here
           (reads_right d k next file (at + length b) (n - length b) h (λ a. found_moved es (file, at) file a ∙ right a ∙ ap (λ x. take (length x) (drop a (bytes_of d file))) (sym (found_moved es (file, at) file a))))

@@ -11,7 +11,7 @@ use Rattle.std.proofs.lemmas.List.{append-nil, drop_all, drop_at, drop_more, len
 use Rattle.std.proofs.lemmas.Bool.{le-leb, lt-leb, leb-true}
 use Rattle.std.proofs.lemmas.Map.{lookup-remove_entry}
 use Rattle.std.proofs.lemmas.Map.Keys.{IsDistinct-head, IsDistinct-tail}
-use Rattle.kb_cache.specs.Kept.{Entry, seen, same_place, found, without, total, stays, behind_cut, latest, turned}
+use Rattle.kb_cache.specs.Kept.{Entry, seen, same_place, cached_at, without_entry, total, stays, behind_cut, latest, turned}
 
 -- ---- lists
 
@@ -86,13 +86,13 @@ module _ {A : Type 0} where
       each None = refl
       each (Some e) = ap (λ x. seen_one e ∷ x) (remove_seen test es)
 
-  pub found_seen : (es : List ((ℕ × ℕ) × Vec ℕ A)) (file at : ℕ) → found (seen es) file at ≡ unwrap_or (option_map (λ v. v.items) (lookup (same_place (file, at)) es)) []
+  pub found_seen : (es : List ((ℕ × ℕ) × Vec ℕ A)) (file at : ℕ) → cached_at (seen es) file at ≡ unwrap_or (option_map (λ v. v.items) (lookup (same_place (file, at)) es)) []
   found_seen es file at = ap (λ o. unwrap_or o []) (lookup_seen (same_place (file, at)) es)
 
-  pub found_none : (es : List ((ℕ × ℕ) × Vec ℕ A)) (file at : ℕ) → lookup (same_place (file, at)) es ≡ None → found (seen es) file at ≡ []
+  pub found_none : (es : List ((ℕ × ℕ) × Vec ℕ A)) (file at : ℕ) → lookup (same_place (file, at)) es ≡ None → cached_at (seen es) file at ≡ []
   found_none es file at e = found_seen es file at ∙ ap (λ o. unwrap_or (option_map (λ v. v.items) o) []) e
 
-  pub found_some : (es : List ((ℕ × ℕ) × Vec ℕ A)) (file at : ℕ) (v : Vec ℕ A) → lookup (same_place (file, at)) es ≡ Some v → found (seen es) file at ≡ v.items
+  pub found_some : (es : List ((ℕ × ℕ) × Vec ℕ A)) (file at : ℕ) (v : Vec ℕ A) → lookup (same_place (file, at)) es ≡ Some v → cached_at (seen es) file at ≡ v.items
   found_some es file at v e = found_seen es file at ∙ ap (λ o. unwrap_or (option_map (λ v. v.items) o) []) e
 
   -- ---- the last entry, and the others
@@ -111,7 +111,7 @@ module _ {A : Type 0} where
 
   -- ---- what is under a place, and the others
 
-  pub total_without : (es : List ((ℕ × ℕ) × Vec ℕ A)) (file at : ℕ) → total (seen (remove_entry (same_place (file, at)) es)) + length (found (seen es) file at) ≡ total (seen es)
+  pub total_without : (es : List ((ℕ × ℕ) × Vec ℕ A)) (file at : ℕ) → total (seen (remove_entry (same_place (file, at)) es)) + length (cached_at (seen es) file at) ≡ total (seen es)
   total_without es file at = omega (arith, total_removed (same_place (file, at)) (seen es), ap total (remove_seen (same_place (file, at)) es))
 
   entry_none : (test : ℕ × ℕ → Bool) (es : List ((ℕ × ℕ) × Vec ℕ A)) → lookup test es ≡ None → lookup_entry test es ≡ None
@@ -300,7 +300,7 @@ lookup_latest test (suc n) room (e ∷ es) none =
     none_behind test n (room - length e.1) e es (λ h. lookup_latest test n (room - length e.1) es h) (test e.0) (nat_le (length e.1) room) refl none
 
 -- nothing is left under a place
-pub lookup_without : (es : List Entry) (file at : ℕ) → IsDistinct same_place (keys_of es) → lookup (same_place (file, at)) (without es file at) ≡ None
+pub lookup_without : (es : List Entry) (file at : ℕ) → IsDistinct same_place (keys_of es) → lookup (same_place (file, at)) (without_entry es file at) ≡ None
 lookup_without es file at d =
     let p : ℕ × ℕ = (file, at) in
     lookup-remove_entry same_place_equiv (same_place p) (λ x y e. same_place_equiv.congr p x y e) p es d

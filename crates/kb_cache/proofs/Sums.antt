@@ -6,7 +6,7 @@ use Rattle.std.specs.List.{AllByRecursion, filter}
 use Rattle.std.specs.Map.{lookup_entry, remove_entry}
 use Rattle.std.proofs.lemmas.Bool.{and_parts, leb-true, ltb-true}
 use Rattle.lru.specs.LruCache.{promoted}
-use Rattle.kb_cache.specs.Kept.{Entry, AreWithin, after_keep, behind_cut, found, is_fit, joined, latest, reads, same_place, stays, total, used, with_bytes, with_room, without}
+use Rattle.kb_cache.specs.Kept.{Entry, AreWithin, after_keep, behind_cut, cached_at, is_fit, prepended, latest, reads, same_place, stays, total, used, with_bytes, with_room, without_entry}
 use Rattle.kb_cache.proofs.Seen.{total_used}
 
 module _ (P : Entry → Type 0) where
@@ -48,17 +48,17 @@ module _ (P : Entry → Type 0) where
     | false ↦ λ is. all_passed p es all.1
   ]) refl
 
-  all_joined : (b : List ℕ) (es : List Entry) (r : List ℕ × List Entry) → AllByRecursion P es → AllByRecursion P r.1 → AllByRecursion P (joined b es r).1
+  all_joined : (b : List ℕ) (es : List Entry) (r : List ℕ × List Entry) → AllByRecursion P es → AllByRecursion P r.1 → AllByRecursion P (prepended b es r).1
   all_joined [] es r all more = all
   all_joined (x ∷ b) es r all more = more
 
   pub all_reads : (k : ℕ) (es : List Entry) (file at n : ℕ) → AllByRecursion P es → AllByRecursion P (reads k es file at n).1
   all_reads zero es file at n all = all
   all_reads (suc k) es file at n all =
-      let b = take n (found es file at) in
+      let b = take n (cached_at es file at) in
       let next = used es file at in
       let moved = all_used (same_place (file, at)) es all in
-      elim (n == 0) as (λ c. AllByRecursion P (cond c ([], es) (joined b next (reads k next file (at + length b) (n - length b)))).1) [
+      elim (n == 0) as (λ c. AllByRecursion P (cond c ([], es) (prepended b next (reads k next file (at + length b) (n - length b)))).1) [
         | true ↦ all
         | false ↦ all_joined b next (reads k next file (at + length b) (n - length b)) moved (all_reads k next file (at + length b) (n - length b) moved)
       ]
@@ -73,8 +73,8 @@ module _ (P : Entry → Type 0) where
   pub all_kept : (most_entries most_bytes : ℕ) (es : List Entry) (file at : ℕ) (bytes : List ℕ) (kept : Bool) → AllByRecursion P es → (is_fit most_entries most_bytes bytes ≡ true → P ((file, at), bytes))
       → AllByRecursion P (after_keep most_entries most_bytes es file at bytes kept)
   all_kept most_entries most_bytes es file at bytes kept all one =
-      let less = all_latest (most_entries - 1) (most_bytes - length bytes) (without es file at) (all_removed (same_place (file, at)) es all) in
-      all_chosen (is_fit most_entries most_bytes bytes) (nat_le (length bytes) (length (found es file at))) kept es (used es file at)
+      let less = all_latest (most_entries - 1) (most_bytes - length bytes) (without_entry es file at) (all_removed (same_place (file, at)) es all) in
+      all_chosen (is_fit most_entries most_bytes bytes) (nat_le (length bytes) (length (cached_at es file at))) kept es (used es file at)
       (with_bytes most_entries most_bytes es file at bytes) (with_room most_entries most_bytes es file at bytes) all (all_used (same_place (file, at)) es all) (λ fit. (one fit, less)) less
 
 pub all_map : (P Q : Entry → Type 0) → ((e : Entry) → P e → Q e) → (es : List Entry) → AllByRecursion P es → AllByRecursion Q es
@@ -138,15 +138,15 @@ pub reads_keep : {X : Type 0} (f : List Entry → X) → ((place : ℕ × ℕ) (
     → f (reads k es file at n).1 ≡ f es
 reads_keep f same zero es file at n = refl
 reads_keep f same (suc k) es file at n =
-    let b = take n (found es file at) in
+    let b = take n (cached_at es file at) in
     let next = used es file at in
     let moved = same (file, at) es in
-    elim (n == 0) as (λ c. f (cond c ([], es) (joined b next (reads k next file (at + length b) (n - length b)))).1 ≡ f es) [
+    elim (n == 0) as (λ c. f (cond c ([], es) (prepended b next (reads k next file (at + length b) (n - length b)))).1 ≡ f es) [
       | true ↦ refl
       | false ↦ each f b next (reads k next file (at + length b) (n - length b)) (reads_keep f same k next file (at + length b) (n - length b)) ∙ moved
     ]
   where
-    each : {X : Type 0} (f : List Entry → X) (b : List ℕ) (next : List Entry) (r : List ℕ × List Entry) → f r.1 ≡ f next → f (joined b next r).1 ≡ f next
+    each : {X : Type 0} (f : List Entry → X) (b : List ℕ) (next : List Entry) (r : List ℕ × List Entry) → f r.1 ≡ f next → f (prepended b next r).1 ≡ f next
     each f [] next r is = refl
     each f (x ∷ b) next r is = is
 
@@ -184,13 +184,13 @@ module _ (most_entries most_bytes : ℕ) (es : List Entry) (file at : ℕ) (byte
   }
 
   few : length left ≤ most_entries - 1
-  few = length_latest (most_entries - 1) (most_bytes - length bytes) (without es file at)
+  few = length_latest (most_entries - 1) (most_bytes - length bytes) (without_entry es file at)
 
   small : total left ≤ most_bytes - length bytes
-  small = total_latest (most_entries - 1) (most_bytes - length bytes) (without es file at)
+  small = total_latest (most_entries - 1) (most_bytes - length bytes) (without_entry es file at)
 
   sizes : AllByRecursion (λ e. length e.1 ≤ 1048576) left
-  sizes = all_latest (λ e. length e.1 ≤ 1048576) (most_entries - 1) (most_bytes - length bytes) (without es file at) (all_removed (λ e. length e.1 ≤ 1048576) (same_place (file, at)) es w.each)
+  sizes = all_latest (λ e. length e.1 ≤ 1048576) (most_entries - 1) (most_bytes - length bytes) (without_entry es file at) (all_removed (λ e. length e.1 ≤ 1048576) (same_place (file, at)) es w.each)
 
   within_more : is_fit most_entries most_bytes bytes ≡ true → AreWithin most_entries most_bytes (((file, at), bytes) ∷ left)
   within_more is =
@@ -213,4 +213,4 @@ module _ (most_entries most_bytes : ℕ) (es : List Entry) (file at : ℕ) (byte
   within_either true false false is = within_less
 
   pub within_kept : (kept : Bool) → AreWithin most_entries most_bytes (after_keep most_entries most_bytes es file at bytes kept)
-  within_kept kept = within_either (is_fit most_entries most_bytes bytes) (nat_le (length bytes) (length (found es file at))) kept refl
+  within_kept kept = within_either (is_fit most_entries most_bytes bytes) (nat_le (length bytes) (length (cached_at es file at))) kept refl

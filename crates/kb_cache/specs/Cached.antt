@@ -50,7 +50,7 @@ abbrev pub is_asked : {S : Type 0} → Caching S → ℕ → Bool
 is_asked s file = list_any (is_at (nat_cmp file)) s.asked
 
 -- The limits and the notes are as they were.
-pub record Stays {S : Type 0} (old new : Caching S) : Type 0 where
+pub record KeepsLimits {S : Type 0} (old new : Caching S) : Type 0 where
   pub most_entries : new.most_entries ≡ old.most_entries
   pub most_bytes : new.most_bytes ≡ old.most_bytes
   pub asked : new.asked ≡ old.asked
@@ -58,7 +58,7 @@ pub record Stays {S : Type 0} (old new : Caching S) : Type 0 where
 
 -- The entries, the limits and the notes are as they were.
 abbrev pub StaysThere : {S : Type 0} → Caching S → Caching S → Type 0
-StaysThere old new = (new.entries ≡ old.entries) × Stays old new
+StaysThere old new = (new.entries ≡ old.entries) × KeepsLimits old new
 
 -- The entries and the limits are as they were, and so are the notes, but that something was appended.
 pub record PassesBy {S : Type 0} (old new : Caching S) : Type 0 where
@@ -89,7 +89,7 @@ after_read old file at n (Err e) bytes = (reads n old.entries file at n).1
 
 pub record ReadsThrough {S : Type 0} (old : Caching S) (file at n : ℕ) (result : Result Bool StoreFault) (bytes : List ℕ) (new : Caching S) : Type 0 where
   pub entries : new.entries ≡ after_read old file at n result bytes
-  pub rest : Stays old new
+  pub rest : KeepsLimits old new
 
 -- What is kept after an append: the bytes under the place where they begin, or not, as the answer tells; and nothing more after a
 -- refusal, of the append or of the file's length.
@@ -100,7 +100,7 @@ IsAfterAppend old file at bytes (Err e) es = es ≡ old.entries
 
 pub record WritesThrough {S : Type 0} (old : Caching S) (file at : ℕ) (bytes : List ℕ) (result : Result Bool StoreFault) (new : Caching S) : Type 0 where
   pub entries : IsAfterAppend old file at bytes result new.entries
-  pub rest : Stays old new
+  pub rest : KeepsLimits old new
 
 -- a cache that has not been made, or one that has room for so many entries
 abbrev pub HasCap : {A : Type 0} → ℕ → Option (LruCache (ℕ × ℕ) (Vec ℕ A)) → Type 0

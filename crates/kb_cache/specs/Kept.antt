@@ -18,16 +18,16 @@ abbrev pub same_place : ℕ × ℕ → ℕ × ℕ → Bool
 same_place p q = nat_eq p.0 q.0 && nat_eq p.1 q.1
 
 -- the bytes under a file and a place, none where there are none
-abbrev pub found : List Entry → ℕ → ℕ → List ℕ
-found es file at = unwrap_or (lookup (same_place (file, at)) es) []
+abbrev pub cached_at : List Entry → ℕ → ℕ → List ℕ
+cached_at es file at = unwrap_or (lookup (same_place (file, at)) es) []
 
 -- what is under a file and a place goes to the front
 abbrev pub used : List Entry → ℕ → ℕ → List Entry
 used es file at = promoted (same_place (file, at)) es
 
 -- and what is there is gone
-abbrev pub without : List Entry → ℕ → ℕ → List Entry
-without es file at = remove_entry (same_place (file, at)) es
+abbrev pub without_entry : List Entry → ℕ → ℕ → List Entry
+without_entry es file at = remove_entry (same_place (file, at)) es
 
 -- how many bytes there are in all
 abbrev pub total : List Entry → ℕ
@@ -36,15 +36,15 @@ total (e ∷ es) = length e.1 + total es
 
 -- At most n bytes from a place on: those of the entry that begins there, then those of the one that begins where it ends, and so on
 -- as long as there is one, in at most so many steps; and the entries, those that were used at the front.
-abbrev pub joined : List ℕ → List Entry → List ℕ × List Entry → List ℕ × List Entry
-joined [] es r = ([], es)
-joined (x ∷ b) es r = (x ∷ b ++ r.0, r.1)
+abbrev pub prepended : List ℕ → List Entry → List ℕ × List Entry → List ℕ × List Entry
+prepended [] es r = ([], es)
+prepended (x ∷ b) es r = (x ∷ b ++ r.0, r.1)
 
 abbrev pub reads : ℕ → List Entry → ℕ → ℕ → ℕ → List ℕ × List Entry
 reads zero es file at n = ([], es)
 reads (suc k) es file at n =
-    let b = take n (found es file at) in
-    cond (n == 0) ([], es) (joined b (used es file at) (reads k (used es file at) file (at + length b) (n - length b)))
+    let b = take n (cached_at es file at) in
+    cond (n == 0) ([], es) (prepended b (used es file at) (reads k (used es file at) file (at + length b) (n - length b)))
 
 -- The n bytes from a place on are kept: entries that begin at the place, and where the one before ends, have them all.
 abbrev pub is_kept : List Entry → ℕ → ℕ → ℕ → Bool
@@ -72,7 +72,7 @@ latest (suc n) room (e ∷ es) = cond (nat_le (length e.1) room) (e ∷ latest n
 
 -- what is left where there is to be room for bytes under a file and a place, where fewer are
 abbrev pub with_room : ℕ → ℕ → List Entry → ℕ → ℕ → List ℕ → List Entry
-with_room most_entries most_bytes es file at bytes = latest (most_entries - 1) (most_bytes - length bytes) (without es file at)
+with_room most_entries most_bytes es file at bytes = latest (most_entries - 1) (most_bytes - length bytes) (without_entry es file at)
 
 -- and with these bytes in front
 abbrev pub with_bytes : ℕ → ℕ → List Entry → ℕ → ℕ → List ℕ → List Entry
@@ -87,7 +87,7 @@ is_fit most_entries most_bytes bytes = nat_lt 0 most_entries && nat_lt 0 (length
 abbrev pub after_keep : ℕ → ℕ → List Entry → ℕ → ℕ → List ℕ → Bool → List Entry
 after_keep most_entries most_bytes es file at bytes kept =
     cond (not (is_fit most_entries most_bytes bytes)) es
-    (cond (nat_le (length bytes) (length (found es file at))) (used es file at)
+    (cond (nat_le (length bytes) (length (cached_at es file at))) (used es file at)
     (cond kept (with_bytes most_entries most_bytes es file at bytes) (with_room most_entries most_bytes es file at bytes)))
 
 -- the last entry goes to the front if it stays, and else is gone

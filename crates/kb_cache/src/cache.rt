@@ -1,7 +1,7 @@
 //! A cache that is made when the first bytes are kept.
 ghost use Rattle.std.specs.Prelude.{◌≡◌, ◌≤◌, ◌<◌, ◌+◌, ◌^◌, ℕ, [], IsSome, length, true, false};
 ghost use Rattle.kb_cache.specs.Cached.{HasCap, entries_in};
-ghost use Rattle.kb_cache.specs.Kept.{after_keep, behind_cut, found, is_fit, is_kept, reads, total};
+ghost use Rattle.kb_cache.specs.Kept.{after_keep, behind_cut, cached_at, is_fit, is_kept, reads, total};
 
 use crate::entries::{Entries, drop_behind, fill, keep};
 use lru::LruCache;
@@ -61,7 +61,7 @@ pub(crate) fn keep_in(
     ensures counted { bytes.new ≡ total (entries_in cache.new) }
     ensures entries { entries_in cache.new ≡ after_keep limits.most_entries limits.most_bytes (entries_in cache.old) file at data.now result }
     ensures there { result ≡ false → is_fit limits.most_entries limits.most_bytes data.now ≡ true
-        → length (found (entries_in cache.old) file at) < length data.now }
+        → length (cached_at (entries_in cache.old) file at) < length data.now }
     ensures fit { result ≡ true → is_fit limits.most_entries limits.most_bytes data.now ≡ true }
     ensures cap { HasCap limits.most_entries cache.new }
 {

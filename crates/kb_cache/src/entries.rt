@@ -1,8 +1,8 @@
 //! What is kept of files: bytes under a file and a place.
 ghost use Rattle.std.specs.Prelude.{◌≡◌, ◌∷◌, ◌≤◌, ◌<◌, ◌+◌, ◌-◌, ◌^◌, ◌++◌, ◌&&◌, None, length, take, drop, true, false, not, nat_eq, nat_lt};
 ghost use Rattle.std.specs.Map.{lookup};
-ghost use Rattle.kb_cache.specs.Kept.{behind_cut, found, is_kept, latest, reads, same_place, seen, total, turned, used, with_bytes, with_room};
-ghost use Rattle.kb_cache.specs.Kept.{without};
+ghost use Rattle.kb_cache.specs.Kept.{behind_cut, cached_at, is_kept, latest, reads, same_place, seen, total, turned, used, with_bytes, with_room};
+ghost use Rattle.kb_cache.specs.Kept.{without_entry};
 
 use lru::LruCache;
 use std::alloc::Global;
@@ -13,8 +13,8 @@ pub(crate) type Entries = LruCache<(u64, u64), Vec<u8>, RandomState>;
 
 /// Copies the bytes under a place to the front of a buffer, as many as it takes. Answers how many.
 fn copy_front(entries: &mut Entries, file: u64, at: u64, buffer: &mut [u8]) -> usize
-    ensures count { result ≡ length (take (length buffer.old) (found (seen entries.old.entries) file at)) }
-    ensures copied { buffer.new ≡ take (length buffer.old) (found (seen entries.old.entries) file at) ++ drop result buffer.old }
+    ensures count { result ≡ length (take (length buffer.old) (cached_at (seen entries.old.entries) file at)) }
+    ensures copied { buffer.new ≡ take (length buffer.old) (cached_at (seen entries.old.entries) file at) ++ drop result buffer.old }
     ensures entries { seen entries.new.entries ≡ used (seen entries.old.entries) file at }
     ensures cap { entries.new.cap ≡ entries.old.cap }
 {
@@ -77,7 +77,7 @@ fn make_room(entries: &mut Entries, bytes: &mut u64, most_bytes: u64, size: u64)
 fn forget(entries: &mut Entries, bytes: &mut u64, file: u64, at: u64)
     requires counted { bytes.old ≡ total (seen entries.old.entries) }
     ensures counted { bytes.new ≡ total (seen entries.new.entries) }
-    ensures entries { seen entries.new.entries ≡ without (seen entries.old.entries) file at }
+    ensures entries { seen entries.new.entries ≡ without_entry (seen entries.old.entries) file at }
     ensures absent { lookup (same_place (file, at)) (seen entries.new.entries) ≡ None }
     ensures cap { entries.new.cap ≡ entries.old.cap }
 {
@@ -121,7 +121,7 @@ fn insert(
 
 /// How many bytes are under a place, 0 where nothing is.
 fn length_at(entries: &Entries, file: u64, at: u64) -> usize
-    ensures { result ≡ length (found (seen entries.now.entries) file at) }
+    ensures { result ≡ length (cached_at (seen entries.now.entries) file at) }
 {
     match entries.peek(&(file, at)) {
         Some(bytes) => bytes.len(),
@@ -145,11 +145,11 @@ pub(crate) fn keep(
     requires size { length data.now ≤ most_bytes }
     ensures counted { bytes.new ≡ total (seen entries.new.entries) }
     ensures within { bytes.new ≤ most_bytes }
-    ensures there { length data.now ≤ length (found (seen entries.old.entries) file at)
+    ensures there { length data.now ≤ length (cached_at (seen entries.old.entries) file at)
         → (result ≡ true) × (seen entries.new.entries ≡ used (seen entries.old.entries) file at) }
-    ensures kept { length (found (seen entries.old.entries) file at) < length data.now → result ≡ true
+    ensures kept { length (cached_at (seen entries.old.entries) file at) < length data.now → result ≡ true
         → seen entries.new.entries ≡ with_bytes entries.old.cap most_bytes (seen entries.old.entries) file at data.now }
-    ensures refused { length (found (seen entries.old.entries) file at) < length data.now → result ≡ false
+    ensures refused { length (cached_at (seen entries.old.entries) file at) < length data.now → result ≡ false
         → seen entries.new.entries ≡ with_room entries.old.cap most_bytes (seen entries.old.entries) file at data.now }
     ensures cap { entries.new.cap ≡ entries.old.cap }
 {

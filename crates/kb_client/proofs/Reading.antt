@@ -15,7 +15,7 @@ use Rattle.kb_client.specs.declared.reaction.Reaction.{Reaction}
 use Rattle.kb_client.specs.declared.reaction.Reaction.TheVariants as reactions
 use Rattle.kb_client.specs.Sent.{Line}
 use Rattle.kb_client.specs.Stages.{fault_of}
-use Rattle.kb_client.specs.Producer.{Producer, ended, heard, read_at, acknowledged, fed, Stands, Inputs}
+use Rattle.kb_client.specs.Producer.{Producer, ended, heard, read_at, acknowledged, fed, ReportsFault, Inputs}
 use Rattle.kb_client.specs.Reactions.{reacted}
 
 -- unread bytes do not matter to what a reply calls for
@@ -64,7 +64,7 @@ never (stages.Ended (endings.Code code)) fault is = (λ e. cc, λ e. cc)
 never (stages.Ended endings.Protocol) fault is = (λ e. cc, λ e. cc)
 
 -- a piece was taken, and the answer is whether it ended
-pub input_is : (old new : Producer) (piece : List ℕ) (r : Result (Unit {0}) ClientFault) → new ≡ fed piece old → Stands new.stage r → Inputs old piece r new
+pub input_is : (old new : Producer) (piece : List ℕ) (r : Result (Unit {0}) ClientFault) → new ≡ fed piece old → ReportsFault new.stage r → Inputs old piece r new
 input_is old new piece (Ok u) is stands = (is, stands)
 input_is old new piece (Err faults.Denied) is stands = (is, stands)
 input_is old new piece (Err (faults.Code code)) is stands = (is, stands)

@@ -19,7 +19,7 @@ use Rattle.kb_client.specs.Sent.{Target}
 use Rattle.kb_client.specs.Stages.{ending_fault}
 use Rattle.kb_client.specs.Replies.{body_for, handshake_code, authenticate_code}
 use Rattle.kb_client.specs.Requests.{handshake_text, authenticate_text}
-use Rattle.kb_client.specs.Lines.{Found, found_in, is_empty}
+use Rattle.kb_client.specs.Lines.{Found, found_in, has_no_bytes}
 use Rattle.kb_client.specs.Fetched.{fetch_text, fetched_partition, arrival_of}
 
 pub record Consumer : Type 0 where
@@ -91,13 +91,13 @@ abbrev pub with_found : Option Found → Consumer → Consumer
 with_found None c = entered (stages.Ended endings.Protocol) c
 with_found (Some found) c = entered (wanting found.wanted stages.Fetch) (record c { found = found })
 
-abbrev pub given : List ℕ → Consumer → Consumer
-given [] c = entered (at_end c.follow) c
-given (b ∷ records) c = with_found (found_in (b ∷ records) c.found) c
+abbrev pub with_records : List ℕ → Consumer → Consumer
+with_records [] c = entered (at_end c.follow) c
+with_records (b ∷ records) c = with_found (found_in (b ∷ records) c.found) c
 
-abbrev pub fetched : Result FetchPartitionReplyV5 WireFault → Consumer → Consumer
-fetched (Err fault) c = entered (stages.Ended endings.Protocol) c
-fetched (Ok reply) c = if int_eq reply.error_code (pos 0) then given (unwrap_or reply.records []) c
+abbrev pub after_fetch : Result FetchPartitionReplyV5 WireFault → Consumer → Consumer
+after_fetch (Err fault) c = entered (stages.Ended endings.Protocol) c
+after_fetch (Ok reply) c = if int_eq reply.error_code (pos 0) then with_records (unwrap_or reply.records []) c
     else entered (stages.Ended (endings.Code reply.error_code)) c
 
 -- the correlation id of a request
@@ -114,7 +114,7 @@ heard_by stage (Err fault) c = entered (stages.Ended endings.Protocol) c
 heard_by stages.Closed (Ok body) c = entered (stages.Ended endings.Protocol) c
 heard_by stages.Handshake (Ok body) c = entered (handshaken (handshake_code body)) c
 heard_by stages.Authenticate (Ok body) c = entered (logged_in (authenticate_code body)) c
-heard_by stages.Fetch (Ok body) c = fetched (fetched_partition body) c
+heard_by stages.Fetch (Ok body) c = after_fetch (fetched_partition body) c
 heard_by stages.Finished (Ok body) c = entered (stages.Ended endings.Protocol) c
 heard_by (stages.Ended ending) (Ok body) c = entered (stages.Ended endings.Protocol) c
 
@@ -148,9 +148,9 @@ unfoldable pub fed : List ℕ → Consumer → Consumer
 fed piece c = fed_by (fault_at c.stage) piece c
 
 -- whether it ended, as an answer
-abbrev pub Stands : Fetching → Result (Unit {0}) ClientFault → Type 0
-Stands stage (Ok u) = fault_at stage ≡ None
-Stands stage (Err fault) = fault_at stage ≡ Some fault
+abbrev pub ReportsFault : Fetching → Result (Unit {0}) ClientFault → Type 0
+ReportsFault stage (Ok u) = fault_at stage ≡ None
+ReportsFault stage (Err fault) = fault_at stage ≡ Some fault
 
 -- What input answers and leaves.
 abbrev pub Inputs : Consumer → List ℕ → Result (Unit {0}) ClientFault → Consumer → Type 0
@@ -173,7 +173,7 @@ is_finished stages.Closed text = false
 is_finished stages.Handshake text = false
 is_finished stages.Authenticate text = false
 is_finished stages.Fetch text = false
-is_finished stages.Finished text = is_empty text
+is_finished stages.Finished text = has_no_bytes text
 is_finished (stages.Ended ending) text = false
 
 -- ---- requests
@@ -214,8 +214,8 @@ OutputsText bytes old (Err faults.Protocol) new = (fault_at old.stage ≡ Some f
 OutputsText bytes old (Err faults.LineTooLong) new = ⊥
 
 -- a consumer that has found nothing: if it wants no line it is finished
-abbrev pub fresh : Target → ℤ → Option ℕ → Bool → Consumer
-fresh target offset wanted follow = record {
+abbrev pub new_consumer : Target → ℤ → Option ℕ → Bool → Consumer
+new_consumer target offset wanted follow = record {
   target = target;
   follow = follow;
   found = record { offset = offset; wanted = wanted; text = [] };

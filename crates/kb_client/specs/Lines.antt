@@ -18,19 +18,19 @@ pub record Found : Type 0 where
   pub text : List ℕ
 
 -- the batches that some bytes are, one after another, where they are whole ones and no more than n
-unfoldable pub batches_in : ℕ → List ℕ → Option (List (List ℕ))
-batches_in n [] = Some []
-batches_in zero (b ∷ s) = None
-batches_in (suc n) (b ∷ s) =
-    option_and_then (λ batch. option_map (λ batches. batch ∷ batches) (batches_in n (drop (length batch) (b ∷ s)))) (front (b ∷ s))
+unfoldable pub whole_batches : ℕ → List ℕ → Option (List (List ℕ))
+whole_batches n [] = Some []
+whole_batches zero (b ∷ s) = None
+whole_batches (suc n) (b ∷ s) =
+    option_and_then (λ batch. option_map (λ batches. batch ∷ batches) (whole_batches n (drop (length batch) (b ∷ s)))) (front (b ∷ s))
 
 -- the offset behind a batch
-abbrev pub end_of : List ℕ → ℤ
-end_of batch = base_offset_of batch +ℤ pos (count_of batch)
+abbrev pub end_offset_of : List ℕ → ℤ
+end_offset_of batch = base_offset_of batch +ℤ pos (count_of batch)
 
 -- a batch has records at the offset or above, and its offsets are INT64
 abbrev pub is_ahead : ℤ → List ℕ → Bool
-is_ahead offset batch = int_lt offset (end_of batch) && int_lt (end_of batch) (pos (2 ^ 63))
+is_ahead offset batch = int_lt offset (end_offset_of batch) && int_lt (end_offset_of batch) (pos (2 ^ 63))
 
 -- how far an offset is above another
 abbrev pub above : ℤ → ℤ → ℕ
@@ -62,7 +62,7 @@ line_text r = unwrap_or r.value [] ++ 10 ∷ []
 -- the lines of a batch are found
 abbrev pub with_batch : List ℕ → Found → Found
 with_batch batch f = record {
-  offset = end_of batch;
+  offset = end_offset_of batch;
   wanted = less f.wanted (length (records_from f.offset batch));
   text = f.text ++ flat_map line_text (at_most f.wanted (records_from f.offset batch));
 }
@@ -74,27 +74,27 @@ with_batches (batch ∷ batches) f = if is_ahead f.offset batch then with_batche
 
 -- so are those of the batches that some bytes are
 abbrev pub with_at_most : ℕ → List ℕ → Found → Option Found
-with_at_most n bytes f = option_and_then (λ batches. with_batches batches f) (batches_in n bytes)
+with_at_most n bytes f = option_and_then (λ batches. with_batches batches f) (whole_batches n bytes)
 
 abbrev pub found_in : List ℕ → Found → Option Found
 found_in bytes f = with_at_most (length bytes) bytes f
 
 -- What read answers and leaves.
-abbrev pub Reads : {E : Type 0} → Found → List ℕ → Result Bool E → Found → Type 0
-Reads old bytes (Ok true) new = found_in bytes old ≡ Some new
-Reads old bytes (Ok false) new = (found_in bytes old ≡ None) × (new ≡ old)
-Reads old bytes (Err e) new = new ≡ old
+abbrev pub ReadsBatches : {E : Type 0} → Found → List ℕ → Result Bool E → Found → Type 0
+ReadsBatches old bytes (Ok true) new = found_in bytes old ≡ Some new
+ReadsBatches old bytes (Ok false) new = (found_in bytes old ≡ None) × (new ≡ old)
+ReadsBatches old bytes (Err e) new = new ≡ old
 
 -- whether the batches that some bytes are were found
 abbrev pub Comes : Found → List ℕ → Bool → Found → Type 0
 Comes old bytes true new = found_in bytes old ≡ Some new
 Comes old bytes false new = found_in bytes old ≡ None
 
--- the same as Reads without what is left where they are no batches
-abbrev pub Leaves : {E : Type 0} → Found → List ℕ → Result Bool E → Found → Type 0
-Leaves old bytes (Ok done) new = Comes old bytes done new
-Leaves old bytes (Err e) new = Unit {0}
+-- the same as ReadsBatches without what is left where they are no batches
+abbrev pub ComesOnOk : {E : Type 0} → Found → List ℕ → Result Bool E → Found → Type 0
+ComesOnOk old bytes (Ok done) new = Comes old bytes done new
+ComesOnOk old bytes (Err e) new = Unit {0}
 
-abbrev pub is_empty : List ℕ → Bool
-is_empty [] = true
-is_empty (b ∷ s) = false
+abbrev pub has_no_bytes : List ℕ → Bool
+has_no_bytes [] = true
+has_no_bytes (b ∷ s) = false

@@ -80,9 +80,9 @@ logged_in (Ok code) p =
     else ended (endings.Code code) p
 
 -- a topic that was there is as good as made
-abbrev pub created : Result ℤ WireFault → Producer → Producer
-created (Err fault) p = ended endings.Protocol p
-created (Ok code) p =
+abbrev pub after_create : Result ℤ WireFault → Producer → Producer
+after_create (Err fault) p = ended endings.Protocol p
+after_create (Ok code) p =
     if int_eq code (pos 0) || int_eq code (code_of TopicAlreadyExists)
     then entered (after_login None p.producer) (record p { create = None })
     else ended (endings.Code code) p
@@ -120,7 +120,7 @@ heard_by stage (Err fault) p = ended endings.Protocol p
 heard_by stages.Closed (Ok body) p = ended endings.Protocol p
 heard_by stages.Handshake (Ok body) p = handshaken (handshake_code body) p
 heard_by stages.Authenticate (Ok body) p = logged_in (authenticate_code body) p
-heard_by (stages.Create partitions) (Ok body) p = created (create_code body) p
+heard_by (stages.Create partitions) (Ok body) p = after_create (create_code body) p
 heard_by stages.Identify (Ok body) p = identified (identity body) p
 heard_by (stages.Produce producer) (Ok body) p = stored producer (produce_code body) p
 heard_by (stages.Ended ending) (Ok body) p = ended endings.Protocol p
@@ -151,9 +151,9 @@ unfoldable pub fed : List ℕ → Producer → Producer
 fed piece p = fed_by (fault_of p.stage) piece p
 
 -- whether it ended, as an answer
-abbrev pub Stands : Stage → Result (Unit {0}) ClientFault → Type 0
-Stands stage (Ok u) = fault_of stage ≡ None
-Stands stage (Err fault) = fault_of stage ≡ Some fault
+abbrev pub ReportsFault : Stage → Result (Unit {0}) ClientFault → Type 0
+ReportsFault stage (Ok u) = fault_of stage ≡ None
+ReportsFault stage (Err fault) = fault_of stage ≡ Some fault
 
 -- What input answers and leaves.
 abbrev pub Inputs : Producer → List ℕ → Result (Unit {0}) ClientFault → Producer → Type 0
@@ -240,8 +240,8 @@ OutputsText bytes old (Err faults.Protocol) new = (fault_of old.stage ≡ Some f
 OutputsText bytes old (Err faults.LineTooLong) new = ⊥
 
 -- a producer that was handed nothing
-abbrev pub fresh : Target → Option ℤ → Producer
-fresh target create = record {
+abbrev pub new_producer : Target → Option ℤ → Producer
+new_producer target create = record {
   target = target;
   create = create;
   producer = None;

@@ -4,8 +4,9 @@ ghost use Rattle.std.specs.Prelude.{◌≡◌, ◌≤◌, ◌++◌, true, None, 
 ghost use Rattle.kb_api_group.specs.ClientFrames.{front};
 ghost use Rattle.kb_client.specs.Fetched.{arrival_of, fetched_partition};
 ghost use Rattle.kb_client.specs.declared.fetching.Fetching.TheVariants.{Ended};
-ghost use Rattle.kb_client.specs.Consumer.{Hears, fresh, connected, entered, heard, fetched, given, read_at, fed, fault_at, is_finished};
-ghost use Rattle.kb_client.specs.Consumer.{is_due, has_request, without_text, Inputs, OutputsText, IsRequest, Stands};
+ghost use Rattle.kb_client.specs.Consumer.{Hears, new_consumer, connected, entered, heard, after_fetch, with_records, read_at, fed};
+ghost use Rattle.kb_client.specs.Consumer.{fault_at, is_finished};
+ghost use Rattle.kb_client.specs.Consumer.{is_due, has_request, without_text, Inputs, OutputsText, IsRequest, ReportsFault};
 
 use crate::arrival::Arrival;
 use crate::fault::ClientFault;
@@ -65,7 +66,7 @@ impl ConsumerCore {
         requires user { length (string_bytes login.user) ≤ 255 }
         requires password { length (string_bytes login.password) ≤ 255 }
         requires topic { length (string_bytes topic) ≤ 255 }
-        ensures { result ≡ fresh (record {
+        ensures { result ≡ new_consumer (record {
           user = string_bytes login.user;
           password = string_bytes login.password;
           topic = string_bytes topic;
@@ -245,7 +246,7 @@ impl ConsumerCore {
     ///
     /// An `Err` changes nothing.
     fn hear_fetch(&mut self, body: &[u8]) -> Result<(), AllocError>
-        ensures ok { OnOk result (self.new ≡ fetched (fetched_partition body.now) self.old) }
+        ensures ok { OnOk result (self.new ≡ after_fetch (fetched_partition body.now) self.old) }
         ensures err { OnErr result (self.new ≡ self.old) }
     {
         let partition = match fetched_partition(self.alloc, body) {
@@ -270,7 +271,7 @@ impl ConsumerCore {
     ///
     /// An `Err` changes nothing.
     fn take_in(&mut self, records: &[u8]) -> Result<(), AllocError>
-        ensures ok { OnOk result (self.new ≡ given records.now self.old) }
+        ensures ok { OnOk result (self.new ≡ with_records records.now self.old) }
         ensures err { OnErr result (self.new ≡ self.old) }
     {
         if records.is_empty() {
@@ -289,7 +290,7 @@ impl ConsumerCore {
 
     /// The fault that it ended with, as an answer.
     fn outcome(&self) -> Result<(), ClientFault>
-        ensures { Stands self.now.stage result }
+        ensures { ReportsFault self.now.stage result }
     {
         match self.stage.fault() {
             None => Ok(()),

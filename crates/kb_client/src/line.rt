@@ -1,6 +1,7 @@
 //! A line that is to be sent.
 
-ghost use Rattle.std.specs.Prelude.{◌≡◌, ◌≤◌, ◌^◌, pos, length, IfOk};
+ghost use Rattle.std.specs.Prelude.{◌≡◌, ◌≤◌, pos, length, IfOk};
+ghost use Rattle.kb_wire.specs.declared.clock.TheConstants.{MAX_CLOCK};
 
 use std::alloc::{AllocError, Global};
 use std::marker::Model;
@@ -26,7 +27,7 @@ impl Model for Line {
 impl Line {
     /// A copy of the bytes, handed in at that moment.
     pub fn new(alloc: Global, bytes: &[u8], now: u64) -> Result<Line, AllocError>
-        requires { now ≤ 2 ^ 62 }
+        requires { now ≤ MAX_CLOCK }
         ensures { IfOk result (λ line. line ≡ record { value = bytes.now; timestamp = pos now }) }
     {
         let mut copy = Vec::new(alloc);

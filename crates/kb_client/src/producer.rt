@@ -1,10 +1,12 @@
 //! The producer: lines that arrive once and in order.
 
 ghost use Rattle.std.specs.Prelude.{◌≡◌, ◌≤◌, ◌^◌, pos, true, None, length, string_bytes, IfOk, OnOk, OnErr};
-ghost use Rattle.kb_client.specs.Producer.{fresh, connected, entered, ended, heard, sequence, correlation, is_idle, is_due, has_request};
+ghost use Rattle.kb_wire.specs.declared.clock.TheConstants.{MAX_CLOCK};
+ghost use Rattle.kb_client.specs.Producer.{new_producer, connected, entered, ended, heard, sequence, correlation, is_idle, is_due};
+ghost use Rattle.kb_client.specs.Producer.{has_request};
 ghost use Rattle.kb_client.specs.Producer.{fed};
 ghost use Rattle.kb_client.specs.Producer.{Inputs, TakesLine, OutputsText, IsRequest, IsProduce, is_some_line, read_at, acknowledged};
-ghost use Rattle.kb_client.specs.Producer.{Stands};
+ghost use Rattle.kb_client.specs.Producer.{ReportsFault};
 ghost use Rattle.kb_client.specs.Stages.{fault_of};
 ghost use Rattle.kb_client.specs.Reactions.{reacted};
 ghost use Rattle.kb_api_group.specs.ClientFrames.{front};
@@ -76,7 +78,7 @@ impl ProducerCore {
         requires user { length (string_bytes login.user) ≤ 255 }
         requires password { length (string_bytes login.password) ≤ 255 }
         requires topic { length (string_bytes topic) ≤ 255 }
-        ensures { result ≡ fresh (record {
+        ensures { result ≡ new_producer (record {
           user = string_bytes login.user;
           password = string_bytes login.password;
           topic = string_bytes topic;
@@ -100,7 +102,7 @@ impl ProducerCore {
     ///
     /// A fault that stands comes first, then `LineTooLong`, then `Memory`. An `Err` changes nothing.
     pub fn line(&mut self, bytes: &[u8], now: u64) -> Result<(), ClientFault>
-        requires { now ≤ 2 ^ 62 }
+        requires { now ≤ MAX_CLOCK }
         ensures { TakesLine self.old (record { value = bytes.now; timestamp = pos now }) result self.new }
     {
         if let Some(fault) = self.stage.fault() {
@@ -197,7 +199,7 @@ impl ProducerCore {
 
     /// The fault that it ended with, as an answer.
     fn outcome(&self) -> Result<(), ClientFault>
-        ensures { Stands self.now.stage result }
+        ensures { ReportsFault self.now.stage result }
     {
         match self.stage.fault() {
             None => Ok(()),

@@ -1,7 +1,7 @@
 //! What a reply calls for, by what was found in it.
 
 ghost use Rattle.std.specs.Prelude.{◌≡◌};
-ghost use Rattle.kb_client.specs.Producer.{Producer, after_login, handshaken, logged_in, created, identified, stored};
+ghost use Rattle.kb_client.specs.Producer.{Producer, after_login, handshaken, logged_in, after_create, identified, stored};
 ghost use Rattle.kb_client.specs.Reactions.{reacted};
 
 use crate::stage::{Ending, ProducerId, Stage};
@@ -64,7 +64,7 @@ pub fn logged_in(
 
 /// The topic is there, or could not be made.
 pub fn created(code: Result<i16, WireFault>, producer: Option<ProducerId>) -> Reaction
-    ensures { (p : Producer) → p.producer ≡ producer → reacted result p ≡ created code p }
+    ensures { (p : Producer) → p.producer ≡ producer → reacted result p ≡ after_create code p }
 {
     match code {
         Err(_) => Reaction::Ends(Ending::Protocol),

@@ -33,9 +33,9 @@ use Rattle.kb_client.specs.Sent.{Target}
 use Rattle.kb_client.specs.Fetched.{fetch_request}
 use Rattle.kb_client_spec.specs.Consuming.{IsTyped}
 use Rattle.kb_client_spec.specs.Partition.{Log}
-use Rattle.kb_client_spec.specs.Fetching.{Fetch, accepted, answer, is_out_of_range, records_given, refused, reply_body, reply_of}
+use Rattle.kb_client_spec.specs.Fetching.{Fetch, accepted, partition_answer, is_out_of_range, records_given, refused_partition, reply_body, reply_of}
 use Rattle.kb_client_spec.proofs.Fetches.{fetch_read}
-use Rattle.kb_client_served.specs.Served.{HasWholeLogs, IsAnswered, IsWhole, body_by, fetch_by, log_of, partition_in}
+use Rattle.kb_client_served.specs.Served.{HasWholeLogs, IsAnswered, IsWhole, body_by, fetch_by, served_log, partition_in}
 use Rattle.kb_client_served.proofs.Held.{given}
 
 -- ---- one partition
@@ -67,7 +67,7 @@ module _ (left : ℕ) (f : Fetch) where
 
   by_offset : (l : LogState) → IsWhole l → (offset : ℤ) (out : Bool) → (int_lt offset (pos l.start) || int_lt (pos l.end) offset) ≡ out
       → (n : ℕ) × ((answered_by g f.index (Some (pos l.start, pos l.end)) (if out then Err ranges.Range else Ok (log.fetched (natural offset) (limit_of g e) true l.batches))).1
-      ≡ cond out (refused f.index (code_of OffsetOutOfRange)) (accepted f.index (log_of l) (records_given n offset l.batches)))
+      ≡ cond out (refused_partition f.index (code_of OffsetOutOfRange)) (accepted f.index (served_log l) (records_given n offset l.batches)))
   by_offset l is offset true is_out = (0, refl)
   by_offset l is (pos n) false in_range =
       let r = given n (limit_of g e) l is (at_start l.start n (either_false (int_lt (pos n) (pos l.start)) (int_lt (pos l.end) (pos n)) in_range)) (most left) in
@@ -75,18 +75,18 @@ module _ (left : ℕ) (f : Fetch) where
   by_offset l is (negsuc n) false in_range = absurd cc
 
   by_log : (w : World) (place : TopicPartition) → HasWholeLogs w → (o : Option LogState) → log_in w place ≡ o
-      → (n : ℕ) × ((answered_by g f.index (option_map (λ (l : LogState). (pos l.start, pos l.end)) o) (fetched_from f.offset (limit_of g e) true o)).1 ≡ answer n f (option_map log_of o))
+      → (n : ℕ) × ((answered_by g f.index (option_map (λ (l : LogState). (pos l.start, pos l.end)) o) (fetched_from f.offset (limit_of g e) true o)).1 ≡ partition_answer n f (option_map served_log o))
   by_log w place all None at = (0, refl)
-  by_log w place all (Some l) at = by_offset l (all place l at) f.offset (is_out_of_range (log_of l) f.offset) refl
+  by_log w place all (Some l) at = by_offset l (all place l at) f.offset (is_out_of_range (served_log l) f.offset) refl
 
-  by_place : (w : World) → HasWholeLogs w → (o : Option TopicPartition) → (n : ℕ) × ((answered_at w g e o).1 ≡ answer n f (option_map log_of (option_and_then (log_in w) o)))
+  by_place : (w : World) → HasWholeLogs w → (o : Option TopicPartition) → (n : ℕ) × ((answered_at w g e o).1 ≡ partition_answer n f (option_map served_log (option_and_then (log_in w) o)))
   by_place w all None = (0, refl)
   by_place w all (Some place) = by_log w place all (log_in w place) refl
 
 -- ---- a reply
 
 reply_is : (w : World) (limit : Option ℕ) (target : Target) (offset : ℤ) (follow : Bool) → HasWholeLogs w
-    → (n : ℕ) × ((fetched w (bounded limit (plain (fetch_request target offset follow)))).1 ≡ reply_of (fetch_by target offset) (answer n (fetch_by target offset) (partition_in w target.topic target.partition)))
+    → (n : ℕ) × ((fetched w (bounded limit (plain (fetch_request target offset follow)))).1 ≡ reply_of (fetch_by target offset) (partition_answer n (fetch_by target offset) (partition_in w target.topic target.partition)))
 reply_is w limit target offset follow all =
     let f = fetch_by target offset in
     let a = by_place (begun (bounded limit (plain (fetch_request target offset follow)))).left f w all (place_in (named target.topic w.known.topics) target.partition) in
@@ -163,16 +163,16 @@ looked_so w clock deadline limit target offset follow body all typed fits replie
 
 -- ---- by what there is
 
-pub unknown : (w : World) (f : Fetch) (body : List ℕ) → IsAnswered w f body → partition_in w f.topic f.index ≡ None → body ≡ reply_body f (refused f.index (pos 3))
-unknown w f body a none = a.1 ∙ ap (λ (l : Option Log). reply_body f (answer a.0 f l)) none
+pub unknown : (w : World) (f : Fetch) (body : List ℕ) → IsAnswered w f body → partition_in w f.topic f.index ≡ None → body ≡ reply_body f (refused_partition f.index (pos 3))
+unknown w f body a none = a.1 ∙ ap (λ (l : Option Log). reply_body f (partition_answer a.0 f l)) none
 
 there : (w : World) (f : Fetch) (body : List ℕ) (l : Log) (out : Bool) (a : IsAnswered w f body) → partition_in w f.topic f.index ≡ Some l → is_out_of_range l f.offset ≡ out
-    → body ≡ reply_body f (cond out (refused f.index (code_of OffsetOutOfRange)) (accepted f.index l (records_given a.0 f.offset l.batches)))
+    → body ≡ reply_body f (cond out (refused_partition f.index (code_of OffsetOutOfRange)) (accepted f.index l (records_given a.0 f.offset l.batches)))
 there w f body l out a at is =
-    a.1 ∙ ap (λ (o : Option Log). reply_body f (answer a.0 f o)) at
-    ∙ ap (λ t. reply_body f (cond t (refused f.index (code_of OffsetOutOfRange)) (accepted f.index l (records_given a.0 f.offset l.batches)))) is
+    a.1 ∙ ap (λ (o : Option Log). reply_body f (partition_answer a.0 f o)) at
+    ∙ ap (λ t. reply_body f (cond t (refused_partition f.index (code_of OffsetOutOfRange)) (accepted f.index l (records_given a.0 f.offset l.batches)))) is
 
-pub out_of_range : (w : World) (f : Fetch) (body : List ℕ) (l : Log) → IsAnswered w f body → partition_in w f.topic f.index ≡ Some l → is_out_of_range l f.offset ≡ true → body ≡ reply_body f (refused f.index (pos 1))
+pub out_of_range : (w : World) (f : Fetch) (body : List ℕ) (l : Log) → IsAnswered w f body → partition_in w f.topic f.index ≡ Some l → is_out_of_range l f.offset ≡ true → body ≡ reply_body f (refused_partition f.index (pos 1))
 out_of_range w f body l a at is = there w f body l true a at is
 
 pub in_range : (w : World) (f : Fetch) (body : List ℕ) (l : Log) → IsAnswered w f body → partition_in w f.topic f.index ≡ Some l → is_out_of_range l f.offset ≡ false

@@ -10,15 +10,15 @@ use Rattle.kb_api_data.specs.Layouts.{fetch_request_v5}
 use Rattle.kb_client.specs.Sent.{Target}
 use Rattle.kb_client.specs.Fetched.{fetch_request}
 use Rattle.kb_client_spec.specs.Partition.{Log}
-use Rattle.kb_client_spec.specs.Fetching.{Fetch, answer, reply_body}
+use Rattle.kb_client_spec.specs.Fetching.{Fetch, partition_answer, reply_body}
 
 -- a log, as the other side of a consumer has it
-abbrev pub log_of : LogState → Log
-log_of l = record { start = pos l.start; end = pos l.end; batches = l.batches }
+abbrev pub served_log : LogState → Log
+served_log l = record { start = pos l.start; end = pos l.end; batches = l.batches }
 
 -- the partition of that topic and index in a world, if it is there
 abbrev pub partition_in : World → List ℕ → ℤ → Option Log
-partition_in w topic index = option_map log_of (option_and_then (log_in w) (place_in (named topic w.known.topics) index))
+partition_in w topic index = option_map served_log (option_and_then (log_in w) (place_in (named topic w.known.topics) index))
 
 -- the batches of a log stand one behind the other up to its end, which is an INT64, and its start is in the first
 pub record IsWhole (l : LogState) : Type 0 where
@@ -40,4 +40,4 @@ body_by target offset follow = fetch_request_v5.written (fetch_request target of
 
 -- this is the body of a reply of the other side, of the partition as it is in a world, with some number of batches
 abbrev pub IsAnswered : World → Fetch → List ℕ → Type 0
-IsAnswered w f body = (n : ℕ) × (body ≡ reply_body f (answer n f (partition_in w f.topic f.index)))
+IsAnswered w f body = (n : ℕ) × (body ≡ reply_body f (partition_answer n f (partition_in w f.topic f.index)))

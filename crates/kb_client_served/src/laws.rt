@@ -12,8 +12,8 @@ ghost use Rattle.kb_tenant.specs.Serve.{plainly_served, looked};
 ghost use Rattle.kb_tenant.specs.declared.node.Node.{Node};
 ghost use Rattle.kb_client.specs.Sent.{Target};
 ghost use Rattle.kb_client_spec.specs.Consuming.{IsTyped};
-ghost use Rattle.kb_client_spec.specs.Partition.{IsLog, Log, end_of_log, from_holding};
-ghost use Rattle.kb_client_spec.specs.Fetching.{Fetch, accepted, is_out_of_range, records_given, refused, reply_body};
+ghost use Rattle.kb_client_spec.specs.Partition.{IsLog, Log, end_of_log, batches_from};
+ghost use Rattle.kb_client_spec.specs.Fetching.{Fetch, accepted, is_out_of_range, records_given, refused_partition, reply_body};
 ghost use Rattle.kb_client_served.specs.Served.{HasWholeLogs, IsAnswered, IsWhole, body_by, fetch_by, partition_in};
 
 use kb_log::PartitionLog;
@@ -35,10 +35,10 @@ pub fn broker_answers_as_the_other_side()
 /// Else it has no error, the end as both watermarks, the start, and whole batches from the one that holds the offset on.
 pub fn errors_are_told()
     ensures unknown { (w : World) (f : Fetch) (body : List ℕ) → IsAnswered w f body → partition_in w f.topic f.index ≡ None
-        → body ≡ reply_body f (refused f.index (pos 3)) }
+        → body ≡ reply_body f (refused_partition f.index (pos 3)) }
     ensures out_of_range { (w : World) (f : Fetch) (body : List ℕ) (l : Log) → IsAnswered w f body
         → partition_in w f.topic f.index ≡ Some l → is_out_of_range l f.offset ≡ true
-        → body ≡ reply_body f (refused f.index (pos 1)) }
+        → body ≡ reply_body f (refused_partition f.index (pos 1)) }
     ensures in_range { (w : World) (f : Fetch) (body : List ℕ) (l : Log) → IsAnswered w f body
         → partition_in w f.topic f.index ≡ Some l → is_out_of_range l f.offset ≡ false
         → (n : ℕ) × (body ≡ reply_body f (accepted f.index l (records_given n f.offset l.batches))) }
@@ -56,5 +56,5 @@ pub fn logs_are_as_the_other_side_has_them()
     ensures log { (l : LogState) → IsWhole l → IsLog (pos (first_base l.end l.batches)) l.batches }
     ensures end { (l : LogState) → IsWhole l → end_of_log (pos (first_base l.end l.batches)) l.batches ≡ pos l.end }
     ensures trimmed { (at : ℕ) (batches : List (List ℕ)) (end start offset : ℕ) → IsRun at batches end → start ≤ offset
-        → from_holding (pos offset) (starting start batches) ≡ from_holding (pos offset) batches }
+        → batches_from (pos offset) (starting start batches) ≡ batches_from (pos offset) batches }
 {}

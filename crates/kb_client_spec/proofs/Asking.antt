@@ -15,7 +15,7 @@ use Rattle.kb_api_data.specs.declared.create_topics.CreateTopic.{CreateTopic}
 use Rattle.kb_api_data.specs.declared.produce.ProduceRequest.{ProduceRequest}
 use Rattle.kb_client.specs.Sent.{Target, HasShortTexts}
 use Rattle.kb_client.specs.Requests.{plain_message, produce_topics}
-use Rattle.kb_client_spec.specs.Receiver.{Handshake, Authenticate, Create, Identify, Produce, if_read, asked_by}
+use Rattle.kb_client_spec.specs.Receiver.{Handshake, Authenticate, Create, Identify, Produce, asked_or_malformed, asked_by}
 use Rattle.kb_client_spec.proofs.Texts.{whole_written, pair_len, int16_len, int32_len, string_len, blob_len, some_blob_len, no_string_len, one_len, none_len}
 
 -- ---- SaslHandshake
@@ -33,7 +33,7 @@ plain_text = (80 ∷ 76 ∷ 65 ∷ 73 ∷ 78 ∷ [], (refl, refl))
 
 pub handshake_asked : asked_by SASL_HANDSHAKE (pos 1) handshake_body ≡ Handshake (codes "PLAIN")
 unfolding handshake_body sasl_handshake_request sized counted utf8
-handshake_asked = ap (λ r. if_read r (λ v. Handshake v.mechanism)) (whole_written sasl_handshake_request sasl_handshake_request_lawful (record { mechanism = codes "PLAIN" }) (tt, plain_text) (string_fits (codes "PLAIN") (lit< tt)))
+handshake_asked = ap (λ r. asked_or_malformed r (λ v. Handshake v.mechanism)) (whole_written sasl_handshake_request sasl_handshake_request_lawful (record { mechanism = codes "PLAIN" }) (tt, plain_text) (string_fits (codes "PLAIN") (lit< tt)))
 
 -- ---- SaslAuthenticate
 
@@ -49,7 +49,7 @@ authenticate_short t short = omega (arith, blob_len (plain_message t), message_s
 
 pub authenticate_asked : (t : Target) → HasShortTexts t → asked_by SASL_AUTHENTICATE (pos 0) (authenticate_body t) ≡ Authenticate (plain_message t)
 unfolding authenticate_body sasl_authenticate_request sized counted octets
-authenticate_asked t short = ap (λ r. if_read r (λ v. Authenticate v.auth_bytes)) (whole_written sasl_authenticate_request sasl_authenticate_request_lawful (record { auth_bytes = plain_message t }) (tt, tt) (blob_fits (plain_message t) (omega (arith, message_short t short))))
+authenticate_asked t short = ap (λ r. asked_or_malformed r (λ v. Authenticate v.auth_bytes)) (whole_written sasl_authenticate_request sasl_authenticate_request_lawful (record { auth_bytes = plain_message t }) (tt, tt) (blob_fits (plain_message t) (omega (arith, message_short t short))))
 
 -- ---- CreateTopics
 
@@ -96,7 +96,7 @@ create_fits name partitions short = (array_fits create_topic (topic_of name part
 
 pub create_asked : (name : List ℕ) (partitions : ℤ) → length name ≤ 255 → IsUtf8 name → FitsSigned w32 partitions → asked_by CREATE_TOPICS (pos 0) (create_body name partitions) ≡ Create (topic_of name partitions ∷ [])
 unfolding create_body
-create_asked name partitions short text fits = ap (λ r. if_read r (λ v. Create v.topics)) (whole_written create_topics_request create_topics_request_lawful (record { topics = topic_of name partitions ∷ []; timeout_ms = pos 5000 }) (create_ranged name partitions text fits) (create_fits name partitions short))
+create_asked name partitions short text fits = ap (λ r. asked_or_malformed r (λ v. Create v.topics)) (whole_written create_topics_request create_topics_request_lawful (record { topics = topic_of name partitions ∷ []; timeout_ms = pos 5000 }) (create_ranged name partitions text fits) (create_fits name partitions short))
 
 -- ---- InitProducerId
 
@@ -109,7 +109,7 @@ identify_short = omega (arith, pair_len nullable_string int32 None (pos 60000), 
 
 pub identify_asked : asked_by INIT_PRODUCER_ID (pos 0) identify_body ≡ Identify
 unfolding identify_body init_producer_id_request int nullable nullable_counted
-identify_asked = ap (λ r. if_read r (λ v. Identify)) (whole_written init_producer_id_request init_producer_id_request_lawful (record { transactional_id = None; transaction_timeout_ms = pos 60000 }) (tt, record { sfits = lit< tt }) (null_string_fits, tt))
+identify_asked = ap (λ r. asked_or_malformed r (λ v. Identify)) (whole_written init_producer_id_request init_producer_id_request_lawful (record { transactional_id = None; transaction_timeout_ms = pos 60000 }) (tt, record { sfits = lit< tt }) (null_string_fits, tt))
 
 -- ---- Produce
 
@@ -169,4 +169,4 @@ produce_fits t batch short small = (null_string_fits, (tt, (tt, array_fits produ
 
 pub produce_asked : (t : Target) (batch : List ℕ) → length t.topic ≤ 255 → length batch ≤ 1048588 → IsUtf8 t.topic → FitsSigned w32 t.partition → asked_by PRODUCE (pos 3) (produce_body t batch) ≡ Produce (produce_topics t batch)
 unfolding produce_body produce_ask
-produce_asked t batch short small text fits = ap (λ r. if_read r (λ v. Produce v.topics)) (whole_written produce_request produce_request_lawful (produce_ask t batch) (produce_ranged t batch text fits) (produce_fits t batch short small))
+produce_asked t batch short small text fits = ap (λ r. asked_or_malformed r (λ v. Produce v.topics)) (whole_written produce_request produce_request_lawful (produce_ask t batch) (produce_ranged t batch text fits) (produce_fits t batch short small))

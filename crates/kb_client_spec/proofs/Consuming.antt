@@ -27,13 +27,13 @@ use Rattle.kb_client.specs.Replies.{body_for}
 use Rattle.kb_client.specs.Fetched.{fetch_text, arrival_of}
 use Rattle.kb_client.specs.Lines.{Found, found_in}
 use Rattle.kb_client.specs.Consumer as consumers
-use Rattle.kb_client.specs.Consumer.{Consumer, fault_at, entered, restarted, connected, heard, heard_by, correlation, given, with_found, wanting, at_end, without_text, IsRequest, IsOutput, is_due, has_request, fed, fed_by, read_at, unasked, Inputs, OutputsText}
+use Rattle.kb_client.specs.Consumer.{Consumer, fault_at, entered, restarted, connected, heard, heard_by, correlation, with_records, with_found, wanting, at_end, without_text, IsRequest, IsOutput, is_due, has_request, fed, fed_by, read_at, unasked, Inputs, OutputsText}
 use Rattle.kb_client_spec.specs.Receiver as receivers
 use Rattle.kb_client_spec.specs.Receiver.{Receiver, Login, Greets, Shaken, LoggedIn, Shut, Asked, Handshake, Authenticate, Request, request, outcome, replies, handshake_reply, authenticate_reply, knows, logs_in, shakes}
 use Rattle.kb_client_spec.specs.Sending.{arrived, cut, if_given, if_come, reply_text}
-use Rattle.kb_client_spec.specs.Partition.{IsLog, Log, end_of_log, joined, batches_given}
-use Rattle.kb_client_spec.specs.Fetching.{Fetch, fetch_of, fetch_in, fitting, records_given, is_out_of_range, refused, accepted, answer, reply_body}
-use Rattle.kb_client_spec.specs.Consuming.{Reading, Event, Appends, Trims, Deletes, Sends, Arrives, Serves, Refuses, Returns, Takes, Reconnects, answers_of, refusals_of, fetched, with_outcome, served_by, served_at, Steps, Runs, AreCalm, IsTyped, IsGiven, begun}
+use Rattle.kb_client_spec.specs.Partition.{IsLog, Log, end_of_log, batch_bytes, batches_given}
+use Rattle.kb_client_spec.specs.Fetching.{Fetch, fetch_of, fetch_in, fitting, records_given, is_out_of_range, refused_partition, accepted, partition_answer, reply_body}
+use Rattle.kb_client_spec.specs.Consuming.{Reading, Event, Appends, Trims, Deletes, Sends, Arrives, Serves, Refuses, Returns, Takes, Reconnects, answers_of, refused_with, with_fetch_answered, with_outcome, served_by, served_at, Steps, Runs, AreCalm, IsTyped, IsGiven, new_reading}
 use Rattle.kb_client_spec.proofs.Texts.{int_apart, int_same, header, header_read, request_read, front_request, front_reply, front_nothing, front_part}
 use Rattle.kb_client_spec.proofs.Asking.{handshake_body, handshake_short, handshake_asked, authenticate_body, authenticate_short, authenticate_asked}
 use Rattle.kb_client_spec.proofs.Hearing.{body_read, handshake_heard, handshake_reply_len, authenticate_heard, authenticate_reply_len}
@@ -76,7 +76,7 @@ abbrev LoginAs : List ℕ → Fetching → Fetching → Type 0
 LoginAs frame stage next = (c : Consumer) → c.stage ≡ stage → heard frame c ≡ entered next c
 
 abbrev FetchAs : List ℕ → List (List ℕ) → Type 0
-FetchAs frame read = (c : Consumer) → c.stage ≡ stages.Fetch → heard frame c ≡ given (joined read) c
+FetchAs frame read = (c : Consumer) → c.stage ≡ stages.Fetch → heard frame c ≡ with_records (batch_bytes read) c
 
 record IsLoginReply (calm : Bool) (stage : Fetching) (login : Login) (frame : List ℕ) : Type 0 where
   next : Fetching
@@ -308,10 +308,10 @@ request_going (stages.Ended ending) c text h = absurd h
 
 -- what was given is as after any reply
 record IsGone (s : List ℕ) (c : Consumer) : Type 0 where
-  idle : (given s c).asked ≡ false
-  unread : (given s c).unread ≡ []
-  same : (given s c).target ≡ c.target
-  ready : Ready (given s c).stage LoggedIn
+  idle : (with_records s c).asked ≡ false
+  unread : (with_records s c).unread ≡ []
+  same : (with_records s c).target ≡ c.target
+  ready : Ready (with_records s c).stage LoggedIn
 
 end_ready : (follow : Bool) → Ready (at_end follow) LoggedIn
 unfolding Ready
@@ -354,18 +354,18 @@ returned_all calm offset wanted follow n w None typed fits h sound a x rest =
     })
 returned_all calm offset wanted follow n w (Some read) typed fits h sound a x rest =
     let hush : giving.Holds offset wanted follow (under (Some read) (record w { core = hushed w })) = holds-same offset wanted follow w.core.asked [] (under (Some read) w) h in
-    let g = gone (joined read) (hushed w) in
+    let g = gone (batch_bytes read) (hushed w) in
     subst (λ c. Holds calm offset wanted follow (record w { core = c; answers = drop n w.answers })) (sym (x.2 (hushed w) x.0)) (record {
       typed = subst IsTyped (sym g.same) typed;
       fits = giving.come_fits offset wanted follow (under (Some read) (record w { core = hushed w })) read hush hush.reply fits;
       reply = None;
       holds = holds-come offset wanted follow (under (Some read) (record w { core = hushed w })) (Some read) hush hush.reply;
-      phase = inl (refl, record { idle = g.idle; unread = g.unread; read = a.read; none_to = a.none_to; none_back = rest; ready = subst (Ready (given (joined read) (hushed w)).stage) (sym x.1) g.ready });
+      phase = inl (refl, record { idle = g.idle; unread = g.unread; read = a.read; none_to = a.none_to; none_back = rest; ready = subst (Ready (with_records (batch_bytes read) (hushed w)).stage) (sym x.1) g.ready });
       sound = λ c. record {
         there = (sound c).there;
         topic = (sound c).topic ∙ ap (λ (t : Target). t.topic) (sym g.same);
         index = (sound c).index ∙ ap (λ (t : Target). t.partition) (sym g.same);
-        low = at_or_below w.start w.core.found.offset (given (joined read) (hushed w)).found.offset (sound c).low (giving.come_rises offset wanted follow (under (Some read) (record w { core = hushed w })) read hush hush.reply);
+        low = at_or_below w.start w.core.found.offset (with_records (batch_bytes read) (hushed w)).found.offset (sound c).low (giving.come_rises offset wanted follow (under (Some read) (record w { core = hushed w })) read hush hush.reply);
         high = giving.come_ends offset wanted follow (under (Some read) (record w { core = hushed w })) read hush hush.reply (sound c).high;
         known = subst (λ (t : Target). knows w.greeter.users (plain_message t) ≡ true) (sym g.same) (sound c).known;
         going = giving.come_going offset wanted follow (under (Some read) (record w { core = hushed w })) read hush hush.reply;
@@ -602,10 +602,10 @@ fetch_id w = ap (λ q. q.correlation_id) (request_read FETCH (pos 5) (pos 3) (fe
 
 -- what a fetch is answered: an error code, or batches
 abbrev IsRefused : Bool → ℤ → FetchPartitionReplyV5 → Type 0
-IsRefused calm index p = (code : ℤ) × FitsSigned w16 code × (code ≡ pos 0 → ⊥) × (calm ≡ true → ⊥) × (p ≡ refused index code)
+IsRefused calm index p = (code : ℤ) × FitsSigned w16 code × (code ≡ pos 0 → ⊥) × (calm ≡ true → ⊥) × (p ≡ refused_partition index code)
 
 abbrev IsAccepted : Reading → FetchPartitionReplyV5 → Type 0
-IsAccepted w p = (n : ℕ) × (p ≡ accepted w.core.target.partition (log_now w) (joined (read_of n w)))
+IsAccepted w p = (n : ℕ) × (p ≡ accepted w.core.target.partition (log_now w) (batch_bytes (read_of n w)))
 
 abbrev IsEither : Bool → Reading → FetchPartitionReplyV5 → Type 0
 IsEither calm w p = IsRefused calm w.core.target.partition p ⊎ IsAccepted w p
@@ -613,11 +613,11 @@ IsEither calm w p = IsRefused calm w.core.target.partition p ⊎ IsAccepted w p
 some_code : (n : ℕ) → 0 < n → pos n ≡ pos 0 → ⊥
 some_code n up e = absurd (grind (arith, up, e))
 
-ranged : (calm out : Bool) (n : ℕ) (w : Reading) → (calm ≡ true → out ≡ false) → IsEither calm w (cond out (refused w.core.target.partition (code_of OffsetOutOfRange)) (accepted w.core.target.partition (log_now w) (records_given n (offset_of w) w.batches)))
+ranged : (calm out : Bool) (n : ℕ) (w : Reading) → (calm ≡ true → out ≡ false) → IsEither calm w (cond out (refused_partition w.core.target.partition (code_of OffsetOutOfRange)) (accepted w.core.target.partition (log_now w) (records_given n (offset_of w) w.batches)))
 ranged calm true n w in_range = inl (pos 1, record { sfits = lit< tt }, some_code 1 (omega arith), (λ c. no_true (in_range c)), refl)
 ranged calm false n w in_range = inr (n, refl)
 
-kept_or_not : (calm there : Bool) (n : ℕ) (w : Reading) → (calm ≡ true → there ≡ true) → (calm ≡ true → is_out_of_range (log_now w) (offset_of w) ≡ false) → IsEither calm w (answer n (fetch_now w) (cond there (Some (log_now w)) None))
+kept_or_not : (calm there : Bool) (n : ℕ) (w : Reading) → (calm ≡ true → there ≡ true) → (calm ≡ true → is_out_of_range (log_now w) (offset_of w) ≡ false) → IsEither calm w (partition_answer n (fetch_now w) (cond there (Some (log_now w)) None))
 kept_or_not calm true n w is_there in_range = ranged calm (is_out_of_range (log_now w) (offset_of w)) n w in_range
 kept_or_not calm false n w is_there in_range = inl (pos 3, record { sfits = lit< tt }, some_code 3 (omega arith), (λ c. no_false (is_there c)), refl)
 
@@ -641,24 +641,24 @@ answered calm n w sound =
     kept_or_not calm (w.there && bytes_eq w.core.target.topic w.topic && int_eq w.core.target.partition w.index) n w
     (λ c. sound_there w (sound c)) (λ c. within w.start (end_of_log w.origin w.batches) (offset_of w) (sound c).low (sound c).high)
 
-refusal : (calm : Bool) (code : ℤ) (w : Reading) → FitsSigned w16 code → (code ≡ pos 0 → ⊥) → (calm ≡ true → ⊥) → IsEither calm w (refusals_of code (fetch_now w))
+refusal : (calm : Bool) (code : ℤ) (w : Reading) → FitsSigned w16 code → (code ≡ pos 0 → ⊥) → (calm ≡ true → ⊥) → IsEither calm w (refused_with code (fetch_now w))
 refusal calm code w fits other not = inl (code, fits, other, not, refl)
 
 -- the whole reply to a fetch of one that is logged in
 fetch_replied : (g : Answers) (w : Reading) → w.greeter.unread ++ w.requests ≡ fetch_text (pos 3) w.core.target (offset_of w) w.core.follow → w.greeter.login ≡ LoggedIn → w.requests ≡ [] → IsTyped w.core.target → FitsSigned w64 (offset_of w) → served_at g (front w.greeter.unread) w ≡ record w { greeter = bare w.greeter; answers = w.answers ++ reply_text (pos 3) (Some (reply_body (fetch_now w) (g (fetch_now w)))); met = length w.batches }
 fetch_replied g w text ready left typed fits =
     let whole : front w.greeter.unread ≡ Whole (frame_of w) [] = ap front (unread_is w left) ∙ fetch_whole w (w.greeter.unread ++ w.requests) text typed in
-    ap (λ f. served_at g f w) whole ∙ ap (λ o. served_by o g (frame_of w) (bare w.greeter) w) (fetch_found w typed fits) ∙ ap (λ i. fetched w.greeter.login g i (fetch_now w) (bare w.greeter) w) (fetch_id w) ∙ ap (λ l. fetched l g (pos 3) (fetch_now w) (bare w.greeter) w) ready
+    ap (λ f. served_at g f w) whole ∙ ap (λ o. served_by o g (frame_of w) (bare w.greeter) w) (fetch_found w typed fits) ∙ ap (λ i. with_fetch_answered w.greeter.login g i (fetch_now w) (bare w.greeter) w) (fetch_id w) ∙ ap (λ l. with_fetch_answered l g (pos 3) (fetch_now w) (bare w.greeter) w) ready
 
-accepted_hears : (n : ℕ) (w : Reading) → IsTyped w.core.target → length (joined (read_of n w)) ≤ 1048588 → FetchAs (int32.written (pos 3) ++ reply_body (fetch_now w) (accepted w.core.target.partition (log_now w) (joined (read_of n w)))) (read_of n w)
+accepted_hears : (n : ℕ) (w : Reading) → IsTyped w.core.target → length (batch_bytes (read_of n w)) ≤ 1048588 → FetchAs (int32.written (pos 3) ++ reply_body (fetch_now w) (accepted w.core.target.partition (log_now w) (batch_bytes (read_of n w)))) (read_of n w)
 unfolding partition_value
-accepted_hears n w typed small c at = hears_at stages.Fetch c (pos 3) (reply_body (fetch_now w) (accepted w.core.target.partition (log_now w) (joined (read_of n w)))) at refl (record { sfits = lit< tt }) ∙ ap (λ x. consumers.fetched x c) (replied_heard (fetch_now w) (pos 0) (log_now w).end (log_now w).start (joined (read_of n w)) typed.short.topic typed.topic typed.partition (record { sfits = lit< tt }) small)
+accepted_hears n w typed small c at = hears_at stages.Fetch c (pos 3) (reply_body (fetch_now w) (accepted w.core.target.partition (log_now w) (batch_bytes (read_of n w)))) at refl (record { sfits = lit< tt }) ∙ ap (λ x. consumers.after_fetch x c) (replied_heard (fetch_now w) (pos 0) (log_now w).end (log_now w).start (batch_bytes (read_of n w)) typed.short.topic typed.topic typed.partition (record { sfits = lit< tt }) small)
 
-accepted_served : (calm : Bool) (offset : ℤ) (wanted : Option ℕ) (follow : Bool) (n : ℕ) (w v : Reading) (p : FetchPartitionReplyV5) (h : Holds calm offset wanted follow w) → h.reply ≡ None → IsAsking w → w.core.stage ≡ stages.Fetch → w.greeter.login ≡ LoggedIn → w.requests ≡ [] → v ≡ record w { greeter = bare w.greeter; answers = w.answers ++ reply_text (pos 3) (Some (reply_body (fetch_now w) p)); met = length w.batches } → p ≡ accepted w.core.target.partition (log_now w) (joined (read_of n w)) → Holds calm offset wanted follow v
+accepted_served : (calm : Bool) (offset : ℤ) (wanted : Option ℕ) (follow : Bool) (n : ℕ) (w v : Reading) (p : FetchPartitionReplyV5) (h : Holds calm offset wanted follow w) → h.reply ≡ None → IsAsking w → w.core.stage ≡ stages.Fetch → w.greeter.login ≡ LoggedIn → w.requests ≡ [] → v ≡ record w { greeter = bare w.greeter; answers = w.answers ++ reply_text (pos 3) (Some (reply_body (fetch_now w) p)); met = length w.batches } → p ≡ accepted w.core.target.partition (log_now w) (batch_bytes (read_of n w)) → Holds calm offset wanted follow v
 accepted_served calm offset wanted follow n w v p h none a at ready left is told =
-    let small : length (joined (read_of n w)) ≤ 1048588 = fitting_small n (offset_of w) w.origin w.batches h.holds.log in
-    let body : List ℕ = reply_body (fetch_now w) (accepted w.core.target.partition (log_now w) (joined (read_of n w))) in
-    let len : length body ≡ 52 + length w.core.target.topic + length (joined (read_of n w)) = replied_len (fetch_now w) (pos 0) (log_now w).end (log_now w).start (joined (read_of n w)) in
+    let small : length (batch_bytes (read_of n w)) ≤ 1048588 = fitting_small n (offset_of w) w.origin w.batches h.holds.log in
+    let body : List ℕ = reply_body (fetch_now w) (accepted w.core.target.partition (log_now w) (batch_bytes (read_of n w))) in
+    let len : length body ≡ 52 + length w.core.target.topic + length (batch_bytes (read_of n w)) = replied_len (fetch_now w) (pos 0) (log_now w).end (log_now w).start (batch_bytes (read_of n w)) in
     subst (Holds calm offset wanted follow) (sym (is ∙ ap (λ q. record w { greeter = bare w.greeter; answers = w.answers ++ reply_text (pos 3) (Some (reply_body (fetch_now w) q)); met = length w.batches }) told)) (record {
       typed = h.typed;
       fits = h.fits;
@@ -679,17 +679,17 @@ accepted_served calm offset wanted follow n w v p h none a at ready left is told
 not_ended : (code : ℤ) → stages.Ended (endings.Code code) ≡ stages.Finished → ⊥
 not_ended code e = cc
 
-refused_hears : (code : ℤ) (w : Reading) → w.core.stage ≡ stages.Fetch → IsTyped w.core.target → FitsSigned w16 code → (code ≡ pos 0 → ⊥) → LoginAs (int32.written (pos 3) ++ reply_body (fetch_now w) (refused w.core.target.partition code)) w.core.stage (stages.Ended (endings.Code code))
+refused_hears : (code : ℤ) (w : Reading) → w.core.stage ≡ stages.Fetch → IsTyped w.core.target → FitsSigned w16 code → (code ≡ pos 0 → ⊥) → LoginAs (int32.written (pos 3) ++ reply_body (fetch_now w) (refused_partition w.core.target.partition code)) w.core.stage (stages.Ended (endings.Code code))
 unfolding partition_value
 refused_hears code w at typed fits other c same =
-    hears_at stages.Fetch c (pos 3) (reply_body (fetch_now w) (refused w.core.target.partition code)) (same ∙ at) refl (record { sfits = lit< tt })
-    ∙ ap (λ x. consumers.fetched x c) (replied_heard (fetch_now w) code (negsuc 0) (negsuc 0) [] typed.short.topic typed.topic typed.partition fits (omega arith))
-    ∙ ap (λ b. cond b (given [] c) (entered (stages.Ended (endings.Code code)) c)) (int_apart code (pos 0) other)
+    hears_at stages.Fetch c (pos 3) (reply_body (fetch_now w) (refused_partition w.core.target.partition code)) (same ∙ at) refl (record { sfits = lit< tt })
+    ∙ ap (λ x. consumers.after_fetch x c) (replied_heard (fetch_now w) code (negsuc 0) (negsuc 0) [] typed.short.topic typed.topic typed.partition fits (omega arith))
+    ∙ ap (λ b. cond b (with_records [] c) (entered (stages.Ended (endings.Code code)) c)) (int_apart code (pos 0) other)
 
-refused_served : (calm : Bool) (offset : ℤ) (wanted : Option ℕ) (follow : Bool) (code : ℤ) (w v : Reading) (p : FetchPartitionReplyV5) (h : Holds calm offset wanted follow w) → h.reply ≡ None → IsAsking w → w.core.stage ≡ stages.Fetch → w.requests ≡ [] → v ≡ record w { greeter = bare w.greeter; answers = w.answers ++ reply_text (pos 3) (Some (reply_body (fetch_now w) p)); met = length w.batches } → FitsSigned w16 code → (code ≡ pos 0 → ⊥) → (calm ≡ true → ⊥) → p ≡ refused w.core.target.partition code → Holds calm offset wanted follow v
+refused_served : (calm : Bool) (offset : ℤ) (wanted : Option ℕ) (follow : Bool) (code : ℤ) (w v : Reading) (p : FetchPartitionReplyV5) (h : Holds calm offset wanted follow w) → h.reply ≡ None → IsAsking w → w.core.stage ≡ stages.Fetch → w.requests ≡ [] → v ≡ record w { greeter = bare w.greeter; answers = w.answers ++ reply_text (pos 3) (Some (reply_body (fetch_now w) p)); met = length w.batches } → FitsSigned w16 code → (code ≡ pos 0 → ⊥) → (calm ≡ true → ⊥) → p ≡ refused_partition w.core.target.partition code → Holds calm offset wanted follow v
 unfolding Ready
 refused_served calm offset wanted follow code w v p h none a at left is fits other not told =
-    let body : List ℕ = reply_body (fetch_now w) (refused w.core.target.partition code) in
+    let body : List ℕ = reply_body (fetch_now w) (refused_partition w.core.target.partition code) in
     let len : length body ≡ 52 + length w.core.target.topic + 0 = replied_len (fetch_now w) code (negsuc 0) (negsuc 0) [] in
     subst (Holds calm offset wanted follow) (sym (is ∙ ap (λ q. record w { greeter = bare w.greeter; answers = w.answers ++ reply_text (pos 3) (Some (reply_body (fetch_now w) q)); met = length w.batches }) told)) (record {
       typed = h.typed;
@@ -768,7 +768,7 @@ after calm offset wanted follow Deletes old new allowed s h = subst (Holds calm 
 after calm offset wanted follow (Sends result) old new allowed s h = after_output calm offset wanted follow old new result s.0 s.1 h
 after calm offset wanted follow (Arrives n) old new allowed s h = subst (Holds calm offset wanted follow) (sym s) (keeps-moved calm offset wanted follow n old h)
 after calm offset wanted follow (Serves n) old new allowed s h = subst (Holds calm offset wanted follow) (sym s) (served_in calm offset wanted follow (λ f. answers_of n old f) old h (answered calm n old h.sound) h.phase)
-after calm offset wanted follow (Refuses code) old new allowed s h = subst (Holds calm offset wanted follow) (sym s.2) (served_in calm offset wanted follow (λ f. refusals_of code f) old h (refusal calm code old s.0 s.1 allowed) h.phase)
+after calm offset wanted follow (Refuses code) old new allowed s h = subst (Holds calm offset wanted follow) (sym s.2) (served_in calm offset wanted follow (λ f. refused_with code f) old h (refusal calm code old s.0 s.1 allowed) h.phase)
 after calm offset wanted follow (Returns n result) old new allowed s h = after_input calm offset wanted follow old new n result s.0 s.1 h
 after calm offset wanted follow Takes old new allowed s h = subst (Holds calm offset wanted follow) (sym s) (keeps-taken calm offset wanted follow old h)
 after calm offset wanted follow Reconnects old new allowed s h = subst (Holds calm offset wanted follow) (sym s) (keeps-connected calm offset wanted follow old h)
@@ -802,7 +802,7 @@ first_going None = refl
 first_going (Some zero) = refl
 first_going (Some (suc n)) = refl
 
-keeps-begun : (calm : Bool) (target : Target) (offset : ℤ) (wanted : Option ℕ) (follow : Bool) (users : List PlainLogin) (there : Bool) (origin start : ℤ) (batches : List (List ℕ)) → IsTyped target → FitsSigned w64 offset → IsLog origin batches → (calm ≡ true → Sound (begun target offset wanted follow users there origin start batches)) → Holds calm offset wanted follow (begun target offset wanted follow users there origin start batches)
+keeps-begun : (calm : Bool) (target : Target) (offset : ℤ) (wanted : Option ℕ) (follow : Bool) (users : List PlainLogin) (there : Bool) (origin start : ℤ) (batches : List (List ℕ)) → IsTyped target → FitsSigned w64 offset → IsLog origin batches → (calm ≡ true → Sound (new_reading target offset wanted follow users there origin start batches)) → Holds calm offset wanted follow (new_reading target offset wanted follow users there origin start batches)
 keeps-begun calm target offset wanted follow users there origin start batches typed fits log sound = record {
   typed = typed;
   fits = fits;
@@ -815,14 +815,14 @@ keeps-begun calm target offset wanted follow users there origin start batches ty
 given_in : (offset : ℤ) (wanted : Option ℕ) (follow : Bool) (reply : Option (List (List ℕ))) (w : Reading) → giving.IsGivenBy offset wanted follow (under reply w) → IsGiven offset wanted follow w
 given_in offset wanted follow reply w g = record { records = g.records; others = g.others; in_order = g.in_order; lines = g.lines; within = g.within; finished = g.finished }
 
-pub lines_read : (target : Target) (offset : ℤ) (wanted : Option ℕ) (follow : Bool) (users : List PlainLogin) (there : Bool) (origin start : ℤ) (batches : List (List ℕ)) (es : List Event) (last : Reading) → IsTyped target → FitsSigned w64 offset → IsLog origin batches → Runs es (begun target offset wanted follow users there origin start batches) last → IsGiven offset wanted follow last
+pub lines_read : (target : Target) (offset : ℤ) (wanted : Option ℕ) (follow : Bool) (users : List PlainLogin) (there : Bool) (origin start : ℤ) (batches : List (List ℕ)) (es : List Event) (last : Reading) → IsTyped target → FitsSigned w64 offset → IsLog origin batches → Runs es (new_reading target offset wanted follow users there origin start batches) last → IsGiven offset wanted follow last
 lines_read target offset wanted follow users there origin start batches es last typed fits log r =
     let first = keeps-begun false target offset wanted follow users there origin start batches typed fits log (λ c. absurd (no_false c)) in
-    let h = after_all false offset wanted follow es (begun target offset wanted follow users there origin start batches) last (λ c. absurd (no_false c)) r first in
+    let h = after_all false offset wanted follow es (new_reading target offset wanted follow users there origin start batches) last (λ c. absurd (no_false c)) r first in
     given_in offset wanted follow h.reply last (is_given offset wanted follow (under h.reply last) h.holds)
 
-pub no_fault_read : (target : Target) (offset : ℤ) (wanted : Option ℕ) (follow : Bool) (users : List PlainLogin) (origin start : ℤ) (batches : List (List ℕ)) (es : List Event) (last : Reading) → IsTyped target → FitsSigned w64 offset → IsLog origin batches → start ≤ℤ offset → offset ≤ℤ end_of_log origin batches → knows users (plain_message target) ≡ true → AreCalm es → Runs es (begun target offset wanted follow users true origin start batches) last → fault_at last.core.stage ≡ None
+pub no_fault_read : (target : Target) (offset : ℤ) (wanted : Option ℕ) (follow : Bool) (users : List PlainLogin) (origin start : ℤ) (batches : List (List ℕ)) (es : List Event) (last : Reading) → IsTyped target → FitsSigned w64 offset → IsLog origin batches → start ≤ℤ offset → offset ≤ℤ end_of_log origin batches → knows users (plain_message target) ≡ true → AreCalm es → Runs es (new_reading target offset wanted follow users true origin start batches) last → fault_at last.core.stage ≡ None
 no_fault_read target offset wanted follow users origin start batches es last typed fits log low high known calm r =
     let first = keeps-begun true target offset wanted follow users true origin start batches typed fits log (λ c. record { there = refl; topic = refl; index = refl; low = low; high = high; known = known; going = first_going wanted }) in
-    let h = after_all true offset wanted follow es (begun target offset wanted follow users true origin start batches) last (λ c. calm) r first in
+    let h = after_all true offset wanted follow es (new_reading target offset wanted follow users true origin start batches) last (λ c. calm) r first in
     (h.sound refl).going

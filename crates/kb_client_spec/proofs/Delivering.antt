@@ -13,7 +13,7 @@ use Rattle.kb_client.specs.Sent.{Line, Target}
 use Rattle.kb_client.specs.Requests.{plain_message}
 use Rattle.kb_client.specs.Producer.{Producer, fed, is_due, is_idle, IsOutput, TakesLine, Inputs, OutputsText}
 use Rattle.kb_client_spec.specs.Receiver.{Stored, knows}
-use Rattle.kb_client_spec.specs.Sending.{Delivery, Event, Hands, Sends, Arrives, Serves, Returns, Reconnects, Steps, Runs, IsTyped, IsDelivered, IsTaken, IsDone, HasNoFault, begun, values, if_taken, if_given, if_come}
+use Rattle.kb_client_spec.specs.Sending.{Delivery, Event, Hands, Sends, Arrives, Serves, Returns, Reconnects, Steps, Runs, IsTyped, IsDelivered, IsTaken, OnlyMemoryFails, HasNoFault, new_delivery, values, if_taken, if_given, if_come}
 use Rattle.kb_client_spec.proofs.Invariant.{stored_by, IsStored, Counts, Holds, holds_going}
 use Rattle.kb_client_spec.proofs.Steps.{holds-handed, holds-sent, holds-arrived, holds-returned, holds-connected}
 use Rattle.kb_client_spec.proofs.Serving.{holds-served}
@@ -66,7 +66,7 @@ after_all : (known : Bool) (es : List Event) (first last : Delivery) → Runs es
 after_all known [] first last r h = subst (Holds known) (sym r) h
 after_all known (e ∷ es) first last r h = after_all known es r.0 last r.2 (after known e first r.0 r.1 h)
 
-holds-begun : (known : Bool) (target : Target) (create : Option ℤ) (users : List PlainLogin) (created : Bool) (next_id : ℕ) → IsTyped target create → knows users (plain_message target) ≡ known → Holds known (begun target create users created next_id)
+holds-begun : (known : Bool) (target : Target) (create : Option ℤ) (users : List PlainLogin) (created : Bool) (next_id : ℕ) → IsTyped target create → knows users (plain_message target) ≡ known → Holds known (new_delivery target create users created next_id)
 holds-begun known target create users created next_id typed is = record {
   login = is;
   typed = typed;
@@ -124,9 +124,9 @@ delivered_by w c (inr h) =
       idle = λ i. no_more h.0 h.1 w.core.lines _ h.2 (idle_lines w.core.stage w.core.lines i);
     }
 
-pub delivered : (target : Target) (create : Option ℤ) (users : List PlainLogin) (created : Bool) (next_id : ℕ) (es : List Event) (last : Delivery) → IsTyped target create → Runs es (begun target create users created next_id) last → IsDelivered last
+pub delivered : (target : Target) (create : Option ℤ) (users : List PlainLogin) (created : Bool) (next_id : ℕ) (es : List Event) (last : Delivery) → IsTyped target create → Runs es (new_delivery target create users created next_id) last → IsDelivered last
 delivered target create users created next_id es last typed r =
-    let h = after_all (knows users (plain_message target)) es (begun target create users created next_id) last r (holds-begun (knows users (plain_message target)) target create users created next_id typed refl) in
+    let h = after_all (knows users (plain_message target)) es (new_delivery target create users created next_id) last r (holds-begun (knows users (plain_message target)) target create users created next_id typed refl) in
     delivered_by last h.counts h.counts.some
 
 -- ---- faults
@@ -142,7 +142,7 @@ taken_line old new line (Err faults.Denied) going t = clash (fault_of old.stage)
 taken_line old new line (Err (faults.Code code)) going t = clash (fault_of old.stage) (faults.Code code) going t.0
 taken_line old new line (Err faults.Protocol) going t = clash (fault_of old.stage) faults.Protocol going t.0
 
-done_output : (old new : Producer) (result : Result (List ℕ) ClientFault) → fault_of old.stage ≡ None → OutputsText (λ text. text) old result new → IsDone result
+done_output : (old new : Producer) (result : Result (List ℕ) ClientFault) → fault_of old.stage ≡ None → OutputsText (λ text. text) old result new → OnlyMemoryFails result
 done_output old new (Ok text) going t = tt
 done_output old new (Err faults.Memory) going t = tt
 done_output old new (Err faults.Denied) going t = clash (fault_of old.stage) faults.Denied going t.0
@@ -150,7 +150,7 @@ done_output old new (Err (faults.Code code)) going t = clash (fault_of old.stage
 done_output old new (Err faults.Protocol) going t = clash (fault_of old.stage) faults.Protocol going t.0
 done_output old new (Err faults.LineTooLong) going t = t
 
-done_input : (old new : Producer) (piece : List ℕ) (result : Result (Unit {0}) ClientFault) → fault_of new.stage ≡ None → Inputs old piece result new → IsDone result
+done_input : (old new : Producer) (piece : List ℕ) (result : Result (Unit {0}) ClientFault) → fault_of new.stage ≡ None → Inputs old piece result new → OnlyMemoryFails result
 done_input old new piece (Ok u) going t = tt
 done_input old new piece (Err faults.Memory) going t = tt
 done_input old new piece (Err faults.Denied) going t = clash (fault_of new.stage) faults.Denied going t.1
@@ -169,5 +169,5 @@ no_fault_in (Returns n result ∷ es) first last r h =
     (done_input first.core r.0.core (take n first.answers) result (holds_going r.0 next) r.1.0, no_fault_in es r.0 last r.2 next)
 no_fault_in (Reconnects ∷ es) first last r h = no_fault_in es r.0 last r.2 (after true Reconnects first r.0 r.1 h)
 
-pub no_fault : (target : Target) (create : Option ℤ) (users : List PlainLogin) (created : Bool) (next_id : ℕ) (es : List Event) (last : Delivery) → IsTyped target create → knows users (plain_message target) ≡ true → Runs es (begun target create users created next_id) last → HasNoFault es
-no_fault target create users created next_id es last typed is r = no_fault_in es (begun target create users created next_id) last r (holds-begun true target create users created next_id typed is)
+pub no_fault : (target : Target) (create : Option ℤ) (users : List PlainLogin) (created : Bool) (next_id : ℕ) (es : List Event) (last : Delivery) → IsTyped target create → knows users (plain_message target) ≡ true → Runs es (new_delivery target create users created next_id) last → HasNoFault es
+no_fault target create users created next_id es last typed is r = no_fault_in es (new_delivery target create users created next_id) last r (holds-begun true target create users created next_id typed is)

@@ -11,8 +11,8 @@ use Rattle.kb_client.specs.declared.fetching.Fetching.{Fetching}
 use Rattle.kb_client.specs.declared.fetching.Fetching.TheVariants as stages
 use Rattle.kb_client.specs.Sent.{Target}
 use Rattle.kb_client.specs.Lines.{found_in, less, at_most, records_from, line_text}
-use Rattle.kb_client.specs.Consumer.{Consumer, fault_at, fresh, connected, restarted, entered, given, with_found, wanting, at_end, without_text}
-use Rattle.kb_client_spec.specs.Partition.{IsLog, end_of_log, records_of_log, joined, batches_given}
+use Rattle.kb_client.specs.Consumer.{Consumer, fault_at, new_consumer, connected, restarted, entered, with_records, with_found, wanting, at_end, without_text}
+use Rattle.kb_client_spec.specs.Partition.{IsLog, end_of_log, records_of_log, batch_bytes, batches_given}
 use Rattle.kb_client_spec.specs.Consuming.{IsWithin, IsFull}
 use Rattle.kb_client_spec.proofs.Finding.{at_or_below, end_grows, Finds, finds_answered, found_answered, answered_some, nothing_held, less_more, found_text, no_lines, none_less}
 
@@ -28,7 +28,7 @@ pub record World : Type 0 where
 -- the reply comes
 abbrev pub come : Option (List (List ℕ)) → World → World
 come None w = w
-come (Some batches) w = record w { core = given (joined batches) w.core; reply = None }
+come (Some batches) w = record w { core = with_records (batch_bytes batches) w.core; reply = None }
 
 pub record IsGivenBy (offset : ℤ) (wanted : Option ℕ) (follow : Bool) (w : World) : Type 0 where
   pub records : List RecordView
@@ -256,24 +256,24 @@ came_found offset wanted follow w r h x f =
       finished = λ s. inl (sym less_now ∙ wanting_finished f.after.wanted s);
     }
 
-given_some : (s : List ℕ) (c : Consumer) → (s ≡ [] → ⊥) → given s c ≡ with_found (found_in s c.found) c
+given_some : (s : List ℕ) (c : Consumer) → (s ≡ [] → ⊥) → with_records s c ≡ with_found (found_in s c.found) c
 given_some [] c some = absurd (some refl)
 given_some (b ∷ s) c some = refl
 
-given_is : (offset : ℤ) (wanted : Option ℕ) (follow : Bool) (w : World) (r : List (List ℕ)) (h : Holds offset wanted follow w) (x : IsReply offset h.records w r) (b : List ℕ) (read : List (List ℕ)) → r ≡ b ∷ read → given (joined r) w.core ≡ with_found (Some (finds_answered x.n w.core.found w.start x.old x.log).after) w.core
+given_is : (offset : ℤ) (wanted : Option ℕ) (follow : Bool) (w : World) (r : List (List ℕ)) (h : Holds offset wanted follow w) (x : IsReply offset h.records w r) (b : List ℕ) (read : List (List ℕ)) → r ≡ b ∷ read → with_records (batch_bytes r) w.core ≡ with_found (Some (finds_answered x.n w.core.found w.start x.old x.log).after) w.core
 given_is offset wanted follow w r h x b read e =
     let f = finds_answered x.n w.core.found w.start x.old x.log in
-    let some : joined (batches_given x.n w.core.found.offset x.old) ≡ [] → ⊥ = answered_some x.n w.core.found.offset w.start x.old b read x.log (sym x.batches ∙ e) in
-    ap (λ bs. given (joined bs) w.core) x.batches ∙ given_some (joined (batches_given x.n w.core.found.offset x.old)) w.core some ∙ ap (λ o. with_found o w.core) (found_answered x.n w.core.found w.start x.old x.log ∙ f.reads)
+    let some : batch_bytes (batches_given x.n w.core.found.offset x.old) ≡ [] → ⊥ = answered_some x.n w.core.found.offset w.start x.old b read x.log (sym x.batches ∙ e) in
+    ap (λ bs. with_records (batch_bytes bs) w.core) x.batches ∙ given_some (batch_bytes (batches_given x.n w.core.found.offset x.old)) w.core some ∙ ap (λ o. with_found o w.core) (found_answered x.n w.core.found w.start x.old x.log ∙ f.reads)
 
-came_by : (offset : ℤ) (wanted : Option ℕ) (follow : Bool) (w : World) (r : List (List ℕ)) (h : Holds offset wanted follow w) (x : IsReply offset h.records w r) (read : List (List ℕ)) → r ≡ read → Holds offset wanted follow (came (given (joined r) w.core) w)
-came_by offset wanted follow w r h x [] e = subst (λ bs. Holds offset wanted follow (came (given (joined bs) w.core) w)) (sym e) (came_end offset wanted follow w r h x e)
+came_by : (offset : ℤ) (wanted : Option ℕ) (follow : Bool) (w : World) (r : List (List ℕ)) (h : Holds offset wanted follow w) (x : IsReply offset h.records w r) (read : List (List ℕ)) → r ≡ read → Holds offset wanted follow (came (with_records (batch_bytes r) w.core) w)
+came_by offset wanted follow w r h x [] e = subst (λ bs. Holds offset wanted follow (came (with_records (batch_bytes bs) w.core) w)) (sym e) (came_end offset wanted follow w r h x e)
 came_by offset wanted follow w r h x (b ∷ read) e =
     let f = finds_answered x.n w.core.found w.start x.old x.log in
     subst (λ c. Holds offset wanted follow (came c w)) (sym (given_is offset wanted follow w r h x b read e)) (came_found offset wanted follow w r h x f)
 
-fits_by : (offset : ℤ) (wanted : Option ℕ) (follow : Bool) (w : World) (r : List (List ℕ)) (h : Holds offset wanted follow w) (x : IsReply offset h.records w r) → FitsSigned w64 w.core.found.offset → (read : List (List ℕ)) → r ≡ read → FitsSigned w64 (given (joined r) w.core).found.offset
-fits_by offset wanted follow w r h x fit [] e = subst (λ bs. FitsSigned w64 (given (joined bs) w.core).found.offset) (sym e) fit
+fits_by : (offset : ℤ) (wanted : Option ℕ) (follow : Bool) (w : World) (r : List (List ℕ)) (h : Holds offset wanted follow w) (x : IsReply offset h.records w r) → FitsSigned w64 w.core.found.offset → (read : List (List ℕ)) → r ≡ read → FitsSigned w64 (with_records (batch_bytes r) w.core).found.offset
+fits_by offset wanted follow w r h x fit [] e = subst (λ bs. FitsSigned w64 (with_records (batch_bytes bs) w.core).found.offset) (sym e) fit
 fits_by offset wanted follow w r h x fit (b ∷ read) e =
     let f = finds_answered x.n w.core.found w.start x.old x.log in
     subst (λ (c : Consumer). FitsSigned w64 c.found.offset) (sym (given_is offset wanted follow w r h x b read e)) (f.fits fit)
@@ -283,7 +283,7 @@ holds-come offset wanted follow w None h x = h
 holds-come offset wanted follow w (Some r) h x = came_by offset wanted follow w r h x r refl
 
 -- the offset stays an INT64
-pub come_fits : (offset : ℤ) (wanted : Option ℕ) (follow : Bool) (w : World) (r : List (List ℕ)) (h : Holds offset wanted follow w) → IsReply offset h.records w r → FitsSigned w64 w.core.found.offset → FitsSigned w64 (given (joined r) w.core).found.offset
+pub come_fits : (offset : ℤ) (wanted : Option ℕ) (follow : Bool) (w : World) (r : List (List ℕ)) (h : Holds offset wanted follow w) → IsReply offset h.records w r → FitsSigned w64 w.core.found.offset → FitsSigned w64 (with_records (batch_bytes r) w.core).found.offset
 come_fits offset wanted follow w r h x fit = fits_by offset wanted follow w r h x fit r refl
 
 -- no fault stands then
@@ -296,23 +296,23 @@ more_going None = refl
 more_going (Some zero) = refl
 more_going (Some (suc n)) = refl
 
-going_by : (offset : ℤ) (wanted : Option ℕ) (follow : Bool) (w : World) (r : List (List ℕ)) (h : Holds offset wanted follow w) (x : IsReply offset h.records w r) (read : List (List ℕ)) → r ≡ read → fault_at (given (joined r) w.core).stage ≡ None
-going_by offset wanted follow w r h x [] e = subst (λ (bs : List (List ℕ)). fault_at (given (joined bs) w.core).stage ≡ None) (sym e) (end_going w.core.follow)
+going_by : (offset : ℤ) (wanted : Option ℕ) (follow : Bool) (w : World) (r : List (List ℕ)) (h : Holds offset wanted follow w) (x : IsReply offset h.records w r) (read : List (List ℕ)) → r ≡ read → fault_at (with_records (batch_bytes r) w.core).stage ≡ None
+going_by offset wanted follow w r h x [] e = subst (λ (bs : List (List ℕ)). fault_at (with_records (batch_bytes bs) w.core).stage ≡ None) (sym e) (end_going w.core.follow)
 going_by offset wanted follow w r h x (b ∷ read) e =
     let f = finds_answered x.n w.core.found w.start x.old x.log in
     subst (λ (c : Consumer). fault_at c.stage ≡ None) (sym (given_is offset wanted follow w r h x b read e)) (more_going f.after.wanted)
 
-pub come_going : (offset : ℤ) (wanted : Option ℕ) (follow : Bool) (w : World) (r : List (List ℕ)) (h : Holds offset wanted follow w) → IsReply offset h.records w r → fault_at (given (joined r) w.core).stage ≡ None
+pub come_going : (offset : ℤ) (wanted : Option ℕ) (follow : Bool) (w : World) (r : List (List ℕ)) (h : Holds offset wanted follow w) → IsReply offset h.records w r → fault_at (with_records (batch_bytes r) w.core).stage ≡ None
 come_going offset wanted follow w r h x = going_by offset wanted follow w r h x r refl
 
 -- the offset rises, and stays within the log
-rises_by : (offset : ℤ) (wanted : Option ℕ) (follow : Bool) (w : World) (r : List (List ℕ)) (h : Holds offset wanted follow w) (x : IsReply offset h.records w r) (read : List (List ℕ)) → r ≡ read → w.core.found.offset ≤ℤ (given (joined r) w.core).found.offset
-rises_by offset wanted follow w r h x [] e = subst (λ (bs : List (List ℕ)). w.core.found.offset ≤ℤ (given (joined bs) w.core).found.offset) (sym e) (omega (arith, ints))
+rises_by : (offset : ℤ) (wanted : Option ℕ) (follow : Bool) (w : World) (r : List (List ℕ)) (h : Holds offset wanted follow w) (x : IsReply offset h.records w r) (read : List (List ℕ)) → r ≡ read → w.core.found.offset ≤ℤ (with_records (batch_bytes r) w.core).found.offset
+rises_by offset wanted follow w r h x [] e = subst (λ (bs : List (List ℕ)). w.core.found.offset ≤ℤ (with_records (batch_bytes bs) w.core).found.offset) (sym e) (omega (arith, ints))
 rises_by offset wanted follow w r h x (b ∷ read) e =
     let f = finds_answered x.n w.core.found w.start x.old x.log in
     subst (λ (c : Consumer). w.core.found.offset ≤ℤ c.found.offset) (sym (given_is offset wanted follow w r h x b read e)) f.rises
 
-pub come_rises : (offset : ℤ) (wanted : Option ℕ) (follow : Bool) (w : World) (r : List (List ℕ)) (h : Holds offset wanted follow w) → IsReply offset h.records w r → w.core.found.offset ≤ℤ (given (joined r) w.core).found.offset
+pub come_rises : (offset : ℤ) (wanted : Option ℕ) (follow : Bool) (w : World) (r : List (List ℕ)) (h : Holds offset wanted follow w) → IsReply offset h.records w r → w.core.found.offset ≤ℤ (with_records (batch_bytes r) w.core).found.offset
 come_rises offset wanted follow w r h x = rises_by offset wanted follow w r h x r refl
 
 old_end : (start : ℤ) (bs old more : List (List ℕ)) → bs ≡ old ++ more → IsLog start bs → end_of_log start old ≤ℤ end_of_log start bs
@@ -322,14 +322,14 @@ within_either : (after offset end old : ℤ) → offset ≤ℤ end → old ≤�
 within_either after offset end old le lo (inl h) = at_or_below after offset end h le
 within_either after offset end old le lo (inr h) = at_or_below after old end h lo
 
-ends_by : (offset : ℤ) (wanted : Option ℕ) (follow : Bool) (w : World) (r : List (List ℕ)) (h : Holds offset wanted follow w) (x : IsReply offset h.records w r) → w.core.found.offset ≤ℤ end_of_log w.start w.batches → (read : List (List ℕ)) → r ≡ read → (given (joined r) w.core).found.offset ≤ℤ end_of_log w.start w.batches
-ends_by offset wanted follow w r h x le [] e = subst (λ (bs : List (List ℕ)). (given (joined bs) w.core).found.offset ≤ℤ end_of_log w.start w.batches) (sym e) le
+ends_by : (offset : ℤ) (wanted : Option ℕ) (follow : Bool) (w : World) (r : List (List ℕ)) (h : Holds offset wanted follow w) (x : IsReply offset h.records w r) → w.core.found.offset ≤ℤ end_of_log w.start w.batches → (read : List (List ℕ)) → r ≡ read → (with_records (batch_bytes r) w.core).found.offset ≤ℤ end_of_log w.start w.batches
+ends_by offset wanted follow w r h x le [] e = subst (λ (bs : List (List ℕ)). (with_records (batch_bytes bs) w.core).found.offset ≤ℤ end_of_log w.start w.batches) (sym e) le
 ends_by offset wanted follow w r h x le (b ∷ read) e =
     let f = finds_answered x.n w.core.found w.start x.old x.log in
     subst (λ (c : Consumer). c.found.offset ≤ℤ end_of_log w.start w.batches) (sym (given_is offset wanted follow w r h x b read e))
     (within_either f.after.offset w.core.found.offset (end_of_log w.start w.batches) (end_of_log w.start x.old) le (old_end w.start w.batches x.old x.more x.is h.log) (f.ends w.start x.log))
 
-pub come_ends : (offset : ℤ) (wanted : Option ℕ) (follow : Bool) (w : World) (r : List (List ℕ)) (h : Holds offset wanted follow w) → IsReply offset h.records w r → w.core.found.offset ≤ℤ end_of_log w.start w.batches → (given (joined r) w.core).found.offset ≤ℤ end_of_log w.start w.batches
+pub come_ends : (offset : ℤ) (wanted : Option ℕ) (follow : Bool) (w : World) (r : List (List ℕ)) (h : Holds offset wanted follow w) → IsReply offset h.records w r → w.core.found.offset ≤ℤ end_of_log w.start w.batches → (with_records (batch_bytes r) w.core).found.offset ≤ℤ end_of_log w.start w.batches
 come_ends offset wanted follow w r h x le = ends_by offset wanted follow w r h x le r refl
 
 -- what changes nothing that was found
@@ -357,7 +357,7 @@ closed_finished None e = absurd cc
 closed_finished (Some zero) e = refl
 closed_finished (Some (suc n)) e = absurd cc
 
-pub holds-begun : (target : Target) (offset : ℤ) (wanted : Option ℕ) (follow : Bool) (start : ℤ) (batches : List (List ℕ)) → IsLog start batches → Holds offset wanted follow (record { core = fresh target offset wanted follow; taken = []; reply = None; start = start; batches = batches; met = 0 })
+pub holds-begun : (target : Target) (offset : ℤ) (wanted : Option ℕ) (follow : Bool) (start : ℤ) (batches : List (List ℕ)) → IsLog start batches → Holds offset wanted follow (record { core = new_consumer target offset wanted follow; taken = []; reply = None; start = start; batches = batches; met = 0 })
 holds-begun target offset wanted follow start batches log = record {
   log = log;
   records = [];

@@ -14,7 +14,7 @@ use Rattle.kb_api_data.specs.declared.produce.ProducePartitionReply.{ProducePart
 use Rattle.kb_api_data.specs.declared.init_producer_id.InitProducerIdReply.{InitProducerIdReply}
 use Rattle.kb_client.specs.declared.stage.ProducerId.{ProducerId}
 use Rattle.kb_client.specs.Replies.{body_for, handshake_code, authenticate_code, one_topic, create_code, identity, one_partition, produce_code}
-use Rattle.kb_client_spec.specs.Receiver.{Part, handshake_reply, authenticate_reply, create_reply, identify_reply, stored_reply}
+use Rattle.kb_client_spec.specs.Receiver.{ProducedBatch, handshake_reply, authenticate_reply, create_reply, identify_reply, stored_reply}
 use Rattle.kb_client_spec.proofs.Texts.{int_same, whole_spelled, whole_written, wrapped, wrapped_spelled, pair_len, int16_len, int32_len, int64_len, string_len, one_len, no_string_len, blob_len}
 use Rattle.kb_client_spec.proofs.Asking.{topic_of}
 
@@ -139,7 +139,7 @@ partition_spelled index offset fits =
 regrouped : (c n d p t : List ℕ) → (c ++ ((n ++ (d ++ (p ++ []))) ++ [])) ++ t ≡ c ++ (n ++ (d ++ (p ++ t)))
 regrouped c n d p t = simp (append-nil, append_assoc)
 
-stored_reply_is : (part : Part) (offset : ℤ) → stored_reply part (pos 0) offset ≡ (count w32).written 1 ++ (string.written part.topic ++ ((count w32).written 1 ++ (partition_text part.index offset ++ int32.written (pos 0))))
+stored_reply_is : (part : ProducedBatch) (offset : ℤ) → stored_reply part (pos 0) offset ≡ (count w32).written 1 ++ (string.written part.topic ++ ((count w32).written 1 ++ (partition_text part.index offset ++ int32.written (pos 0))))
 unfolding produce_reply produce_topic_reply partition_text sized items
 stored_reply_is part offset = regrouped ((count w32).written 1) (string.written part.topic) ((count w32).written 1) (partition_text part.index offset) (int32.written (pos 0))
 
@@ -155,7 +155,7 @@ zero_spelled : int32.Spells (int32.written (pos 0)) (pos 0)
 unfolding int
 zero_spelled = int32_lawful.again (pos 0) (record { sfits = lit< tt }) tt
 
-stored_spelled : (part : Part) (offset : ℤ) → length part.topic ≤ 255 → IsUtf8 part.topic → FitsSigned w32 part.index → one_partition.Spells (stored_reply part (pos 0) offset) (1, (part.topic, (1, (partition_value part.index offset, pos 0))))
+stored_spelled : (part : ProducedBatch) (offset : ℤ) → length part.topic ≤ 255 → IsUtf8 part.topic → FitsSigned w32 part.index → one_partition.Spells (stored_reply part (pos 0) offset) (1, (part.topic, (1, (partition_value part.index offset, pos 0))))
 stored_spelled part offset short text fits =
     let c = (count w32).written 1 in
     let n = string.written part.topic in
@@ -174,7 +174,7 @@ stored_spelled part offset short text fits =
       ),
     )
 
-pub stored_heard : (part : Part) (offset : ℤ) → length part.topic ≤ 255 → IsUtf8 part.topic → FitsSigned w32 part.index → produce_code (stored_reply part (pos 0) offset) ≡ Ok (pos 0)
+pub stored_heard : (part : ProducedBatch) (offset : ℤ) → length part.topic ≤ 255 → IsUtf8 part.topic → FitsSigned w32 part.index → produce_code (stored_reply part (pos 0) offset) ≡ Ok (pos 0)
 unfolding partition_value
 stored_heard part offset short text fits =
     let read : whole one_partition (stored_reply part (pos 0) offset) ≡ Ok (1, (part.topic, (1, (partition_value part.index offset, pos 0)))) = whole_spelled one_partition one_partition_lawful (stored_reply part (pos 0) offset) (1, (part.topic, (1, (partition_value part.index offset, pos 0)))) (stored_spelled part offset short text fits) in
@@ -188,7 +188,7 @@ one_count_len : length ((count w32).written 1) ≡ 4
 unfolding counted
 one_count_len = int32_len (pos 1)
 
-pub stored_reply_len : (part : Part) (offset : ℤ) → length (stored_reply part (pos 0) offset) ≡ 36 + length part.topic
+pub stored_reply_len : (part : ProducedBatch) (offset : ℤ) → length (stored_reply part (pos 0) offset) ≡ 36 + length part.topic
 stored_reply_len part offset =
     let c = (count w32).written 1 in
     let n = string.written part.topic in

@@ -25,7 +25,7 @@ use Rattle.kb_client.specs.Replies.{body_for}
 use Rattle.kb_client.specs.Producer as producers
 use Rattle.kb_client.specs.Producer.{Producer, heard, heard_by, correlation, sequence, entered, ended, after_login, IsRequest, IsProduce}
 use Rattle.kb_client_spec.specs.Receiver as receivers
-use Rattle.kb_client_spec.specs.Receiver.{Receiver, Stored, Login, Greets, Shaken, LoggedIn, Shut, Asked, Handshake, Authenticate, Create, Identify, Produce, Request, request, Outcome, outcome, replies, handshake_reply, authenticate_reply, create_reply, identify_reply, stored_reply, Part, part_of, value_in, value_of, producer_of, is_by, count_by, Verdict, Next, Repeated, OutOfOrder, verdict, last_by, stores, stores_batch, stores_part, knows, shakes, logs_in, logged_in_only, creates}
+use Rattle.kb_client_spec.specs.Receiver.{Receiver, Stored, Login, Greets, Shaken, LoggedIn, Shut, Asked, Handshake, Authenticate, Create, Identify, Produce, Request, request, ReceiverOutcome, outcome, replies, handshake_reply, authenticate_reply, create_reply, identify_reply, stored_reply, ProducedBatch, part_of, value_in, value_of, producer_of, is_by, count_by, Verdict, Next, Repeated, OutOfOrder, verdict, last_by, stores, stores_batch, stores_part, knows, shakes, logs_in, logged_in_only, creates}
 use Rattle.kb_client_spec.specs.Sending.{Delivery, IsTyped, served_at, with_outcome, reply_text}
 use Rattle.kb_client_spec.proofs.Texts.{int_same, int_apart, header, request_read, front_request, front_reply, front_nothing, front_part}
 use Rattle.kb_client_spec.proofs.Asking.{topic_of, handshake_body, handshake_short, handshake_asked, authenticate_body, authenticate_short, authenticate_asked, create_body, create_short, create_asked, identify_body, identify_short, identify_asked, produce_ask, produce_body, produce_short, produce_asked}
@@ -147,7 +147,7 @@ code_fits : (b : Bool) → FitsSigned w16 (code_by b)
 code_fits true = record { sfits = lit< tt }
 code_fits false = record { sfits = lit< tt }
 
-created_by : (b : Bool) (p : Producer) → producers.created (Ok (code_by b)) p ≡ entered (after_login None p.producer) (record p { create = None })
+created_by : (b : Bool) (p : Producer) → producers.after_create (Ok (code_by b)) p ≡ entered (after_login None p.producer) (record p { create = None })
 created_by true p = refl
 created_by false p = refl
 
@@ -170,7 +170,7 @@ reacts_create known n p handed r text at is ready fits typed counts = record {
   read = refl;
   users = refl;
   next = entered (after_login None p.producer) (record p { create = None });
-  hears = λ u more. hears_at (stages.Create n) (record p { unread = u; lines = p.lines ++ more }) (pos 3) (create_reply (code_by r.created) (topic_of p.target.topic n ∷ [])) at refl (record { sfits = lit< tt }) ∙ ap (λ c. producers.created c (record p { unread = u; lines = p.lines ++ more })) (create_heard p.target.topic n (code_by r.created) typed.short.topic typed.topic (code_fits r.created)) ∙ created_by r.created (record p { unread = u; lines = p.lines ++ more });
+  hears = λ u more. hears_at (stages.Create n) (record p { unread = u; lines = p.lines ++ more }) (pos 3) (create_reply (code_by r.created) (topic_of p.target.topic n ∷ [])) at refl (record { sfits = lit< tt }) ∙ ap (λ c. producers.after_create c (record p { unread = u; lines = p.lines ++ more })) (create_heard p.target.topic n (code_by r.created) typed.short.topic typed.topic (code_fits r.created)) ∙ created_by r.created (record p { unread = u; lines = p.lines ++ more });
   settled = record {
     idle = refl;
     unread = refl;
@@ -261,7 +261,7 @@ producer_is : (id : ProducerId) (number : ℤ) (line : Line) (batch : List ℕ) 
 producer_is id number line batch built = ap (λ i. made_of i (producer_of batch).epoch) built.producer_id ∙ ap (λ e. made_of id.id e) built.producer_epoch
 
 -- the receiver has the line once, and answers with 0
-record StoresLine (id : ProducerId) (done : List Line) (line : Line) (part : Part) (r : Receiver) : Type 0 where
+record StoresLine (id : ProducerId) (done : List Line) (line : Line) (part : ProducedBatch) (r : Receiver) : Type 0 where
   offset : ℤ
   after : Receiver
   comes : stores_part (Some part) (bare r) ≡ replies (stored_reply part (pos 0) offset) after
@@ -270,7 +270,7 @@ record StoresLine (id : ProducerId) (done : List Line) (line : Line) (part : Par
   users : after.users ≡ r.users
   read : after.unread ≡ []
 
-comes_to : (id : ProducerId) (n : ℕ) (line : Line) (part : Part) (r : Receiver) (v : Verdict) → IsBatchOf id (pos (n % 2 ^ 31)) line part.batch → verdict (count_by id r.stored) (pos (n % 2 ^ 31)) ≡ v → stores_part (Some part) (bare r) ≡ stores v part id line.value (bare r)
+comes_to : (id : ProducerId) (n : ℕ) (line : Line) (part : ProducedBatch) (r : Receiver) (v : Verdict) → IsBatchOf id (pos (n % 2 ^ 31)) line part.batch → verdict (count_by id r.stored) (pos (n % 2 ^ 31)) ≡ v → stores_part (Some part) (bare r) ≡ stores v part id line.value (bare r)
 comes_to id n line part r v built is =
     ap (λ o. stores_batch o part (producer_of part.batch) (bare r)) (value_is id (pos (n % 2 ^ 31)) line part.batch built)
     ∙ ap (λ i. stores (verdict (count_by i r.stored) (base_sequence_of part.batch)) part i line.value (bare r)) (producer_is id (pos (n % 2 ^ 31)) line part.batch built)
@@ -280,7 +280,7 @@ comes_to id n line part r v built is =
 one_line : (a b : Line) (x y : List Line) → a ∷ x ≡ b ∷ y → a ≡ b
 one_line a b x y e = cc
 
-stores_line : (id : ProducerId) (n : ℕ) (done lines rest : List Line) (line : Line) (part : Part) (r : Receiver) → n ≡ length done → lines ≡ line ∷ rest → IsBatchOf id (pos (n % 2 ^ 31)) line part.batch → IsStored id done lines r.stored → StoresLine id done line part r
+stores_line : (id : ProducerId) (n : ℕ) (done lines rest : List Line) (line : Line) (part : ProducedBatch) (r : Receiver) → n ≡ length done → lines ≡ line ∷ rest → IsBatchOf id (pos (n % 2 ^ 31)) line part.batch → IsStored id done lines r.stored → StoresLine id done line part r
 stores_line id n done lines rest line part r count is built (inl e) =
     let counted : count_by id r.stored ≡ n = ap (count_by id) e ∙ count_all id done ∙ sym count in
     record {
@@ -317,7 +317,7 @@ owned id owner producer done lines stored has (inr e) h = one_of_both id produce
 sequence_fits : (n : ℕ) → FitsSigned w32 (pos (n % 2 ^ 31))
 sequence_fits n = record { sfits = omega arith }
 
-abbrev part_at : Target → List ℕ → Part
+abbrev part_at : Target → List ℕ → ProducedBatch
 part_at t batch = record { topic = t.topic; index = t.partition; batch = batch }
 
 reacts_produce : (known : Bool) (id : ProducerId) (lines rest : List Line) (line : Line) (batch : List ℕ) (p : Producer) (handed : List Line) (r : Receiver) (text : List ℕ) → p.stage ≡ stages.Produce id → p.lines ≡ line ∷ rest → IsBatchOf id (sequence p) line batch → text ≡ produce_text (sequence p) p.target batch → r.login ≡ LoggedIn → p.producer ≡ Some id → IsTyped p.target p.create → (c : Counts p.producer p.acknowledged p.lines handed r.stored) → StoresLine id c.done line (part_at p.target batch) r → Reacts known p handed r text

@@ -14,11 +14,11 @@ use Rattle.kb_client.specs.declared.fetching.Fetching.TheVariants as stages
 use Rattle.kb_client.specs.Lines.{line_text}
 use Rattle.kb_batch.specs.declared.record.RecordView.{RecordView}
 use Rattle.std.specs.List.{flat_map}
-use Rattle.kb_client.specs.Consumer.{Consumer, fresh, connected, without_text, Inputs, OutputsText}
-use Rattle.kb_client_spec.specs.Receiver.{Receiver, Login, Greets, Shaken, LoggedIn, Shut, Outcome, shuts, request, outcome}
+use Rattle.kb_client.specs.Consumer.{Consumer, new_consumer, connected, without_text, Inputs, OutputsText}
+use Rattle.kb_client_spec.specs.Receiver.{Receiver, Login, Greets, Shaken, LoggedIn, Shut, ReceiverOutcome, shuts, request, outcome}
 use Rattle.kb_client_spec.specs.Sending.{if_given, if_come, reply_text, arrived, cut}
 use Rattle.kb_client_spec.specs.Partition.{IsLog, Log, end_of_log, records_of_log}
-use Rattle.kb_client_spec.specs.Fetching.{Fetch, fetch_of, answer, refused, reply_body}
+use Rattle.kb_client_spec.specs.Fetching.{Fetch, fetch_of, partition_answer, refused_partition, reply_body}
 
 pub record Reading : Type 0 where
   pub core : Consumer
@@ -69,20 +69,20 @@ log_of w f =
     then Some (record { start = w.start; end = end_of_log w.origin w.batches; batches = w.batches })
     else None
 
-abbrev pub with_outcome : ℤ → Outcome → Reading → Reading
+abbrev pub with_outcome : ℤ → ReceiverOutcome → Reading → Reading
 with_outcome id o w = record w { greeter = o.receiver; answers = w.answers ++ reply_text id o.reply }
 
 -- a fetch is answered to whoever is logged in: any other is shut
-abbrev pub fetched : Login → (Fetch → FetchPartitionReplyV5) → ℤ → Fetch → Receiver → Reading → Reading
-fetched LoggedIn answers id f r w =
+abbrev pub with_fetch_answered : Login → (Fetch → FetchPartitionReplyV5) → ℤ → Fetch → Receiver → Reading → Reading
+with_fetch_answered LoggedIn answers id f r w =
     record w { greeter = r; answers = w.answers ++ reply_text id (Some (reply_body f (answers f))); met = length w.batches }
-fetched Greets answers id f r w = with_outcome id (shuts r) w
-fetched Shaken answers id f r w = with_outcome id (shuts r) w
-fetched Shut answers id f r w = with_outcome id (shuts r) w
+with_fetch_answered Greets answers id f r w = with_outcome id (shuts r) w
+with_fetch_answered Shaken answers id f r w = with_outcome id (shuts r) w
+with_fetch_answered Shut answers id f r w = with_outcome id (shuts r) w
 
 -- any other request is one of the login
 abbrev pub served_by : Option Fetch → (Fetch → FetchPartitionReplyV5) → List ℕ → Receiver → Reading → Reading
-served_by (Some f) answers frame r w = fetched r.login answers (request frame).correlation_id f r w
+served_by (Some f) answers frame r w = with_fetch_answered r.login answers (request frame).correlation_id f r w
 served_by None answers frame r w = with_outcome (request frame).correlation_id (outcome (request frame).asked r) w
 
 -- the request in front is served, where a fetch has these answers
@@ -93,10 +93,10 @@ served_at answers TooSmall w = record w { greeter = record w.greeter { login = S
 served_at answers TooLarge w = record w { greeter = record w.greeter { login = Shut } }
 
 abbrev pub answers_of : ℕ → Reading → Fetch → FetchPartitionReplyV5
-answers_of n w f = answer n f (log_of w f)
+answers_of n w f = partition_answer n f (log_of w f)
 
-abbrev pub refusals_of : ℤ → Fetch → FetchPartitionReplyV5
-refusals_of code f = refused f.index code
+abbrev pub refused_with : ℤ → Fetch → FetchPartitionReplyV5
+refused_with code f = refused_partition f.index code
 
 -- Each call of the consumer is what its contract says.
 abbrev pub Steps : Event → Reading → Reading → Type 0
@@ -109,7 +109,7 @@ Steps (Sends result) old new =
 Steps (Arrives n) old new = new ≡ record old { requests = drop n old.requests; greeter = arrived n old.greeter old.requests }
 Steps (Serves n) old new = new ≡ served_at (λ f. answers_of n old f) (front old.greeter.unread) old
 Steps (Refuses code) old new =
-    FitsSigned w16 code × (code ≡ pos 0 → ⊥) × (new ≡ served_at (λ f. refusals_of code f) (front old.greeter.unread) old)
+    FitsSigned w16 code × (code ≡ pos 0 → ⊥) × (new ≡ served_at (λ f. refused_with code f) (front old.greeter.unread) old)
 Steps (Returns n result) old new =
     Inputs old.core (take n old.answers) result new.core × (new ≡ record old { core = new.core; answers = if_come result n old.answers })
 Steps Takes old new = new ≡ record old { core = without_text old.core; taken = old.taken ++ old.core.found.text }
@@ -125,9 +125,9 @@ pub record IsTyped (target : Target) : Type 0 where
   pub topic : IsUtf8 target.topic
   pub partition : FitsSigned w32 target.partition
 
-abbrev pub begun : Target → ℤ → Option ℕ → Bool → List PlainLogin → Bool → ℤ → ℤ → List (List ℕ) → Reading
-begun target offset wanted follow users there origin start batches = record {
-  core = fresh target offset wanted follow;
+abbrev pub new_reading : Target → ℤ → Option ℕ → Bool → List PlainLogin → Bool → ℤ → ℤ → List (List ℕ) → Reading
+new_reading target offset wanted follow users there origin start batches = record {
+  core = new_consumer target offset wanted follow;
   taken = [];
   requests = [];
   answers = [];

@@ -15,7 +15,7 @@ use Rattle.kb_api_data.specs.declared.fetch_v5.FetchTopicV5.{FetchTopicV5}
 use Rattle.kb_api_data.specs.declared.fetch_v5.FetchPartitionV5.{FetchPartitionV5}
 use Rattle.kb_api_data.specs.declared.fetch_v5.FetchReplyV5.{FetchReplyV5}
 use Rattle.kb_api_data.specs.declared.fetch_v5.FetchPartitionReplyV5.{FetchPartitionReplyV5}
-use Rattle.kb_client_spec.specs.Partition.{Log, joined, batches_given}
+use Rattle.kb_client_spec.specs.Partition.{Log, batch_bytes, batches_given}
 
 -- 1. What it asks
 
@@ -61,8 +61,8 @@ partition_reply index code end start records = record {
 }
 
 -- it is refused: the watermarks and the start are -1, and there are no records
-abbrev pub refused : ℤ → ℤ → FetchPartitionReplyV5
-refused index code = partition_reply index code (negsuc 0) (negsuc 0) []
+abbrev pub refused_partition : ℤ → ℤ → FetchPartitionReplyV5
+refused_partition index code = partition_reply index code (negsuc 0) (negsuc 0) []
 
 -- it gives records
 abbrev pub accepted : ℤ → Log → List ℕ → FetchPartitionReplyV5
@@ -70,21 +70,21 @@ accepted index l records = partition_reply index (pos 0) l.end l.start records
 
 -- how many batches are given behind the first: with it they have at most 1,048,588 bytes, or there is none
 abbrev pub fitting : ℕ → ℤ → List (List ℕ) → ℕ
-fitting n offset batches = if nat_lt 1048588 (length (joined (batches_given n offset batches))) then 0 else n
+fitting n offset batches = if nat_lt 1048588 (length (batch_bytes (batches_given n offset batches))) then 0 else n
 
 -- the records: one batch and n more, if there is room for them
 abbrev pub records_given : ℕ → ℤ → List (List ℕ) → List ℕ
-records_given n offset batches = joined (batches_given (fitting n offset batches) offset batches)
+records_given n offset batches = batch_bytes (batches_given (fitting n offset batches) offset batches)
 
 -- an offset below the start, or above the end
 abbrev pub is_out_of_range : Log → ℤ → Bool
 is_out_of_range l offset = int_lt offset l.start || int_lt l.end offset
 
 -- Where there is no such partition it is refused with error 3, and where the offset is out of range with error 1.
-abbrev pub answer : ℕ → Fetch → Option Log → FetchPartitionReplyV5
-answer n f None = refused f.index (code_of UnknownTopicOrPartition)
-answer n f (Some l) =
-    if is_out_of_range l f.offset then refused f.index (code_of OffsetOutOfRange)
+abbrev pub partition_answer : ℕ → Fetch → Option Log → FetchPartitionReplyV5
+partition_answer n f None = refused_partition f.index (code_of UnknownTopicOrPartition)
+partition_answer n f (Some l) =
+    if is_out_of_range l f.offset then refused_partition f.index (code_of OffsetOutOfRange)
     else accepted f.index l (records_given n f.offset l.batches)
 
 -- the reply that has the answer of its partition

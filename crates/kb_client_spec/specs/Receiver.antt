@@ -67,23 +67,23 @@ pub data Asked : Type 0 where
   -- something else
   Malformed : Asked
 
-abbrev pub if_read : {A : Type 0} → Result A WireFault → (A → Asked) → Asked
-if_read (Ok v) f = f v
-if_read (Err fault) f = Malformed
+abbrev pub asked_or_malformed : {A : Type 0} → Result A WireFault → (A → Asked) → Asked
+asked_or_malformed (Ok v) f = f v
+asked_or_malformed (Err fault) f = Malformed
 
 -- a body, by its key and version
 abbrev pub asked_by : ℤ → ℤ → List ℕ → Asked
 asked_by key version body =
     if int_eq key SASL_HANDSHAKE && int_eq version (pos 1)
-    then if_read (whole sasl_handshake_request body) (λ v. Handshake v.mechanism)
+    then asked_or_malformed (whole sasl_handshake_request body) (λ v. Handshake v.mechanism)
     else if int_eq key SASL_AUTHENTICATE && int_eq version (pos 0)
-    then if_read (whole sasl_authenticate_request body) (λ v. Authenticate v.auth_bytes)
+    then asked_or_malformed (whole sasl_authenticate_request body) (λ v. Authenticate v.auth_bytes)
     else if int_eq key CREATE_TOPICS && int_eq version (pos 0)
-    then if_read (whole create_topics_request body) (λ v. Create v.topics)
+    then asked_or_malformed (whole create_topics_request body) (λ v. Create v.topics)
     else if int_eq key INIT_PRODUCER_ID && int_eq version (pos 0)
-    then if_read (whole init_producer_id_request body) (λ v. Identify)
+    then asked_or_malformed (whole init_producer_id_request body) (λ v. Identify)
     else if int_eq key PRODUCE && int_eq version (pos 3)
-    then if_read (whole produce_request body) (λ v. Produce v.topics)
+    then asked_or_malformed (whole produce_request body) (λ v. Produce v.topics)
     else Malformed
 
 -- a request: its correlation id, and what it asks
@@ -102,18 +102,18 @@ request frame = request_of (request_header.read frame)
 -- 3. What a request comes to
 
 -- what it has then, and the body of its reply, if there is one
-pub record Outcome : Type 0 where
+pub record ReceiverOutcome : Type 0 where
   pub receiver : Receiver
   pub reply : Option (List ℕ)
 
-abbrev pub replies : List ℕ → Receiver → Outcome
+abbrev pub replies : List ℕ → Receiver → ReceiverOutcome
 replies body r = record { receiver = r; reply = Some body }
 
-abbrev pub shuts : Receiver → Outcome
+abbrev pub shuts : Receiver → ReceiverOutcome
 shuts r = record { receiver = record r { login = Shut }; reply = None }
 
 -- what a connection is answered that is logged in: any other is shut
-abbrev pub logged_in_only : Login → Outcome → Receiver → Outcome
+abbrev pub logged_in_only : Login → ReceiverOutcome → Receiver → ReceiverOutcome
 logged_in_only LoggedIn outcome r = outcome
 logged_in_only Greets outcome r = shuts r
 logged_in_only Shaken outcome r = shuts r
@@ -139,23 +139,23 @@ unfoldable pub knows : List PlainLogin → List ℕ → Bool
 knows users message = knows_login users (plain message)
 
 -- the mechanism PLAIN alone is accepted
-abbrev pub shakes : Bool → Receiver → Outcome
+abbrev pub shakes : Bool → Receiver → ReceiverOutcome
 shakes true r = replies (handshake_reply (pos 0)) (record r { login = Shaken })
 shakes false r = replies (handshake_reply (code_of UnsupportedSaslMechanism)) r
 
 -- a login does not belong where one was made
-abbrev pub shaken : Login → List ℕ → Receiver → Outcome
+abbrev pub shaken : Login → List ℕ → Receiver → ReceiverOutcome
 shaken Greets mechanism r = shakes (bytes_eq mechanism (codes "PLAIN")) r
 shaken Shaken mechanism r = shakes (bytes_eq mechanism (codes "PLAIN")) r
 shaken LoggedIn mechanism r = replies (handshake_reply (code_of IllegalSaslState)) r
 shaken Shut mechanism r = shuts r
 
 -- after a wrong user or password the connection is shut
-abbrev pub logs_in : Bool → Receiver → Outcome
+abbrev pub logs_in : Bool → Receiver → ReceiverOutcome
 logs_in true r = replies (authenticate_reply (pos 0)) (record r { login = LoggedIn })
 logs_in false r = replies (authenticate_reply (code_of SaslAuthenticationFailed)) (record r { login = Shut })
 
-abbrev pub authenticated : Login → List ℕ → Receiver → Outcome
+abbrev pub authenticated : Login → List ℕ → Receiver → ReceiverOutcome
 authenticated Greets message r = replies (authenticate_reply (code_of IllegalSaslState)) r
 authenticated Shaken message r = logs_in (knows r.users message) r
 authenticated LoggedIn message r = replies (authenticate_reply (code_of IllegalSaslState)) r
@@ -167,7 +167,7 @@ abbrev pub create_reply : ℤ → List CreateTopic → List ℕ
 create_reply code topics = create_topics_reply.written (record { topics = map (λ t. record { name = t.name; error_code = code }) topics })
 
 -- a topic that is there is not made again
-abbrev pub creates : List CreateTopic → Receiver → Outcome
+abbrev pub creates : List CreateTopic → Receiver → ReceiverOutcome
 creates topics r =
     replies (create_reply (if r.created then code_of TopicAlreadyExists else pos 0) topics) (record r { created = true })
 
@@ -176,23 +176,23 @@ identify_reply id =
     init_producer_id_reply.written (record { throttle_time_ms = pos 0; error_code = pos 0; producer_id = id; producer_epoch = pos 0 })
 
 -- each time another id
-abbrev pub identifies : Receiver → Outcome
+abbrev pub identifies : Receiver → ReceiverOutcome
 identifies r = replies (identify_reply (pos r.next_id)) (record r { next_id = suc r.next_id })
 
 -- ---- the values
 
 -- the one batch of a Produce request, and its place
-pub record Part : Type 0 where
+pub record ProducedBatch : Type 0 where
   pub topic : List ℕ
   pub index : ℤ
   pub batch : List ℕ
 
-abbrev pub part_in : List ℕ → List ProducePartition → Option Part
+abbrev pub part_in : List ℕ → List ProducePartition → Option ProducedBatch
 part_in topic [] = None
 part_in topic (p ∷ []) = option_map (λ batch. record { topic = topic; index = p.index; batch = batch }) p.records
 part_in topic (p ∷ q ∷ ps) = None
 
-abbrev pub part_of : List ProduceTopic → Option Part
+abbrev pub part_of : List ProduceTopic → Option ProducedBatch
 part_of [] = None
 part_of (t ∷ []) = part_in t.name t.partitions
 part_of (t ∷ u ∷ ts) = None
@@ -235,7 +235,7 @@ verdict n sequence =
     else if nat_lt 0 n && int_eq sequence (pos ((n - 1) % 2 ^ 31)) then Repeated
     else OutOfOrder
 
-abbrev pub stored_reply : Part → ℤ → ℤ → List ℕ
+abbrev pub stored_reply : ProducedBatch → ℤ → ℤ → List ℕ
 stored_reply part code offset = produce_reply.written (record {
   topics = record {
     name = part.topic;
@@ -250,25 +250,25 @@ stored_reply part code offset = produce_reply.written (record {
 })
 
 -- the next value is stored; a repeat of the last is answered with its offset, and changes nothing; any other is refused
-abbrev pub stores : Verdict → Part → ProducerId → List ℕ → Receiver → Outcome
+abbrev pub stores : Verdict → ProducedBatch → ProducerId → List ℕ → Receiver → ReceiverOutcome
 stores Next part p value r = replies (stored_reply part (pos 0) (pos (length r.stored)))
     (record r { stored = r.stored ++ record { producer = p; value = value } ∷ [] })
 stores Repeated part p value r = replies (stored_reply part (pos 0) (pos (last_by p 0 0 r.stored))) r
 stores OutOfOrder part p value r = replies (stored_reply part (code_of OutOfOrderSequenceNumber) (negsuc 0)) r
 
 -- what is no batch of one value is refused
-abbrev pub stores_batch : Option (List ℕ) → Part → ProducerId → Receiver → Outcome
+abbrev pub stores_batch : Option (List ℕ) → ProducedBatch → ProducerId → Receiver → ReceiverOutcome
 stores_batch None part p r = replies (stored_reply part (code_of InvalidRecord) (negsuc 0)) r
 stores_batch (Some value) part p r = stores (verdict (count_by p r.stored) (base_sequence_of part.batch)) part p value r
 
-abbrev pub stores_part : Option Part → Receiver → Outcome
+abbrev pub stores_part : Option ProducedBatch → Receiver → ReceiverOutcome
 stores_part None r = shuts r
 stores_part (Some part) r = stores_batch (value_of part.batch) part (producer_of part.batch) r
 
 -- ---- the whole
 
 -- what a request comes to
-abbrev pub outcome : Asked → Receiver → Outcome
+abbrev pub outcome : Asked → Receiver → ReceiverOutcome
 outcome (Handshake mechanism) r = shaken r.login mechanism r
 outcome (Authenticate message) r = authenticated r.login message r
 outcome (Create topics) r = logged_in_only r.login (creates topics r) r

@@ -9,8 +9,8 @@ use Rattle.kb_api_group.specs.declared.plain.PlainLogin.{PlainLogin}
 use Rattle.kb_client.specs.declared.fault.ClientFault.{ClientFault}
 use Rattle.kb_client.specs.declared.fault.ClientFault.TheVariants as faults
 use Rattle.kb_client.specs.Sent.{Line, Target, HasShortTexts}
-use Rattle.kb_client.specs.Producer.{Producer, fresh, connected, is_idle, TakesLine, Inputs, OutputsText}
-use Rattle.kb_client_spec.specs.Receiver.{Receiver, Greets, Shut, Outcome, request, outcome}
+use Rattle.kb_client.specs.Producer.{Producer, new_producer, connected, is_idle, TakesLine, Inputs, OutputsText}
+use Rattle.kb_client_spec.specs.Receiver.{Receiver, Greets, Shut, ReceiverOutcome, request, outcome}
 
 -- 1. The world
 
@@ -66,7 +66,7 @@ reply_text id (Some body) = blob.written (int32.written id ++ body)
 abbrev pub arrived : ℕ → Receiver → List ℕ → Receiver
 arrived n r bytes = record r { unread = r.unread ++ take n bytes }
 
-abbrev pub with_outcome : ℤ → Outcome → Delivery → Delivery
+abbrev pub with_outcome : ℤ → ReceiverOutcome → Delivery → Delivery
 with_outcome id o w = record w { receiver = o.receiver; answers = w.answers ++ reply_text id o.reply }
 
 -- a bad size shuts the connection
@@ -107,9 +107,9 @@ pub record IsTyped (target : Target) (create : Option ℤ) : Type 0 where
   pub partitions : (n : ℤ) → create ≡ Some n → FitsSigned w32 n
 
 -- nothing was handed in, and nothing is stored
-abbrev pub begun : Target → Option ℤ → List PlainLogin → Bool → ℕ → Delivery
-begun target create users created next_id = record {
-  core = fresh target create;
+abbrev pub new_delivery : Target → Option ℤ → List PlainLogin → Bool → ℕ → Delivery
+new_delivery target create users created next_id = record {
+  core = new_producer target create;
   handed = [];
   requests = [];
   answers = [];
@@ -139,20 +139,20 @@ IsTaken line (Err (faults.Code code)) = ⊥
 IsTaken line (Err faults.Protocol) = ⊥
 
 -- any other call is refused for want of memory alone
-abbrev pub IsDone : {A : Type 0} → Result A ClientFault → Type 0
-IsDone (Ok a) = Unit {0}
-IsDone (Err faults.Memory) = Unit {0}
-IsDone (Err faults.LineTooLong) = ⊥
-IsDone (Err faults.Denied) = ⊥
-IsDone (Err (faults.Code code)) = ⊥
-IsDone (Err faults.Protocol) = ⊥
+abbrev pub OnlyMemoryFails : {A : Type 0} → Result A ClientFault → Type 0
+OnlyMemoryFails (Ok a) = Unit {0}
+OnlyMemoryFails (Err faults.Memory) = Unit {0}
+OnlyMemoryFails (Err faults.LineTooLong) = ⊥
+OnlyMemoryFails (Err faults.Denied) = ⊥
+OnlyMemoryFails (Err (faults.Code code)) = ⊥
+OnlyMemoryFails (Err faults.Protocol) = ⊥
 
 -- no call answers a fault that stands
 abbrev pub HasNoFault : List Event → Type 0
 HasNoFault [] = Unit {0}
 HasNoFault (Hands line result ∷ es) = IsTaken line result × HasNoFault es
-HasNoFault (Sends result ∷ es) = IsDone result × HasNoFault es
+HasNoFault (Sends result ∷ es) = OnlyMemoryFails result × HasNoFault es
 HasNoFault (Arrives n ∷ es) = HasNoFault es
 HasNoFault (Serves ∷ es) = HasNoFault es
-HasNoFault (Returns n result ∷ es) = IsDone result × HasNoFault es
+HasNoFault (Returns n result ∷ es) = OnlyMemoryFails result × HasNoFault es
 HasNoFault (Reconnects ∷ es) = HasNoFault es

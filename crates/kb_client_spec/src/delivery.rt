@@ -9,14 +9,14 @@ ghost use Rattle.kb_client_spec.specs.Partition.{IsLog, end_of_log};
 ghost use Rattle.kb_client_spec.specs.Consuming.{IsGiven};
 ghost use Rattle.kb_client_spec.specs.Consuming as consuming;
 ghost use Rattle.std.specs.Int.{w64};
-ghost use Rattle.kb_client_spec.specs.Sending.{Delivery, Event, Runs, IsTyped, IsDelivered, HasNoFault, begun};
+ghost use Rattle.kb_client_spec.specs.Sending.{Delivery, Event, Runs, IsTyped, IsDelivered, HasNoFault, new_delivery};
 
 /// Whatever happens on the network, the receiver stores the lines that were handed in, in order and each once: at any moment the
 /// first of them, and at most one more than are acknowledged. Where the producer has nothing left to do, all are stored.
 pub fn lines_are_stored_once()
     ensures { (target : Target) (create : Option ℤ) (users : List PlainLogin) (created : Bool) (next_id : ℕ) (es : List Event)
         (last : Delivery)
-        → IsTyped target create → Runs es (begun target create users created next_id) last → IsDelivered last }
+        → IsTyped target create → Runs es (new_delivery target create users created next_id) last → IsDelivered last }
 {}
 
 /// Where the receiver knows the user with its password, no call answers a fault that stands, whatever happens on the network. A line
@@ -24,7 +24,8 @@ pub fn lines_are_stored_once()
 pub fn no_fault_with_the_right_login()
     ensures { (target : Target) (create : Option ℤ) (users : List PlainLogin) (created : Bool) (next_id : ℕ) (es : List Event)
         (last : Delivery)
-        → IsTyped target create → knows users (plain_message target) ≡ true → Runs es (begun target create users created next_id) last
+        → IsTyped target create → knows users (plain_message target) ≡ true
+        → Runs es (new_delivery target create users created next_id) last
         → HasNoFault es }
 {}
 
@@ -35,7 +36,7 @@ pub fn lines_are_given_once()
     ensures { (target : Target) (offset : ℤ) (wanted : Option ℕ) (follow : Bool) (users : List PlainLogin) (there : Bool)
         (origin : ℤ) (start : ℤ) (batches : List (List ℕ)) (es : List consuming.Event) (last : consuming.Reading)
         → consuming.IsTyped target → FitsSigned w64 offset → IsLog origin batches
-        → consuming.Runs es (consuming.begun target offset wanted follow users there origin start batches) last
+        → consuming.Runs es (consuming.new_reading target offset wanted follow users there origin start batches) last
         → IsGiven offset wanted follow last }
 {}
 
@@ -47,6 +48,6 @@ pub fn no_fault_within_the_partition()
         (batches : List (List ℕ)) (es : List consuming.Event) (last : consuming.Reading)
         → consuming.IsTyped target → FitsSigned w64 offset → IsLog origin batches → start ≤ℤ offset
         → offset ≤ℤ end_of_log origin batches → knows users (plain_message target) ≡ true → consuming.AreCalm es
-        → consuming.Runs es (consuming.begun target offset wanted follow users true origin start batches) last
+        → consuming.Runs es (consuming.new_reading target offset wanted follow users true origin start batches) last
         → fault_at last.core.stage ≡ None }
 {}

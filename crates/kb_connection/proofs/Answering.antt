@@ -25,7 +25,7 @@ use Rattle.kb_isolation_spec.proofs.Owners.{stage-replied, stage-shut}
 use Rattle.kb_isolation_spec.proofs.RequestLimits.{limit-replied}
 use Rattle.kb_isolation_spec.proofs.Turns.{free-replied, free-without}
 use Rattle.kb_connection.specs.Fronts.{IsAsked, asked_at, head_at, is_tenants_at}
-use Rattle.kb_connection.specs.TenantAnswers.{answered, answered_again, body_of, given, given_reply, is_quiet, parked}
+use Rattle.kb_connection.specs.TenantAnswers.{with_answer, answered_again, body_of, with_final_answer, given_reply, is_quiet, parked}
 use Rattle.kb_connection.specs.View.{with_session, without_front}
 use Rattle.kb_connection.specs.declared.stage.FetchWait.{FetchWait}
 use Rattle.kb_connection.proofs.Fronts.{fewer-behind, head_asked}
@@ -98,7 +98,7 @@ stage_reply head reply s = by head.is_throttled
 abbrev pub IsNoWait : Answer → Type 0
 IsNoWait answer = (deadline : ℕ) (limit : Option ℕ) (keys : Vec TopicPartition Global) → answer ≡ answers.Wait deadline limit keys → ⊥
 
-answer_is : (head : Head) (version : ℤ) (body : List ℕ) (reaction : Reaction) (answer : Answer) (s : Session) → IsNoWait answer → IsAnswer head.correlation_id reaction answer → given head answer s ≡ plainly reaction head version body s
+answer_is : (head : Head) (version : ℤ) (body : List ℕ) (reaction : Reaction) (answer : Answer) (s : Session) → IsNoWait answer → IsAnswer head.correlation_id reaction answer → with_final_answer head answer s ≡ plainly reaction head version body s
 answer_is head version body (Replies reply) (answers.Reply r) s no_wait h = reply_is head reply r s h
 answer_is head version body (Replies reply) (answers.Wait d x k) s no_wait h = absurd h
 answer_is head version body (Replies reply) answers.NoReply s no_wait h = absurd h
@@ -116,17 +116,17 @@ answer_is head version body Shuts (answers.Wait d x k) s no_wait h = absurd h
 answer_is head version body Shuts answers.NoReply s no_wait h = absurd h
 answer_is head version body Shuts answers.Shut s no_wait h = refl
 
-served_is : (head : Head) (version : ℤ) (body : List ℕ) (reaction : service.Reaction) (answer : Answer) (s : Session) → IsNoWait answer → service.IsAnswer head.correlation_id reaction (any.Plain answer) → given head answer s ≡ after_reaction reaction head version body s
+served_is : (head : Head) (version : ℤ) (body : List ℕ) (reaction : service.Reaction) (answer : Answer) (s : Session) → IsNoWait answer → service.IsAnswer head.correlation_id reaction (any.Plain answer) → with_final_answer head answer s ≡ after_reaction reaction head version body s
 served_is head version body (Plain reaction) answer s no_wait h = answer_is head version body reaction answer s no_wait h
 served_is head version body Rebalances answer s no_wait h = absurd h
 
 pub gives : {E : Type 0} (setup : Setup) (result : Result (Unit {0}) E) (l m new : Line) (key version : ℤ) (head first : Head) (body : List ℕ) (reaction : service.Reaction) (all : AnyAnswer) (answer : Answer) → all ≡ any.Plain answer → IsNoWait answer → m ≡ with_session l (without_front l.session)
     → ((versions : List ApiVersion) → first ≡ head_at versions (in_front l.session))
-    → OnOk result (new ≡ with_session m (given first answer m.session)) → IsAsked setup l.session key version head body → service.IsAnswer head.correlation_id reaction all
+    → OnOk result (new ≡ with_session m (with_final_answer first answer m.session)) → IsAsked setup l.session key version head body → service.IsAnswer head.correlation_id reaction all
     → OnOk result (new ≡ with_session l (after_reaction reaction head version body (without_front l.session)))
 gives setup (Ok u) l m new key version head first body reaction all answer is no_wait left stands done asks h =
-    done ∙ ap (λ (x : Line). with_session x (given first answer x.session)) left
-    ∙ ap (λ (x : Head). with_session l (given x answer (without_front l.session))) (stands setup.versions ∙ head_asked setup l.session key version head body asks)
+    done ∙ ap (λ (x : Line). with_session x (with_final_answer first answer x.session)) left
+    ∙ ap (λ (x : Head). with_session l (with_final_answer x answer (without_front l.session))) (stands setup.versions ∙ head_asked setup l.session key version head body asks)
     ∙ ap (with_session l) (served_is head version body reaction answer (without_front l.session) no_wait (subst (service.IsAnswer head.correlation_id reaction) is h))
 gives setup (Err fault) l m new key version head first body reaction all answer is no_wait left stands done asks h = tt
 
@@ -144,19 +144,19 @@ pub less_parked : {E : Type 0} (versions : List ApiVersion) (result : Result (Un
 less_parked versions (Ok u) l new fetch asked ok err asks = less versions l new asks (omega (arith, ap (λ (x : Line). length x.session.unread) ok, ap length (unread_parked fetch asked (without_front l.session))))
 less_parked versions (Err fault) l new fetch asked ok err asks = less versions l new asks (omega (arith, ap (λ (x : Line). length x.session.unread) err))
 
-pub unread_given : (head : Head) (answer : Answer) (s : Session) → length (given head answer s).unread ≤ length s.unread
+pub unread_given : (head : Head) (answer : Answer) (s : Session) → length (with_final_answer head answer s).unread ≤ length s.unread
 unread_given head (answers.Reply reply) s = unread_reply head reply.items s
 unread_given head (answers.Wait deadline limit keys) s = omega arith
 unread_given head answers.NoReply s = omega arith
 unread_given head answers.Shut s = omega arith
 
-pub stage_given : (head : Head) (answer : Answer) (s : Session) → without_wait (given head answer s).stage ≡ without_wait s.stage
+pub stage_given : (head : Head) (answer : Answer) (s : Session) → without_wait (with_final_answer head answer s).stage ≡ without_wait s.stage
 stage_given head (answers.Reply reply) s = stage_reply head reply.items s
 stage_given head (answers.Wait deadline limit keys) s = refl
 stage_given head answers.NoReply s = refl
 stage_given head answers.Shut s = stage-shut s
 
-pub less_given : {E : Type 0} (versions : List ApiVersion) (result : Result (Unit {0}) E) (l m new : Line) (head : Head) (answer : Answer) → m ≡ with_session l (without_front l.session) → OnOk result (new ≡ with_session m (given head answer m.session))
+pub less_given : {E : Type 0} (versions : List ApiVersion) (result : Result (Unit {0}) E) (l m new : Line) (head : Head) (answer : Answer) → m ≡ with_session l (without_front l.session) → OnOk result (new ≡ with_session m (with_final_answer head answer m.session))
     → OnErr result (new ≡ with_session m (shut_down causes.Memory m.session)) → is_tenants_at versions (in_front l.session) ≡ true → length new.session.unread < length l.session.unread
 less_given versions (Ok u) l m new head answer left ok err asks =
     less versions l new asks (omega (arith, ap (λ (x : Line). length x.session.unread) ok, unread_given head answer m.session, ap (λ (x : Line). length x.session.unread) left))
@@ -164,13 +164,13 @@ less_given versions (Err fault) l m new head answer left ok err asks = less vers
 
 -- 4. What is no wait leaves it waiting for nothing
 
-free_after : (head : Head) (answer : Answer) (s : Session) → is_free s.stage ≡ true → is_free (given head answer s).stage ≡ true
+free_after : (head : Head) (answer : Answer) (s : Session) → is_free s.stage ≡ true → is_free (with_final_answer head answer s).stage ≡ true
 free_after head (answers.Reply reply) s free = free_reply head reply.items s free
 free_after head (answers.Wait deadline limit keys) s free = free
 free_after head answers.NoReply s free = free
 free_after head answers.Shut s free = free-without s.stage
 
-pub free_given : {E : Type 0} (result : Result (Unit {0}) E) (l m new : Line) (head : Head) (answer : Answer) → m ≡ with_session l (without_front l.session) → OnOk result (new ≡ with_session m (given head answer m.session))
+pub free_given : {E : Type 0} (result : Result (Unit {0}) E) (l m new : Line) (head : Head) (answer : Answer) → m ≡ with_session l (without_front l.session) → OnOk result (new ≡ with_session m (with_final_answer head answer m.session))
     → OnErr result (new ≡ with_session m (shut_down causes.Memory m.session)) → is_free l.session.stage ≡ true → is_free new.session.stage ≡ true
 free_given (Ok u) l m new head answer left ok err free = ap (λ (x : Line). is_free x.session.stage) ok ∙ free_after head answer m.session (ap (λ (x : Line). is_free x.session.stage) left ∙ free)
 free_given (Err fault) l m new head answer left ok err free = ap (λ (x : Line). is_free x.session.stage) err ∙ free-without m.session.stage
@@ -178,7 +178,7 @@ free_given (Err fault) l m new head answer left ok err free = ap (λ (x : Line).
 -- 5. To a request that waits
 
 -- a reply ends the wait
-ended_is : (head : Head) (reaction : Reaction) (reply : Vec ℕ Global) (s : Session) → IsAnswer head.correlation_id reaction (answers.Reply reply) → given head (answers.Reply reply) (record s { stage = without_wait s.stage }) ≡ told reaction head s
+ended_is : (head : Head) (reaction : Reaction) (reply : Vec ℕ Global) (s : Session) → IsAnswer head.correlation_id reaction (answers.Reply reply) → with_final_answer head (answers.Reply reply) (record s { stage = without_wait s.stage }) ≡ told reaction head s
 ended_is head (Replies body) reply s h = reply_is head body reply (record s { stage = without_wait s.stage }) h
 ended_is head (Waits until limit places) reply s h = absurd h
 ended_is head Silent reply s h = absurd h
@@ -186,10 +186,10 @@ ended_is head Shuts reply s h = absurd h
 
 pub ends : {E : Type 0} (result : Result (Unit {0}) E) (l m new : Line) (tenant : ℕ) (wait : Wait) (head : Head) (reaction : Reaction) (answer : Answer) (reply : Vec ℕ Global) → answer ≡ answers.Reply reply → m ≡ with_session l (record l.session { stage = without_wait l.session.stage })
     → ((t : ℕ) (w : Wait) → l.session.stage ≡ BoundTo t (Some w) → head ≡ w.head)
-    → OnOk result (new ≡ with_session m (given head answer m.session)) → l.session.stage ≡ BoundTo tenant (Some wait) → IsAnswer wait.head.correlation_id reaction answer → OnOk result (new ≡ with_session l (told reaction wait.head l.session))
+    → OnOk result (new ≡ with_session m (with_final_answer head answer m.session)) → l.session.stage ≡ BoundTo tenant (Some wait) → IsAnswer wait.head.correlation_id reaction answer → OnOk result (new ≡ with_session l (told reaction wait.head l.session))
 ends (Ok u) l m new tenant wait head reaction answer reply is left awaits done waits h =
-    done ∙ ap (λ (x : Line). with_session x (given head answer x.session)) left ∙ ap (λ a. with_session l (given head a (record l.session { stage = without_wait l.session.stage }))) is
-    ∙ ap (λ (x : Head). with_session l (given x (answers.Reply reply) (record l.session { stage = without_wait l.session.stage }))) (awaits tenant wait waits)
+    done ∙ ap (λ (x : Line). with_session x (with_final_answer head answer x.session)) left ∙ ap (λ a. with_session l (with_final_answer head a (record l.session { stage = without_wait l.session.stage }))) is
+    ∙ ap (λ (x : Head). with_session l (with_final_answer x (answers.Reply reply) (record l.session { stage = without_wait l.session.stage }))) (awaits tenant wait waits)
     ∙ ap (with_session l) (ended_is wait.head reaction reply l.session (subst (IsAnswer wait.head.correlation_id reaction) is h))
 ends (Err fault) l m new tenant wait head reaction answer reply is left awaits done waits h = tt
 
@@ -197,7 +197,7 @@ ends (Err fault) l m new tenant wait head reaction answer reply is left awaits d
 abbrev pub IsNoReply : Answer → Type 0
 IsNoReply answer = (reply : Vec ℕ Global) → answer ≡ answers.Reply reply → ⊥
 
-told_is : (head : Head) (reaction : Reaction) (answer : Answer) (s : Session) → IsNoReply answer → IsAnswer head.correlation_id reaction answer → given head answer s ≡ told reaction head s
+told_is : (head : Head) (reaction : Reaction) (answer : Answer) (s : Session) → IsNoReply answer → IsAnswer head.correlation_id reaction answer → with_final_answer head answer s ≡ told reaction head s
 told_is head reaction (answers.Reply r) s no_reply h = absurd (no_reply r refl)
 told_is head (Replies reply) (answers.Wait d x k) s no_reply h = absurd h
 told_is head (Replies reply) answers.NoReply s no_reply h = absurd h
@@ -214,10 +214,10 @@ told_is head Shuts answers.Shut s no_reply h = refl
 
 pub tells : {E : Type 0} (result : Result (Unit {0}) E) (l m new : Line) (tenant : ℕ) (wait : Wait) (head : Head) (reaction : Reaction) (answer : Answer) → IsNoReply answer → m ≡ l
     → ((t : ℕ) (w : Wait) → l.session.stage ≡ BoundTo t (Some w) → head ≡ w.head)
-    → OnOk result (new ≡ with_session m (given head answer m.session)) → l.session.stage ≡ BoundTo tenant (Some wait) → IsAnswer wait.head.correlation_id reaction answer → OnOk result (new ≡ with_session l (told reaction wait.head l.session))
+    → OnOk result (new ≡ with_session m (with_final_answer head answer m.session)) → l.session.stage ≡ BoundTo tenant (Some wait) → IsAnswer wait.head.correlation_id reaction answer → OnOk result (new ≡ with_session l (told reaction wait.head l.session))
 tells (Ok u) l m new tenant wait head reaction answer no_reply left awaits done waits h =
-    done ∙ ap (λ (x : Line). with_session x (given head answer x.session)) left
-    ∙ ap (λ (x : Head). with_session l (given x answer l.session)) (awaits tenant wait waits)
+    done ∙ ap (λ (x : Line). with_session x (with_final_answer head answer x.session)) left
+    ∙ ap (λ (x : Head). with_session l (with_final_answer x answer l.session)) (awaits tenant wait waits)
     ∙ ap (with_session l) (told_is wait.head reaction answer l.session no_reply h)
 tells (Err fault) l m new tenant wait head reaction answer no_reply left awaits done waits h = tt
 
@@ -225,26 +225,26 @@ tells (Err fault) l m new tenant wait head reaction answer no_reply left awaits 
 
 -- to a request that stands in front, but for a wait
 abbrev PutsOut : {E : Type 0} → Head → Result (Unit {0}) E → Line → Line → ℤ → List ℕ → AnyAnswer → Type 0
-PutsOut head result l new version body answer = OnOk result (new ≡ with_session l (answered head version body answer (without_front l.session)))
+PutsOut head result l new version body answer = OnOk result (new ≡ with_session l (with_answer head version body answer (without_front l.session)))
 
-given_answered : (head : Head) (version : ℤ) (body : List ℕ) (answer : Answer) (s : Session) → IsNoWait answer → given head answer s ≡ answered head version body (any.Plain answer) s
+given_answered : (head : Head) (version : ℤ) (body : List ℕ) (answer : Answer) (s : Session) → IsNoWait answer → with_final_answer head answer s ≡ with_answer head version body (any.Plain answer) s
 given_answered head version body (answers.Reply reply) s no_wait = refl
 given_answered head version body (answers.Wait deadline limit keys) s no_wait = absurd (no_wait deadline limit keys refl)
 given_answered head version body answers.NoReply s no_wait = refl
 given_answered head version body answers.Shut s no_wait = refl
 
 puts : {E : Type 0} (result : Result (Unit {0}) E) (l m new : Line) (head : Head) (version : ℤ) (body : List ℕ) (answer : Answer) → IsNoWait answer → m ≡ with_session l (without_front l.session)
-    → OnOk result (new ≡ with_session m (given head answer m.session)) → PutsOut head result l new version body (any.Plain answer)
+    → OnOk result (new ≡ with_session m (with_final_answer head answer m.session)) → PutsOut head result l new version body (any.Plain answer)
 puts (Ok u) l m new head version body answer no_wait left done =
-    done ∙ ap (λ (x : Line). with_session x (given head answer x.session)) left
+    done ∙ ap (λ (x : Line). with_session x (with_final_answer head answer x.session)) left
     ∙ ap (with_session l) (given_answered head version body answer (without_front l.session) no_wait)
 puts (Err fault) l m new head version body answer no_wait left done = tt
 
 pub puts_given : {E : Type 0} (setup : Setup) (result : Result (Unit {0}) E) (l m new : Line) (key version : ℤ) (head first : Head) (body : List ℕ) (all : AnyAnswer) (answer : Answer)
     → all ≡ any.Plain answer → IsNoWait answer → m ≡ with_session l (without_front l.session)
     → ((versions : List ApiVersion) → first ≡ head_at versions (in_front l.session))
-    → OnOk result (new ≡ with_session m (given first answer m.session)) → IsAsked setup l.session key version head body
-    → OnOk result (new ≡ with_session l (answered head version body all (without_front l.session)))
+    → OnOk result (new ≡ with_session m (with_final_answer first answer m.session)) → IsAsked setup l.session key version head body
+    → OnOk result (new ≡ with_session l (with_answer head version body all (without_front l.session)))
 puts_given setup result l m new key version head first body all answer is no_wait left stands done asks =
     subst (λ (x : Head). PutsOut x result l new version body all) (stands setup.versions ∙ head_asked setup l.session key version head body asks)
     (subst (PutsOut first result l new version body) (sym is) (puts result l m new first version body answer no_wait left done))
@@ -259,37 +259,37 @@ parked_asked (Err fault) l new fetch asked key version head body is done = tt
 pub puts_records : {E : Type 0} (setup : Setup) (result : Result (Unit {0}) E) (l new : Line) (key version : ℤ) (head : Head) (body : List ℕ) (deadline : ℕ) (limit : Option ℕ) (keys : Vec TopicPartition Global) (all : AnyAnswer)
     → all ≡ any.Plain (answers.Wait deadline limit keys)
     → OnOk result (new ≡ with_session l (parked (Some (record { deadline = deadline; limit = limit })) (asked_at setup.versions (in_front l.session)) (without_front l.session)))
-    → IsAsked setup l.session key version head body → OnOk result (new ≡ with_session l (answered head version body all (without_front l.session)))
+    → IsAsked setup l.session key version head body → OnOk result (new ≡ with_session l (with_answer head version body all (without_front l.session)))
 puts_records setup result l new key version head body deadline limit keys all is done asks =
     subst (PutsOut head result l new version body) (sym is)
     (parked_asked result l new (Some (record { deadline = deadline; limit = limit })) (asked_at setup.versions (in_front l.session)) key version head body asks.asked done)
 
 pub puts_group : {E : Type 0} (setup : Setup) (result : Result (Unit {0}) E) (l new : Line) (key version : ℤ) (head : Head) (body : List ℕ) (all : AnyAnswer) → all ≡ any.Rebalance
     → OnOk result (new ≡ with_session l (parked None (asked_at setup.versions (in_front l.session)) (without_front l.session)))
-    → IsAsked setup l.session key version head body → OnOk result (new ≡ with_session l (answered head version body all (without_front l.session)))
+    → IsAsked setup l.session key version head body → OnOk result (new ≡ with_session l (with_answer head version body all (without_front l.session)))
 puts_group setup result l new key version head body all is done asks =
     subst (PutsOut head result l new version body) (sym is)
     (parked_asked result l new None (asked_at setup.versions (in_front l.session)) key version head body asks.asked done)
 
 -- to a request that waits: a reply, which ends the wait
-again_reply : (head : Head) (answer : Answer) (reply : Vec ℕ Global) (s : Session) → answer ≡ answers.Reply reply → given head answer (record s { stage = without_wait s.stage }) ≡ answered_again head answer s
+again_reply : (head : Head) (answer : Answer) (reply : Vec ℕ Global) (s : Session) → answer ≡ answers.Reply reply → with_final_answer head answer (record s { stage = without_wait s.stage }) ≡ answered_again head answer s
 again_reply head answer reply s is =
-    let Is : Answer → Type 0 = λ a. given head a (record s { stage = without_wait s.stage }) ≡ answered_again head a s in
+    let Is : Answer → Type 0 = λ a. with_final_answer head a (record s { stage = without_wait s.stage }) ≡ answered_again head a s in
     subst Is (sym is) refl
 
 pub puts_ending : {E : Type 0} (result : Result (Unit {0}) E) (l m new : Line) (tenant : ℕ) (wait : Wait) (head : Head) (answer : Answer) (reply : Vec ℕ Global) → answer ≡ answers.Reply reply
     → m ≡ with_session l (record l.session { stage = without_wait l.session.stage })
     → ((t : ℕ) (w : Wait) → l.session.stage ≡ BoundTo t (Some w) → head ≡ w.head)
-    → OnOk result (new ≡ with_session m (given head answer m.session)) → l.session.stage ≡ BoundTo tenant (Some wait)
+    → OnOk result (new ≡ with_session m (with_final_answer head answer m.session)) → l.session.stage ≡ BoundTo tenant (Some wait)
     → OnOk result (new ≡ with_session l (answered_again wait.head answer l.session))
 puts_ending (Ok u) l m new tenant wait head answer reply is left awaits done waits =
-    done ∙ ap (λ (x : Line). with_session x (given head answer x.session)) left
-    ∙ ap (λ (x : Head). with_session l (given x answer (record l.session { stage = without_wait l.session.stage }))) (awaits tenant wait waits)
+    done ∙ ap (λ (x : Line). with_session x (with_final_answer head answer x.session)) left
+    ∙ ap (λ (x : Head). with_session l (with_final_answer x answer (record l.session { stage = without_wait l.session.stage }))) (awaits tenant wait waits)
     ∙ ap (with_session l) (again_reply wait.head answer reply l.session is)
 puts_ending (Err fault) l m new tenant wait head answer reply is left awaits done waits = tt
 
 -- and any other answer
-again_other : (head : Head) (answer : Answer) (s : Session) → IsNoReply answer → given head answer s ≡ answered_again head answer s
+again_other : (head : Head) (answer : Answer) (s : Session) → IsNoReply answer → with_final_answer head answer s ≡ answered_again head answer s
 again_other head (answers.Reply reply) s no_reply = absurd (no_reply reply refl)
 again_other head (answers.Wait deadline limit keys) s no_reply = refl
 again_other head answers.NoReply s no_reply = refl
@@ -297,11 +297,11 @@ again_other head answers.Shut s no_reply = refl
 
 pub puts_told : {E : Type 0} (result : Result (Unit {0}) E) (l m new : Line) (tenant : ℕ) (wait : Wait) (head : Head) (answer : Answer) → IsNoReply answer → m ≡ l
     → ((t : ℕ) (w : Wait) → l.session.stage ≡ BoundTo t (Some w) → head ≡ w.head)
-    → OnOk result (new ≡ with_session m (given head answer m.session)) → l.session.stage ≡ BoundTo tenant (Some wait)
+    → OnOk result (new ≡ with_session m (with_final_answer head answer m.session)) → l.session.stage ≡ BoundTo tenant (Some wait)
     → OnOk result (new ≡ with_session l (answered_again wait.head answer l.session))
 puts_told (Ok u) l m new tenant wait head answer no_reply left awaits done waits =
-    done ∙ ap (λ (x : Line). with_session x (given head answer x.session)) left
-    ∙ ap (λ (x : Head). with_session l (given x answer l.session)) (awaits tenant wait waits)
+    done ∙ ap (λ (x : Line). with_session x (with_final_answer head answer x.session)) left
+    ∙ ap (λ (x : Head). with_session l (with_final_answer x answer l.session)) (awaits tenant wait waits)
     ∙ ap (with_session l) (again_other wait.head answer l.session no_reply)
 puts_told (Err fault) l m new tenant wait head answer no_reply left awaits done waits = tt
 
@@ -309,7 +309,7 @@ puts_told (Err fault) l m new tenant wait head answer no_reply left awaits done 
 
 -- the turn of a request leaves the connection its tenant's
 pub stage_kept : {E : Type 0} (result : Result (Unit {0}) E) (l m new : Line) (head : Head) (answer : Answer)
-    → m ≡ with_session l (without_front l.session) → OnOk result (new ≡ with_session m (given head answer m.session))
+    → m ≡ with_session l (without_front l.session) → OnOk result (new ≡ with_session m (with_final_answer head answer m.session))
     → OnErr result (new ≡ with_session m (shut_down causes.Memory m.session)) → without_wait new.session.stage ≡ without_wait l.session.stage
 stage_kept (Ok u) l m new head answer left ok err =
     ap (λ (x : Line). without_wait x.session.stage) ok ∙ stage_given head answer m.session ∙ ap (λ (x : Line). without_wait x.session.stage) left
@@ -338,23 +338,23 @@ given_rests head reply s rests = by head.is_throttled
 -- a reply, also one that could not be kept, ends the wait
 pub stage_ended : {E : Type 0} (result : Result (Unit {0}) E) (l m new : Line) (head : Head) (answer : Answer) (reply : Vec ℕ Global)
     → answer ≡ answers.Reply reply → m ≡ with_session l (record l.session { stage = without_wait l.session.stage })
-    → OnOk result (new ≡ with_session m (given head answer m.session)) → OnErr result (new ≡ with_session m (shut_down causes.Memory m.session))
+    → OnOk result (new ≡ with_session m (with_final_answer head answer m.session)) → OnErr result (new ≡ with_session m (shut_down causes.Memory m.session))
     → new.session.stage ≡ without_wait l.session.stage
 stage_ended (Ok u) l m new head answer reply is left ok err =
     let rests : without_wait m.session.stage ≡ m.session.stage =
     ap (λ (x : Line). without_wait x.session.stage) left ∙ (wait-less l.session.stage ∙ sym (ap (λ (x : Line). x.session.stage) left)) in
-    ap (λ (x : Line). x.session.stage) ok ∙ (ap (λ a. (given head a m.session).stage) is
+    ap (λ (x : Line). x.session.stage) ok ∙ (ap (λ a. (with_final_answer head a m.session).stage) is
     ∙ (given_rests head reply.items m.session rests ∙ ap (λ (x : Line). x.session.stage) left))
 stage_ended (Err fault) l m new head answer reply is left ok err =
     ap (λ (x : Line). x.session.stage) err ∙ (ap (λ (x : Line). without_wait x.session.stage) left ∙ wait-less l.session.stage)
 
-given_quiet : (head : Head) (answer : Answer) (s : Session) → IsNoReply answer → ((given head answer s).stage ≡ s.stage) ⊎ ((given head answer s).stage ≡ without_wait s.stage)
+given_quiet : (head : Head) (answer : Answer) (s : Session) → IsNoReply answer → ((with_final_answer head answer s).stage ≡ s.stage) ⊎ ((with_final_answer head answer s).stage ≡ without_wait s.stage)
 given_quiet head (answers.Reply reply) s none = absurd (none reply refl)
 given_quiet head (answers.Wait deadline limit keys) s none = inl refl
 given_quiet head answers.NoReply s none = inl refl
 given_quiet head answers.Shut s none = inr refl
 
-given_loud : (head : Head) (answer : Answer) (s : Session) → IsNoReply answer → is_quiet answer ≡ false → (given head answer s).stage ≡ without_wait s.stage
+given_loud : (head : Head) (answer : Answer) (s : Session) → IsNoReply answer → is_quiet answer ≡ false → (with_final_answer head answer s).stage ≡ without_wait s.stage
 given_loud head (answers.Reply reply) s none loud = absurd (none reply refl)
 given_loud head (answers.Wait deadline limit keys) s none loud = cc
 given_loud head answers.NoReply s none loud = cc
@@ -362,16 +362,16 @@ given_loud head answers.Shut s none loud = refl
 
 -- any other answer leaves the wait, or ends it too
 pub stage_told : {E : Type 0} (result : Result (Unit {0}) E) (l m new : Line) (head : Head) (answer : Answer) → IsNoReply answer → m ≡ l
-    → OnOk result (new ≡ with_session m (given head answer m.session)) → OnErr result (new ≡ with_session m (shut_down causes.Memory m.session))
+    → OnOk result (new ≡ with_session m (with_final_answer head answer m.session)) → OnErr result (new ≡ with_session m (shut_down causes.Memory m.session))
     → (new.session.stage ≡ l.session.stage) ⊎ (new.session.stage ≡ without_wait l.session.stage)
 stage_told (Ok u) l m new head answer none left ok err =
     subst (λ (x : Line). (x.session.stage ≡ l.session.stage) ⊎ (x.session.stage ≡ without_wait l.session.stage))
-    (sym (ok ∙ ap (λ (x : Line). with_session x (given head answer x.session)) left)) (given_quiet head answer l.session none)
+    (sym (ok ∙ ap (λ (x : Line). with_session x (with_final_answer head answer x.session)) left)) (given_quiet head answer l.session none)
 stage_told (Err fault) l m new head answer none left ok err =
     inr (ap (λ (x : Line). x.session.stage) err ∙ ap (λ (x : Line). without_wait x.session.stage) left)
 
 pub stage_loud : {E : Type 0} (result : Result (Unit {0}) E) (l m new : Line) (head : Head) (answer : Answer) → IsNoReply answer → m ≡ l
-    → OnOk result (new ≡ with_session m (given head answer m.session)) → OnErr result (new ≡ with_session m (shut_down causes.Memory m.session))
+    → OnOk result (new ≡ with_session m (with_final_answer head answer m.session)) → OnErr result (new ≡ with_session m (shut_down causes.Memory m.session))
     → is_quiet answer ≡ false → new.session.stage ≡ without_wait l.session.stage
 stage_loud (Ok u) l m new head answer none left ok err loud =
     ap (λ (x : Line). x.session.stage) ok ∙ (given_loud head answer m.session none loud ∙ ap (λ (x : Line). without_wait x.session.stage) left)
@@ -380,7 +380,7 @@ stage_loud (Err fault) l m new head answer none left ok err loud =
 
 -- who was woken has no more unread bytes than before
 pub unread_woken : {E : Type 0} (result : Result (Unit {0}) E) (l m new : Line) (head : Head) (answer : Answer) → m.session.unread ≡ l.session.unread
-    → OnOk result (new ≡ with_session m (given head answer m.session)) → OnErr result (new ≡ with_session m (shut_down causes.Memory m.session))
+    → OnOk result (new ≡ with_session m (with_final_answer head answer m.session)) → OnErr result (new ≡ with_session m (shut_down causes.Memory m.session))
     → length new.session.unread ≤ length l.session.unread
 unread_woken (Ok u) l m new head answer left ok err =
     omega (arith, ap (λ (x : Line). length x.session.unread) ok, unread_given head answer m.session, ap length left)
@@ -395,7 +395,7 @@ limit_reply head reply s = by head.is_throttled
     by true = limit-replied head (body_of reply) s
     by false = refl
 
-limit_given : (head : Head) (answer : Answer) (s : Session) → (given head answer s).limit ≡ s.limit
+limit_given : (head : Head) (answer : Answer) (s : Session) → (with_final_answer head answer s).limit ≡ s.limit
 limit_given head (answers.Reply reply) s = limit_reply head reply.items s
 limit_given head (answers.Wait deadline limit keys) s = refl
 limit_given head answers.NoReply s = refl
@@ -407,7 +407,7 @@ limit_parked fetch (Some a) s = refl
 
 -- no answer changes it
 pub same_limit : {E : Type 0} (result : Result (Unit {0}) E) (l m new : Line) (head : Head) (answer : Answer) → m.session.limit ≡ l.session.limit
-    → OnOk result (new ≡ with_session m (given head answer m.session)) → OnErr result (new ≡ with_session m (shut_down causes.Memory m.session))
+    → OnOk result (new ≡ with_session m (with_final_answer head answer m.session)) → OnErr result (new ≡ with_session m (shut_down causes.Memory m.session))
     → new.session.limit ≡ l.session.limit
 same_limit (Ok u) l m new head answer left ok err = ap (λ (x : Line). x.session.limit) ok ∙ (limit_given head answer m.session ∙ left)
 same_limit (Err fault) l m new head answer left ok err = ap (λ (x : Line). x.session.limit) err ∙ left

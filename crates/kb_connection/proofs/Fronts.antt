@@ -10,7 +10,7 @@ use Rattle.kb_isolation_spec.specs.declared.head.Head.{Head}
 use Rattle.kb_isolation_spec.specs.Requests.{Asked, Versions, OtherVersions, Handshake, Authenticate, Another, Malformed, Request, request}
 use Rattle.kb_isolation_spec.specs.Session.{Session, in_front}
 use Rattle.kb_isolation_spec.specs.Greeting.{Setup, for_tenant}
-use Rattle.kb_isolation_spec.specs.Machine.{after_turn, served_at, served_by, put, kept_at, kept_by}
+use Rattle.kb_isolation_spec.specs.Machine.{after_turn, served_at, served_by, kept_by_turn, kept_at, kept_by}
 use Rattle.kb_isolation_spec.proofs.Laws.{front-rest}
 use Rattle.kb_connection.specs.declared.request.Asked.{Asked as Read}
 use Rattle.kb_connection.specs.declared.request.Asked.TheVariants as asked
@@ -35,7 +35,7 @@ kept_own_at setup kept clock n TooSmall h = refl
 kept_own_at setup kept clock n TooLarge h = refl
 
 is_own : (setup : Setup) (s : Session) → is_tenants_at setup.versions (in_front s) ≡ false → IsOwn setup s
-unfolding put
+unfolding kept_by_turn
 is_own setup s h = record { own = h; put = λ tenant kept clock n. kept_own_at (for_tenant setup tenant) kept clock n (in_front s) h }
 
 -- no whole frame stands in front
@@ -100,7 +100,7 @@ head_whole versions bytes TooSmall e = cc
 head_whole versions bytes TooLarge e = cc
 
 is_asked : (setup : Setup) (s : Session) (bytes : List ℕ) (key version : ℤ) (head : Head) (body : List ℕ) → answers.Frame bytes ≡ answer (in_front s) → request setup.versions bytes ≡ record { head = head; asked = Another key version body } → IsAsked setup s key version head body
-unfolding after_turn served_by put
+unfolding after_turn served_by kept_by_turn
 is_asked setup s bytes key version head body e is = record {
   tenants = at_frame setup.versions bytes (Another key version body) (in_front s) e (ap (λ (q : Request). q.asked) is);
   asked = asked_whole setup.versions bytes (in_front s) e ∙ ap (λ (q : Request). asked_under q.head q.asked) is;

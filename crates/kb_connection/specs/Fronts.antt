@@ -7,9 +7,9 @@ use Rattle.kb_isolation_spec.specs.declared.head.Head.{Head}
 use Rattle.kb_isolation_spec.specs.Requests.{Asked, Versions, OtherVersions, Handshake, Authenticate, Another, Malformed, request}
 use Rattle.kb_isolation_spec.specs.Session.{Session, in_front}
 use Rattle.kb_isolation_spec.specs.Versions.{no_head}
-use Rattle.kb_isolation_spec.specs.Tenant.{answer, kept_after}
+use Rattle.kb_isolation_spec.specs.Tenant.{reaction_to, kept_after}
 use Rattle.kb_isolation_spec.specs.Greeting.{Setup, for_tenant, node_of}
-use Rattle.kb_isolation_spec.specs.Machine.{after_reaction, after_turn, put}
+use Rattle.kb_isolation_spec.specs.Machine.{after_reaction, after_turn, kept_by_turn}
 use Rattle.kb_connection.specs.View.{without_front}
 
 abbrev pub is_tenants : Asked → Bool
@@ -52,13 +52,13 @@ head_at versions TooLarge = no_head
 -- no request of the tenant stands in front: what any tenant keeps stays
 pub record IsOwn (setup : Setup) (s : Session) : Type 0 where
   pub own : is_tenants_at setup.versions (in_front s) ≡ false
-  pub put : (tenant : ℕ) (kept : Kept) (clock n : ℕ) → put (for_tenant setup tenant) kept clock n (in_front s) ≡ kept
+  pub put : (tenant : ℕ) (kept : Kept) (clock n : ℕ) → kept_by_turn (for_tenant setup tenant) kept clock n (in_front s) ≡ kept
 
 -- this request of the tenant stands in front, whichever tenant it is
 pub record IsAsked (setup : Setup) (s : Session) (key version : ℤ) (head : Head) (body : List ℕ) : Type 0 where
   pub tenants : is_tenants_at setup.versions (in_front s) ≡ true
   pub asked : asked_at setup.versions (in_front s) ≡ Some (head, key, version, body)
   pub served : (tenant : ℕ) (kept : Kept) (clock n : ℕ) → after_turn (for_tenant setup tenant) kept clock n s
-      ≡ after_reaction (answer (node_of setup tenant) kept clock n key version body) head version body (without_front s)
+      ≡ after_reaction (reaction_to (node_of setup tenant) kept clock n key version body) head version body (without_front s)
   pub put : (tenant : ℕ) (kept : Kept) (clock n : ℕ)
-      → put (for_tenant setup tenant) kept clock n (in_front s) ≡ kept_after (node_of setup tenant) kept clock n key version body
+      → kept_by_turn (for_tenant setup tenant) kept clock n (in_front s) ≡ kept_after (node_of setup tenant) kept clock n key version body

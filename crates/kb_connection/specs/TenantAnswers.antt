@@ -18,11 +18,11 @@ abbrev pub given_reply : Head → List ℕ → Session → Session
 given_reply head reply s = if head.is_throttled then replied head (body_of reply) s else record s { output = s.output ++ reply }
 
 -- an answer to the request of that head, but for a wait
-abbrev pub given : Head → Answer → Session → Session
-given head (answers.Reply reply) s = given_reply head reply.items s
-given head (answers.Wait deadline limit keys) s = s
-given head answers.NoReply s = s
-given head answers.Shut s = shut_down (unanswerable head) s
+abbrev pub with_final_answer : Head → Answer → Session → Session
+with_final_answer head (answers.Reply reply) s = given_reply head reply.items s
+with_final_answer head (answers.Wait deadline limit keys) s = s
+with_final_answer head answers.NoReply s = s
+with_final_answer head answers.Shut s = shut_down (unanswerable head) s
 
 -- it says nothing to a fetch that waits
 abbrev pub is_quiet : Answer → Bool
@@ -54,13 +54,13 @@ parked fetch None s = s
 parked fetch (Some asked) s = record s { stage = waiting (wait_for fetch asked) s.stage }
 
 -- the answer to a request of that head, version and body, which stood in front; s is the connection without the request
-abbrev pub answered : Head → ℤ → List ℕ → AnyAnswer → Session → Session
-answered head version body (any.Plain (answers.Reply reply)) s = given_reply head reply.items s
-answered head version body (any.Plain (answers.Wait deadline limit keys)) s =
+abbrev pub with_answer : Head → ℤ → List ℕ → AnyAnswer → Session → Session
+with_answer head version body (any.Plain (answers.Reply reply)) s = given_reply head reply.items s
+with_answer head version body (any.Plain (answers.Wait deadline limit keys)) s =
     record s { stage = waiting (record { head = head; awaited = Records version body deadline limit }) s.stage }
-answered head version body (any.Plain answers.NoReply) s = s
-answered head version body (any.Plain answers.Shut) s = shut_down (unanswerable head) s
-answered head version body any.Rebalance s = record s { stage = waiting (record { head = head; awaited = Group }) s.stage }
+with_answer head version body (any.Plain answers.NoReply) s = s
+with_answer head version body (any.Plain answers.Shut) s = shut_down (unanswerable head) s
+with_answer head version body any.Rebalance s = record s { stage = waiting (record { head = head; awaited = Group }) s.stage }
 
 -- the answer to the request of that head that waits on the connection: a reply ends the wait
 abbrev pub answered_again : Head → Answer → Session → Session

@@ -30,10 +30,10 @@ asked_of (asked.Another key version body) = Another key version body
 asked_of asked.Malformed = Malformed
 
 -- what a body is read as, unless memory ran out; bytes that match nothing are not read
-abbrev pub Reads : Asked → Result Read ReadFault → Type 0
-Reads a (Ok read) = asked_of read ≡ a
-Reads a (Err (faults.Wire fault)) = Malformed ≡ a
-Reads a (Err faults.Memory) = Unit {0}
+abbrev pub ReadsAs : Asked → Result Read ReadFault → Type 0
+ReadsAs a (Ok read) = asked_of read ≡ a
+ReadsAs a (Err (faults.Wire fault)) = Malformed ≡ a
+ReadsAs a (Err faults.Memory) = Unit {0}
 
 abbrev pub request_of : ReadRequest → Request
 request_of r = record { head = r.head; asked = asked_of r.asked }

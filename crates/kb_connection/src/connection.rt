@@ -6,7 +6,8 @@ ghost use Rattle.std.specs.Option.{is_some};
 ghost use Rattle.kb_tenant_api.specs.Hosted.{Kept};
 ghost use Rattle.kb_tenant_api.specs.Replies.{Reaction as Reacts, IsAnswer};
 ghost use Rattle.kb_tenant.specs.Replies as tenant;
-ghost use Rattle.kb_isolation_spec.specs.Session.{Session, Greets, BoundTo, fresh, in_front, room, overruns, fed, replied, shut_down, without_wait, waiting};
+ghost use Rattle.kb_isolation_spec.specs.Session.{Session, Greets, BoundTo, new_session, in_front, room, overruns, fed, replied};
+ghost use Rattle.kb_isolation_spec.specs.Session.{shut_down, without_wait, waiting};
 ghost use Rattle.kb_isolation_spec.specs.declared.head.Head.{Head};
 ghost use Rattle.kb_isolation_spec.specs.declared.shut.Shut.TheVariants as causes;
 ghost use Rattle.kb_isolation_spec.specs.Tenant.{Wait};
@@ -15,7 +16,8 @@ ghost use Rattle.kb_isolation_spec.specs.Session.{has_member, is_free, can};
 ghost use Rattle.kb_isolation_spec.specs.Greeting.{Setup, bound, failed, for_tenant, greeted};
 ghost use Rattle.kb_isolation_spec.specs.Machine.{after_reaction, after_turn, told};
 ghost use Rattle.kb_isolation_spec.specs.Calls.{without_output};
-ghost use Rattle.kb_connection.specs.TenantAnswers.{answered, answered_again, given, given_reply, is_quiet, is_wait, wait_for, parked};
+ghost use Rattle.kb_connection.specs.TenantAnswers.{with_answer, answered_again, with_final_answer, given_reply, is_quiet, is_wait};
+ghost use Rattle.kb_connection.specs.TenantAnswers.{wait_for, parked};
 ghost use Rattle.kb_connection.specs.Fronts.{IsOwn, IsAsked, is_tenants_at, asked_at, head_at};
 ghost use Rattle.kb_connection.specs.View.{greeting_of, speaks, stage_of, wait_of, with_session, without_front, IsLimited};
 ghost use Rattle.kb_connection.specs.Reactions.{reacted, IfReacts};
@@ -83,7 +85,7 @@ impl Model for Connection {
 impl Connection {
     /// A connection that has said nothing, on which no request of more than `limit` bytes is read. It takes no memory.
     pub fn new(alloc: Global, number: u64, limit: u32) -> Connection
-        ensures { result ≡ record { number = number; session = fresh limit } }
+        ensures { result ≡ record { number = number; session = new_session limit } }
     {
         Connection {
             number,
@@ -323,7 +325,7 @@ impl Connection {
         ensures err { OnErr result (self.new ≡ with_session self.old (shut_down causes.Memory self.old.session)) }
         // whatever the answer is, also where a refusal spoiled it
         ensures answered { (key version : ℤ) (head : Head) (body : List ℕ) → IsAsked setup.now self.old.session key version head body
-            → OnOk result (self.new ≡ with_session self.old (answered head version body answer (without_front self.old.session))) }
+            → OnOk result (self.new ≡ with_session self.old (with_answer head version body answer (without_front self.old.session))) }
         ensures number { self.new.number ≡ self.old.number }
         ensures stage { without_wait self.new.session.stage ≡ without_wait self.old.session.stage }
         ensures limit { self.new.session.limit ≡ self.old.session.limit }
@@ -463,7 +465,7 @@ impl Connection {
 
     /// Does what an answer to the request of that head says, but for a wait. Where memory is refused it is shut.
     fn give(&mut self, head: Head, answer: kb_tenant::Answer) -> Result<(), AllocError>
-        ensures ok { OnOk result (self.new ≡ with_session self.old (given head answer self.old.session)) }
+        ensures ok { OnOk result (self.new ≡ with_session self.old (with_final_answer head answer self.old.session)) }
         ensures err { OnErr result (self.new ≡ with_session self.old (shut_down causes.Memory self.old.session)) }
         ensures same { is_quiet answer ≡ true → self.new ≡ self.old }
     {

@@ -4,7 +4,7 @@ ghost use Rattle.std.specs.Prelude.{◌≡◌, IfOk};
 ghost use Rattle.kb_api_group.specs.Layouts.{request_header};
 ghost use Rattle.kb_isolation_spec.specs.Requests.{request, asked_by, asked_behind, is_served, unserved};
 ghost use Rattle.kb_isolation_spec.specs.Session.{unanswerable};
-ghost use Rattle.kb_connection.specs.View.{asked_of, request_of, Reads};
+ghost use Rattle.kb_connection.specs.View.{asked_of, request_of, ReadsAs};
 
 use crate::version::{NO_HEAD, base_of, head_of};
 use kb_api_group::{
@@ -100,7 +100,7 @@ fn read_asked<'a>(
 
 /// The body of a request, by its key. The tenant is asked in the version that the request's is laid out as.
 fn read_body(alloc: Global, key: i16, version: i16, body: &[u8]) -> Result<Asked<'_>, ReadFault>
-    ensures { Reads (asked_by key version body.now) result }
+    ensures { ReadsAs (asked_by key version body.now) result }
 {
     let asked = match key {
         api_key::API_VERSIONS => {

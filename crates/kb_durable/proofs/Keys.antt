@@ -8,7 +8,7 @@ use Rattle.std.specs.FinMap.{FinMap, get, entries, entries_sorted, entries-from_
 use Rattle.std.specs.FinMap.Entries.{find-where_key, is_sorted, is_sorted-where_key, where_key}
 use Rattle.kb_store.specs.Disk.{Table}
 use Rattle.kb_durable.specs.Lawful.{get_without}
-use Rattle.kb_durable.specs.Waiting.{has, without}
+use Rattle.kb_durable.specs.Waiting.{has, without_keys}
 
 module _ {X : Type 0} where
   keys_where : (p : ℕ → Bool) (es : List (ℕ × X)) → map (λ e. e.0) (where_key nat_cmp p es) ≡ filter p (map (λ e. e.0) es)
@@ -40,8 +40,8 @@ module _ {X : Type 0} where
   turned false o = refl
 
 -- those that are left are those that do not wait
-pub keys_without : (ks : List ℕ) (t : Table) → fin.keys (without ks t) ≡ filter (λ q. not (has ks q)) (fin.keys t)
+pub keys_without : (ks : List ℕ) (t : Table) → fin.keys (without_keys ks t) ≡ filter (λ q. not (has ks q)) (fin.keys t)
 keys_without ks t =
     let p : ℕ → Bool = λ q. not (has ks q) in
-    ap fin.keys (same_map nat_cmp_total nat_cmp-IsAntisymmetric (without ks t) (where_number p t) (λ q. get_without ks t q ∙ turned (has ks q) (get t q) ∙ sym (get_where p t q)))
+    ap fin.keys (same_map nat_cmp_total nat_cmp-IsAntisymmetric (without_keys ks t) (where_number p t) (λ q. get_without ks t q ∙ turned (has ks q) (get t q) ∙ sym (get_where p t q)))
     ∙ keys_where_number p t

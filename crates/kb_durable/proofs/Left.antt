@@ -6,7 +6,7 @@ use Rattle.std.specs.Ordering.{nat_cmp}
 use Rattle.std.specs.Cmp.{nat_cmp_total}
 use Rattle.std.specs.FinMap.{FinMap, get, insert, remove, same_map, nat_cmp-IsAntisymmetric}
 use Rattle.kb_store.proofs.Maps.{get_inserted, get_other, get_removed, get_kept}
-use Rattle.kb_durable.specs.Waiting.{has, without, AreThere}
+use Rattle.kb_durable.specs.Waiting.{has, without_keys, AreThere}
 use Rattle.kb_durable.specs.Lawful.{get_without}
 
 -- ---- two rows of numbers
@@ -27,54 +27,54 @@ module _ {X : Type 0} where
   some_kept false o s = refl
 
   -- what is left is as it was
-  pub left_not : (ks : List ℕ) (m : FinMap nat_cmp X) (q : ℕ) → IsSome (get (without ks m) q) → has ks q ≡ false
+  pub left_not : (ks : List ℕ) (m : FinMap nat_cmp X) (q : ℕ) → IsSome (get (without_keys ks m) q) → has ks q ≡ false
   left_not ks m q some = some_kept (has ks q) (get m q) (subst (λ o. IsSome o) (get_without ks m q) some)
 
-  pub not_gone : (ks : List ℕ) (m : FinMap nat_cmp X) (q : ℕ) → has ks q ≡ false → get (without ks m) q ≡ get m q
+  pub not_gone : (ks : List ℕ) (m : FinMap nat_cmp X) (q : ℕ) → has ks q ≡ false → get (without_keys ks m) q ≡ get m q
   not_gone ks m q free = get_without ks m q ∙ ap (λ b. cond b None (get m q)) free
 
-  pub gone : (ks : List ℕ) (m : FinMap nat_cmp X) (q : ℕ) → has ks q ≡ true → get (without ks m) q ≡ None
+  pub gone : (ks : List ℕ) (m : FinMap nat_cmp X) (q : ℕ) → has ks q ≡ true → get (without_keys ks m) q ≡ None
   gone ks m q waits = get_without ks m q ∙ ap (λ b. cond b None (get m q)) waits
 
-  pub left_is : (ks : List ℕ) (m : FinMap nat_cmp X) (q : ℕ) → IsSome (get (without ks m) q) → get (without ks m) q ≡ get m q
+  pub left_is : (ks : List ℕ) (m : FinMap nat_cmp X) (q : ℕ) → IsSome (get (without_keys ks m) q) → get (without_keys ks m) q ≡ get m q
   left_is ks m q some = not_gone ks m q (left_not ks m q some)
 
-  pub left_there : (ks : List ℕ) (m : FinMap nat_cmp X) (q : ℕ) → IsSome (get (without ks m) q) → IsSome (get m q)
+  pub left_there : (ks : List ℕ) (m : FinMap nat_cmp X) (q : ℕ) → IsSome (get (without_keys ks m) q) → IsSome (get m q)
   left_there ks m q some = subst (λ o. IsSome o) (left_is ks m q some) some
 
   -- a file is put that does not wait
-  pub put_left : (ks : List ℕ) (m : FinMap nat_cmp X) (k : ℕ) (v : X) → has ks k ≡ false → without ks (insert m k v) ≡ insert (without ks m) k v
-  put_left ks m k v free = same_map nat_cmp_total nat_cmp-IsAntisymmetric (without ks (insert m k v)) (insert (without ks m) k v) (λ q.
+  pub put_left : (ks : List ℕ) (m : FinMap nat_cmp X) (k : ℕ) (v : X) → has ks k ≡ false → without_keys ks (insert m k v) ≡ insert (without_keys ks m) k v
+  put_left ks m k v free = same_map nat_cmp_total nat_cmp-IsAntisymmetric (without_keys ks (insert m k v)) (insert (without_keys ks m) k v) (λ q.
       ⊎_elim
-      (λ (same : q ≡ k). subst (λ x. get (without ks (insert m k v)) x ≡ get (insert (without ks m) k v) x) (sym same)
-      (not_gone ks (insert m k v) k free ∙ get_inserted m k v ∙ sym (get_inserted (without ks m) k v)))
-      (λ (ne : q ≢ k). get_without ks (insert m k v) q ∙ ap (cond (has ks q) None) (get_other m k v q ne) ∙ sym (get_without ks m q) ∙ sym (get_other (without ks m) k v q ne))
+      (λ (same : q ≡ k). subst (λ x. get (without_keys ks (insert m k v)) x ≡ get (insert (without_keys ks m) k v) x) (sym same)
+      (not_gone ks (insert m k v) k free ∙ get_inserted m k v ∙ sym (get_inserted (without_keys ks m) k v)))
+      (λ (ne : q ≢ k). get_without ks (insert m k v) q ∙ ap (cond (has ks q) None) (get_other m k v q ne) ∙ sym (get_without ks m q) ∙ sym (get_other (without_keys ks m) k v q ne))
       (cases_eq q k))
 
   -- one more at the end
-  pub without_push : (ks : List ℕ) (k : ℕ) (m : FinMap nat_cmp X) → without (ks ++ k ∷ []) m ≡ remove (without ks m) k
+  pub without_push : (ks : List ℕ) (k : ℕ) (m : FinMap nat_cmp X) → without_keys (ks ++ k ∷ []) m ≡ remove (without_keys ks m) k
   without_push [] k m = refl
   without_push (x ∷ ks) k m = without_push ks k (remove m x)
 
   -- some first ones, and then the others
-  pub without_both : (n : ℕ) (ks : List ℕ) (m : FinMap nat_cmp X) → without (drop n ks) (without (take n ks) m) ≡ without ks m
+  pub without_both : (n : ℕ) (ks : List ℕ) (m : FinMap nat_cmp X) → without_keys (drop n ks) (without_keys (take n ks) m) ≡ without_keys ks m
   without_both zero ks m = refl
   without_both (suc n) [] m = refl
   without_both (suc n) (k ∷ ks) m = without_both n ks (remove m k)
 
-  nothing_taken : (j : ℕ) (m : FinMap nat_cmp X) → m ≡ without (take j []) m
+  nothing_taken : (j : ℕ) (m : FinMap nat_cmp X) → m ≡ without_keys (take j []) m
   nothing_taken zero m = refl
   nothing_taken (suc j) m = refl
 
-  pub without_next : (n : ℕ) (i : ℕ) (ks : List ℕ) (m : FinMap nat_cmp X) → without (take i (drop n ks)) (without (take n ks) m) ≡ without (take (n + i) ks) m
-  without_next zero i ks m = let e : i ≡ 0 + i = omega arith in ap (λ j. without (take j ks) m) e
+  pub without_next : (n : ℕ) (i : ℕ) (ks : List ℕ) (m : FinMap nat_cmp X) → without_keys (take i (drop n ks)) (without_keys (take n ks) m) ≡ without_keys (take (n + i) ks) m
+  without_next zero i ks m = let e : i ≡ 0 + i = omega arith in ap (λ j. without_keys (take j ks) m) e
   without_next (suc n) zero [] m = nothing_taken (suc n + 0) m
   without_next (suc n) (suc i) [] m = nothing_taken (suc n + suc i) m
   without_next (suc n) i (k ∷ ks) m =
       let e : suc (n + i) ≡ suc n + i = omega arith in
-      without_next n i ks (remove m k) ∙ ap (λ j. without (take j (k ∷ ks)) m) e
+      without_next n i ks (remove m k) ∙ ap (λ j. without_keys (take j (k ∷ ks)) m) e
 
-pub there_push : (ks : List ℕ) (k : ℕ) (t : FinMap nat_cmp ℕ) → AreThere ks t → IsSome (get (without ks t) k) → AreThere (ks ++ k ∷ []) t
+pub there_push : (ks : List ℕ) (k : ℕ) (t : FinMap nat_cmp ℕ) → AreThere ks t → IsSome (get (without_keys ks t) k) → AreThere (ks ++ k ∷ []) t
 there_push [] k t are is = (is, tt)
 there_push (x ∷ ks) k t are is = (are.0, there_push ks k (remove t x) are.1 is)
 

@@ -9,7 +9,7 @@ use Rattle.std.specs.FinMap.{get, remove, same_map, nat_cmp-IsAntisymmetric}
 use Rattle.kb_store.proofs.Maps.{get_removed, get_kept}
 use Rattle.kb_store.specs.Disk.{Disk, Files, Table, Keeps, Removes}
 use Rattle.kb_store.specs.Loss.{Loss, IsLawfulLoss, Goes, Only, Same, Makes, Drops, Clears, AreOthers}
-use Rattle.kb_durable.specs.Waiting.{without, IsTrimmed, Trims}
+use Rattle.kb_durable.specs.Waiting.{without_keys, IsTrimmed, Trims}
 use Rattle.kb_durable.proofs.Left.{left_there, without_next}
 
 -- ---- one step and another
@@ -56,7 +56,7 @@ only_still d e a b keeps goes only h found left =
 -- ---- a removal, and the sync behind it
 
 -- of one file that the table has no longer
-pub dropped_cleared : (k : ℕ) (ks : List ℕ) (t : Table) (x y : Files) → Drops k x y → Clears (without (k ∷ ks) t) x y
+pub dropped_cleared : (k : ℕ) (ks : List ℕ) (t : Table) (x y : Files) → Drops k x y → Clears (without_keys (k ∷ ks) t) x y
 dropped_cleared k ks t x y dropped = record {
   stays = λ q some. ⊎_elim
       (λ (same : q ≡ k). absurd (not_there q same some))
@@ -71,12 +71,12 @@ dropped_cleared k ks t x y dropped = record {
     no_some : {X : Type 0} (o : Option X) → o ≡ None → IsSome o → ⊥
     no_some {X} o e some = let s : IsSome {T = X} None = subst (λ o. IsSome o) e some in absurd cc
 
-    not_there : (q : ℕ) → q ≡ k → IsSome (get (without (k ∷ ks) t) q) → ⊥
+    not_there : (q : ℕ) → q ≡ k → IsSome (get (without_keys (k ∷ ks) t) q) → ⊥
     not_there q same some =
         let e : get (remove t k) q ≡ None = ap (get (remove t k)) same ∙ get_removed t k in
         no_some (get (remove t k) q) e (left_there ks (remove t k) q some)
 
-pub cleared_less : (ks : List ℕ) (t : Table) (x y : Files) → Clears t x y → Clears (without ks t) x y
+pub cleared_less : (ks : List ℕ) (t : Table) (x y : Files) → Clears t x y → Clears (without_keys ks t) x y
 cleared_less ks t x y clears = record {
   stays = λ q some. clears.stays q (left_there ks t q some);
   either = clears.either;
@@ -125,16 +125,16 @@ trims_then m n ks js hs d e f a b c later first second =
       at_most = omega (arith, first.at_most, second.at_most);
       rest = second.rest ∙ ap (drop j) first.rest ∙ drop-drop j i ks;
       disk = record {
-        table = second.disk.table ∙ ap (λ l. without (take j l) e.table) first.rest ∙ ap (without (take j (drop i ks))) first.disk.table ∙ without_next i j ks d.table;
+        table = second.disk.table ∙ ap (λ l. without_keys (take j l) e.table) first.rest ∙ ap (without_keys (take j (drop i ks))) first.disk.table ∙ without_next i j ks d.table;
         honest = λ h. first.disk.honest (second.disk.honest h);
-        files = λ h. second.disk.files h ∙ ap (λ l. without (take j l) e.files) first.rest ∙ ap (without (take j (drop i ks))) (first.disk.files (second.disk.honest h)) ∙ without_next i j ks d.files;
+        files = λ h. second.disk.files h ∙ ap (λ l. without_keys (take j l) e.files) first.rest ∙ ap (without_keys (take j (drop i ks))) (first.disk.files (second.disk.honest h)) ∙ without_next i j ks d.files;
       };
       between = λ h t found le left. ⊎_elim
           (λ was. ⊎_elim (λ earlier. inl earlier) (λ trimmed. inr (trimmed.0, omega (arith, trimmed.1), trimmed.2)) (first.between (second.disk.honest h) t found le was))
           (λ trimmed. inr (
             i + trimmed.0,
             omega (arith, first.at_most, trimmed.1),
-            trimmed.2 ∙ ap (λ l. without (take trimmed.0 l) e.files) first.rest ∙ ap (without (take trimmed.0 (drop i ks))) (first.disk.files (second.disk.honest h)) ∙ without_next i trimmed.0 ks d.files,
+            trimmed.2 ∙ ap (λ l. without_keys (take trimmed.0 l) e.files) first.rest ∙ ap (without_keys (take trimmed.0 (drop i ks))) (first.disk.files (second.disk.honest h)) ∙ without_next i trimmed.0 ks d.files,
           ))
           (second.between h t found (omega (arith, le, later)) left);
     }
@@ -149,7 +149,7 @@ module _ (k : ℕ) (ks waited waits : List ℕ) (first : waited ≡ k ∷ ks) (d
       let x : at.0 ≡ d.files = only h at.0 at.1 in
       inr (⊎_elim
       (λ same. (0, omega arith, same ∙ x))
-      (λ less. (1, omega arith, less ∙ ap (λ m. remove m k) x ∙ sym (ap (λ l. without (take 1 l) d.files) first)))
+      (λ less. (1, omega arith, less ∙ ap (λ m. remove m k) x ∙ sym (ap (λ l. without_keys (take 1 l) d.files) first)))
       (dropped_is k at.0 found at.2)))
       (goes.between t found le left)
 
@@ -159,9 +159,9 @@ module _ (k : ℕ) (ks waited waits : List ℕ) (first : waited ≡ k ∷ ks) (d
     at_most = omega arith;
     rest = rest ∙ sym (ap (drop 1) first);
     disk = record {
-      table = removes.table ∙ sym (ap (λ l. without (take 1 l) d.table) first);
+      table = removes.table ∙ sym (ap (λ l. without_keys (take 1 l) d.table) first);
       honest = λ h. removes.honest h;
-      files = λ h. removes.files h ∙ sym (ap (λ l. without (take 1 l) d.files) first);
+      files = λ h. removes.files h ∙ sym (ap (λ l. without_keys (take 1 l) d.files) first);
     };
     between = λ h t found le left. trimmed_by (removes.honest h) t found le left;
   }
@@ -175,8 +175,8 @@ module _ (k : ℕ) (ks waited waits : List ℕ) (first : waited ≡ k ∷ ks) (d
     between = λ h t found le left. trimmed_by (keeps.honest h) t found le left;
   }
 
-  pub goes_dropped : (t : Table) → Goes (Clears (without waited t)) a b
-  goes_dropped t = goes_so (Drops k) (Clears (without waited t)) a b (λ x y drops. subst (λ l. Clears (without l t) x y) (sym first) (dropped_cleared k ks t x y drops)) goes
+  pub goes_dropped : (t : Table) → Goes (Clears (without_keys waited t)) a b
+  goes_dropped t = goes_so (Drops k) (Clears (without_keys waited t)) a b (λ x y drops. subst (λ l. Clears (without_keys l t) x y) (sym first) (dropped_cleared k ks t x y drops)) goes
 
 -- and a sync behind it
 pub trims_synced : (m : ℕ) (ks js : List ℕ) (d e f : Disk) (a b c : Loss) → a.moment ≤ b.moment → IsLawfulLoss b → Trims m ks js d a e b → Keeps e f → Goes Same b c → Trims m ks js d a f c

@@ -5,7 +5,7 @@ use Rattle.kb_store.specs.Disk.{Disk, Keeps}
 use Rattle.kb_store.specs.Loss.{Loss, IsLawfulLoss, Goes, Only, Same, Clears}
 use Rattle.kb_store.specs.LossLaws.{stays_goes, cleared_not}
 use Rattle.kb_durable.specs.Durable.{disk_left}
-use Rattle.kb_durable.specs.Waiting.{without, AreThere, Trims}
+use Rattle.kb_durable.specs.Waiting.{without_keys, AreThere, Trims}
 use Rattle.kb_durable.proofs.Left.{without_both}
 use Rattle.kb_durable.proofs.Lost.{goes_then, cleared_twice, same_then, trims_none, trims_synced, trims_then}
 
@@ -15,7 +15,7 @@ pub record IsRun (i : ℕ) (ks js : List ℕ) (d : Disk) (a : Loss) (e : Disk) (
   pub trims : Trims i ks js d a e b
   pub there : AreThere js e.table
   pub synced : e.honest → Only e.files b
-  pub loss : Goes (Clears (without ks d.table)) a b
+  pub loss : Goes (Clears (without_keys ks d.table)) a b
   pub later : d.failures ≤ e.failures
 
 pub begun : (ks : List ℕ) (d : Disk) (a : Loss) → AreThere ks d.table → (d.honest → Only d.files a) → IsRun 0 ks ks d a d a
@@ -24,7 +24,7 @@ begun ks d a there synced = record {
   trims = trims_none 0 ks d a;
   there = there;
   synced = synced;
-  loss = stays_goes (Clears (without ks d.table)) (cleared_not (without ks d.table)) a;
+  loss = stays_goes (Clears (without_keys ks d.table)) (cleared_not (without_keys ks d.table)) a;
   later = omega arith;
 }
 
@@ -38,13 +38,13 @@ widen m n ks js d e a b le trims = record {
 }
 
 module _ (i : ℕ) (ks js hs : List ℕ) (d e f : Disk) (a b c : Loss) (run : IsRun i ks js d a e b) where
-  all_left : without js e.table ≡ without ks d.table
+  all_left : without_keys js e.table ≡ without_keys ks d.table
   all_left =
-      ap (λ l. without l e.table) run.trims.rest ∙ ap (without (drop run.trims.count ks)) run.trims.disk.table ∙ without_both run.trims.count ks d.table
+      ap (λ l. without_keys l e.table) run.trims.rest ∙ ap (without_keys (drop run.trims.count ks)) run.trims.disk.table ∙ without_both run.trims.count ks d.table
 
-  pub run_loss : Goes (Clears (without js e.table)) b c → Goes (Clears (without ks d.table)) a c
+  pub run_loss : Goes (Clears (without_keys js e.table)) b c → Goes (Clears (without_keys ks d.table)) a c
   run_loss goes =
-      let t = without ks d.table in
+      let t = without_keys ks d.table in
       goes_then (Clears t) (Clears t) (Clears t) a b c (λ x y p. p) (λ x y z p q. cleared_twice t x y z p q) run.loss
       (subst (λ m. Goes (Clears m) b c) all_left goes)
 
@@ -52,7 +52,7 @@ module _ (i : ℕ) (ks js hs : List ℕ) (d e f : Disk) (a b c : Loss) (run : Is
   run_trims more trims = widen (i + 1) 16 ks hs d f a c (omega (arith, more)) (trims_then i 1 ks js hs d e f a b c run.loss.later run.trims trims)
 
   pub run_on : hs ≡ drop 1 js → Trims 1 js hs e b f c → AreThere hs f.table → (f.honest → Only f.files c)
-      → Goes (Clears (without js e.table)) b c → e.failures ≤ f.failures → IsRun (i + 1) ks hs d a f c
+      → Goes (Clears (without_keys js e.table)) b c → e.failures ≤ f.failures → IsRun (i + 1) ks hs d a f c
   run_on rest trims there synced goes later = record {
     left = rest ∙ ap (drop 1) run.left ∙ drop-drop 1 i ks;
     trims = trims_then i 1 ks js hs d e f a b c run.loss.later run.trims trims;
@@ -74,16 +74,16 @@ module _ (ks hs js : List ℕ) (d e f : Disk) (a b c : Loss) (timely : IsLawfulL
   trims_after trims =
       trims_then 0 16 ks hs js d e f a b c goes.later (trims_flushed 0) trims
 
-  pub loss_after : Goes (Clears (without hs e.table)) b c → Goes (Clears (without ks d.table)) a c
+  pub loss_after : Goes (Clears (without_keys hs e.table)) b c → Goes (Clears (without_keys ks d.table)) a c
   loss_after clears =
-      let t = without ks d.table in
-      let is : without hs e.table ≡ t = ap (λ l. without l e.table) same ∙ ap (without ks) keeps.table in
+      let t = without_keys ks d.table in
+      let is : without_keys hs e.table ≡ t = ap (λ l. without_keys l e.table) same ∙ ap (without_keys ks) keeps.table in
       same_then (Clears t) a b c (cleared_not t) goes (subst (λ m. Goes (Clears m) b c) is clears)
 
 -- what callers see stays
 pub trims_left : (most : ℕ) (ks js : List ℕ) (r s : ℕ) (d f : Disk) (a c : Loss) → Trims most ks js d a f c → Keeps (disk_left ks r d) (disk_left js s f)
 trims_left most ks js r s d f a c trims = record {
-  table = ap (λ l. without l f.table) trims.rest ∙ ap (without (drop trims.count ks)) trims.disk.table ∙ without_both trims.count ks d.table;
+  table = ap (λ l. without_keys l f.table) trims.rest ∙ ap (without_keys (drop trims.count ks)) trims.disk.table ∙ without_both trims.count ks d.table;
   honest = λ h. trims.disk.honest h;
-  files = λ h. ap (λ l. without l f.files) trims.rest ∙ ap (without (drop trims.count ks)) (trims.disk.files h) ∙ without_both trims.count ks d.files;
+  files = λ h. ap (λ l. without_keys l f.files) trims.rest ∙ ap (without_keys (drop trims.count ks)) (trims.disk.files h) ∙ without_both trims.count ks d.files;
 }

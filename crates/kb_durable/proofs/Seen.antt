@@ -11,7 +11,7 @@ use Rattle.kb_store.specs.Disk.{Disk, Files, Table, Becomes, IsLawfulDisk, IsThe
 use Rattle.kb_store.specs.Loss.{Loss}
 use Rattle.kb_durable.specs.Durable.{disk_left, is_nil, IsKept}
 use Rattle.kb_durable.specs.declared.torn.Torn.{Torn}
-use Rattle.kb_durable.specs.Waiting.{has, without, AreThere}
+use Rattle.kb_durable.specs.Waiting.{has, without_keys, AreThere}
 use Rattle.kb_durable.proofs.Left.{left_is, left_not, left_there, not_gone, put_left, there_put, there_same, without_push}
 
 module _ (ks : List ℕ) (r : ℕ) (d : Disk) (q : ℕ) where
@@ -41,16 +41,16 @@ if_ok (Err e) p f = p
 -- ---- a call of the store inside, as callers see it
 
 pub left_kept : (ks : List ℕ) (r s : ℕ) (d e : Disk) → Keeps d e → Keeps (disk_left ks r d) (disk_left ks s e)
-left_kept ks r s d e keeps = record { table = ap (without ks) keeps.table; honest = λ h. keeps.honest h; files = λ h. ap (without ks) (keeps.files h) }
+left_kept ks r s d e keeps = record { table = ap (without_keys ks) keeps.table; honest = λ h. keeps.honest h; files = λ h. ap (without_keys ks) (keeps.files h) }
 
 -- a file is put that does not wait
 pub left_put : (ks : List ℕ) (r s : ℕ) (d e : Disk) (k n : ℕ) (bytes : List ℕ) → has ks k ≡ false
     → Becomes d (insert d.table k n) (insert d.files k bytes) e
-    → Becomes (disk_left ks r d) (insert (without ks d.table) k n) (insert (without ks d.files) k bytes) (disk_left ks s e)
+    → Becomes (disk_left ks r d) (insert (without_keys ks d.table) k n) (insert (without_keys ks d.files) k bytes) (disk_left ks s e)
 left_put ks r s d e k n bytes free puts = record {
-  table = ap (without ks) puts.table ∙ put_left ks d.table k n free;
+  table = ap (without_keys ks) puts.table ∙ put_left ks d.table k n free;
   honest = λ h. puts.honest h;
-  files = λ h. ap (without ks) (puts.files h) ∙ put_left ks d.files k bytes free;
+  files = λ h. ap (without_keys ks) (puts.files h) ∙ put_left ks d.files k bytes free;
 }
 
 -- ---- one step after another
@@ -80,7 +80,7 @@ module _ (ks hs : List ℕ) (r s : ℕ) (d e f : Disk) (file : ℕ) (same : hs �
       may
 
 -- what is not seen and does not wait is not there
-pub not_inside : (ks : List ℕ) (t : Table) (file : ℕ) → has ks file ≡ false → get (without ks t) file ≡ None → get t file ≡ None
+pub not_inside : (ks : List ℕ) (t : Table) (file : ℕ) → has ks file ≡ false → get (without_keys ks t) file ≡ None → get t file ≡ None
 not_inside ks t file free none = sym (not_gone ks t file free) ∙ none
 
 -- ---- what is noted stays right
@@ -119,16 +119,16 @@ module _ (ks : List ℕ) (r s : ℕ) (d e : Disk) (file : ℕ) (there : IsThere 
       record {
         table = puts.table;
         honest = λ h. puts.honest h;
-        files = λ h. puts.files h ∙ ap (λ bytes. insert (without ks d.files) file (take len bytes)) (sym (bytes_inside ks r d file there));
+        files = λ h. puts.files h ∙ ap (λ bytes. insert (without_keys ks d.files) file (take len bytes)) (sym (bytes_inside ks r d file there));
       }
 
   pub more_seen : (bytes : List ℕ) → Appends d file bytes e → Appends (disk_left ks r d) file bytes (disk_left ks s e)
   more_seen bytes appends =
       let puts = left_put ks r s d e file (len_of d file + length bytes) (bytes_of d file ++ bytes) free appends in
       record {
-        table = puts.table ∙ ap (λ n. insert (without ks d.table) file (n + length bytes)) (sym (len_inside ks r d file there));
+        table = puts.table ∙ ap (λ n. insert (without_keys ks d.table) file (n + length bytes)) (sym (len_inside ks r d file there));
         honest = λ h. puts.honest h;
-        files = λ h. puts.files h ∙ ap (λ had. insert (without ks d.files) file (had ++ bytes)) (sym (bytes_inside ks r d file there));
+        files = λ h. puts.files h ∙ ap (λ had. insert (without_keys ks d.files) file (had ++ bytes)) (sym (bytes_inside ks r d file there));
       }
 
   pub some_seen : (bytes : List ℕ) → AppendsSome d file bytes e → AppendsSome (disk_left ks r d) file bytes (disk_left ks s e)
@@ -193,9 +193,9 @@ there_more ks d e file bytes appends are = there_put ks d.table e.table file (le
 
 pub removed_seen : (ks js : List ℕ) (r : ℕ) (d : Disk) (file : ℕ) → js ≡ ks ++ file ∷ [] → Removes (disk_left ks r d) file (disk_left js r d)
 removed_seen ks js r d file more = record {
-  table = ap (λ l. without l d.table) more ∙ without_push ks file d.table;
+  table = ap (λ l. without_keys l d.table) more ∙ without_push ks file d.table;
   honest = λ h. h;
-  files = λ h. ap (λ l. without l d.files) more ∙ without_push ks file d.files;
+  files = λ h. ap (λ l. without_keys l d.files) more ∙ without_push ks file d.files;
 }
 
 -- ---- nothing is to be done

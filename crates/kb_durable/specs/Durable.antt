@@ -5,7 +5,7 @@ use Rattle.kb_store.specs.Disk.{Disk, Files}
 use Rattle.kb_store.specs.Loss.{Loss, Only, AreOthers}
 use Rattle.kb_store.specs.declared.fault.StoreFault.{StoreFault}
 use Rattle.kb_store.specs.declared.fault.StoreFault.TheVariants.{Device}
-use Rattle.kb_durable.specs.Waiting.{AreThere, without}
+use Rattle.kb_durable.specs.Waiting.{AreThere, without_keys}
 use Rattle.kb_durable.specs.declared.torn.Torn.{Torn}
 
 -- ---- bytes of refused appends
@@ -36,8 +36,8 @@ durable s y c w t r = record { store = s; syncs = y; changed = c; waiting = w; t
 -- the disk inside, less the files whose removal waits
 abbrev pub disk_left : List ℕ → ℕ → Disk → Disk
 disk_left waiting refused d = record {
-  table = without waiting d.table;
-  files = without waiting d.files;
+  table = without_keys waiting d.table;
+  files = without_keys waiting d.files;
   honest = d.honest;
   failures = min (d.failures + refused) 18446744073709551615;
 }

@@ -7,7 +7,7 @@ use Rattle.std.specs.FinMap.{FinMap, get, remove}
 use Rattle.kb_store.proofs.Maps.{get_removed, get_kept}
 use Rattle.kb_store.specs.Disk.{Disk, IsLawfulDisk}
 use Rattle.kb_durable.specs.Durable.{disk_left}
-use Rattle.kb_durable.specs.Waiting.{has, without}
+use Rattle.kb_durable.specs.Waiting.{has, without_keys}
 
 -- what is found without them
 module _ {X : Type 0} where
@@ -15,7 +15,7 @@ module _ {X : Type 0} where
   none_either true = refl
   none_either false = refl
 
-  pub get_without : (ks : List ℕ) (m : FinMap nat_cmp X) (q : ℕ) → get (without ks m) q ≡ cond (has ks q) None (get m q)
+  pub get_without : (ks : List ℕ) (m : FinMap nat_cmp X) (q : ℕ) → get (without_keys ks m) q ≡ cond (has ks q) None (get m q)
   get_without [] m q = refl
   get_without (k ∷ ks) m q =
       ⊎_elim

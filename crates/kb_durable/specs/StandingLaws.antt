@@ -7,11 +7,11 @@ use Rattle.std.specs.FinMap.{get, insert, remove}
 use Rattle.kb_store.proofs.Maps.{get_inserted, get_removed}
 use Rattle.kb_store.specs.Disk.{Files, Table}
 use Rattle.kb_store.specs.Loss.{Loss, IsLawfulLoss, Goes, Makes, Tears, Drops, Clears, found_of}
-use Rattle.kb_durable.specs.Standing.{AreWithin, HasFronts, Stands}
+use Rattle.kb_durable.specs.Standing.{AreCoveredBy, HasFronts, Stands}
 
 -- a step that leaves the files of a table alone
 stands_by : (table : Table) (step : Files → Files → Type 0) (a b : Loss) → IsLawfulLoss a
-    → ((files x y : Files) → AreWithin files table → step x y → HasFronts files x → HasFronts files y) → Goes step a b → Stands table a b
+    → ((files x y : Files) → AreCoveredBy files table → step x y → HasFronts files x → HasFronts files y) → Goes step a b → Stands table a b
 stands_by table step a b timely keeps goes files within safe found left = ⊎_elim
     (λ was. safe found (timely.only_now found was))
     (λ at. keeps files at.0 found within at.2 (safe at.0 at.1))
@@ -63,7 +63,7 @@ module _ (torn keep : ℕ) (x y : Files) (tears : Tears torn keep x y) where
       )
 
 stands_torn : (table : Table) (torn keep : ℕ) (a b : Loss)
-    → ((files : Files) (bytes : List ℕ) → AreWithin files table → get files torn ≡ Some bytes → length bytes ≤ keep)
+    → ((files : Files) (bytes : List ℕ) → AreCoveredBy files table → get files torn ≡ Some bytes → length bytes ≤ keep)
     → IsLawfulLoss a → Goes (Tears torn keep) a b → Stands table a b
 stands_torn table torn keep a b short timely goes = stands_by table (Tears torn keep) a b timely
     (λ files x y within tears fronts file bytes at.

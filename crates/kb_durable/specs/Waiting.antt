@@ -11,9 +11,9 @@ has [] file = false
 has (k ∷ ks) file = k == file || has ks file
 
 -- the numbers and lengths, or the files, without them
-abbrev pub without : {X : Type 0} → List ℕ → FinMap nat_cmp X → FinMap nat_cmp X
-without [] m = m
-without (k ∷ ks) m = without ks (remove m k)
+abbrev pub without_keys : {X : Type 0} → List ℕ → FinMap nat_cmp X → FinMap nat_cmp X
+without_keys [] m = m
+without_keys (k ∷ ks) m = without_keys ks (remove m k)
 
 -- each is there, and once alone
 abbrev pub AreThere : List ℕ → Table → Type 0
@@ -24,7 +24,7 @@ AreThere (k ∷ ks) t = IsSome (get t k) × AreThere ks (remove t k)
 
 -- Some first ones of those that waited are done, and the others are not.
 abbrev pub IsTrimmed : ℕ → List ℕ → Files → Files → Type 0
-IsTrimmed most waited files found = (count : ℕ) × (count ≤ most) × (found ≡ without (take count waited) files)
+IsTrimmed most waited files found = (count : ℕ) × (count ≤ most) × (found ≡ without_keys (take count waited) files)
 
 -- The first ones are done and no longer wait. And at each moment since, a loss could leave what it could before; or of the removals that
 -- waited some first ones are done and at most one more may be done or not, and all else is as it is.
@@ -32,6 +32,6 @@ pub record Trims (most : ℕ) (waited waits : List ℕ) (old : Disk) (before : L
   pub count : ℕ
   pub at_most : count ≤ most
   pub rest : waits ≡ drop count waited
-  pub disk : Becomes old (without (take count waited) old.table) (without (take count waited) old.files) new
+  pub disk : Becomes old (without_keys (take count waited) old.table) (without_keys (take count waited) old.files) new
   pub between : new.honest → (t : ℕ) (found : Files) → t ≤ before.moment → after.left_since t found
       → before.left_since t found ⊎ IsTrimmed most waited old.files found

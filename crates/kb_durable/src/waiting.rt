@@ -3,7 +3,7 @@ ghost use Rattle.std.specs.Prelude.{◌≡◌, ◌≤◌, not, drop, true, false
 ghost use Rattle.std.specs.List.{filter};
 ghost use Rattle.kb_store.specs.Disk.{HasCause};
 ghost use Rattle.kb_store.specs.Loss.{Goes, Only, Clears};
-ghost use Rattle.kb_durable.specs.Waiting.{has, without, AreThere, Trims};
+ghost use Rattle.kb_durable.specs.Waiting.{has, without_keys, AreThere, Trims};
 
 use kb_store::{Direct, StoreFault};
 use std::alloc::{AllocError, Global};
@@ -62,7 +62,7 @@ fn remove_first<S: Direct>(store: &mut S, waiting: &mut VecDeque<u64>) -> Result
     ensures trims { Trims 1 waiting.old.items waiting.new.items (S.disk store.old) (S.loss store.old)
         (S.disk store.new) (S.loss store.new) }
     ensures cause { HasCause (S.disk store.old) result (S.disk store.new) }
-    ensures loss { Goes (Clears (without waiting.old.items (S.disk store.old).table)) (S.loss store.old) (S.loss store.new) }
+    ensures loss { Goes (Clears (without_keys waiting.old.items (S.disk store.old).table)) (S.loss store.old) (S.loss store.new) }
 {
     let Some(file) = waiting.front().copied() else {
         return Ok(false);
@@ -86,7 +86,7 @@ pub(crate) fn remove_some<S: Direct>(
     ensures trims { Trims 16 waiting.old.items waiting.new.items (S.disk store.old) (S.loss store.old)
         (S.disk store.new) (S.loss store.new) }
     ensures cause { HasCause (S.disk store.old) result (S.disk store.new) }
-    ensures loss { Goes (Clears (without waiting.old.items (S.disk store.old).table)) (S.loss store.old) (S.loss store.new) }
+    ensures loss { Goes (Clears (without_keys waiting.old.items (S.disk store.old).table)) (S.loss store.old) (S.loss store.new) }
 {
     for _ in 0..MOST_REMOVALS {
         if !remove_first(store, waiting)? {

@@ -1,11 +1,11 @@
 -- A tenant's connections and events are the same where its own events and the moments are all that comes.
 use Rattle.std.proofs.Common.{◌≡◌, ℕ, List, [], ◌∷◌, Bool, true, false, cond, Option, Some, None, refl, sym, ◌∙◌, ap, arith}
 use Rattle.std.proofs.lemmas.Bool.Decides.{nat_tests}
-use Rattle.kb_isolation_spec.specs.Session.{Stage, Greets, BoundTo, Session, fresh, fed}
+use Rattle.kb_isolation_spec.specs.Session.{Stage, Greets, BoundTo, Session, new_session, fed}
 use Rattle.kb_isolation_spec.specs.Greeting.{Setup}
 use Rattle.kb_isolation_spec.specs.Machine.{Happening, Opens, Comes, Closes, Moment, Line, Sent, those, find_line}
-use Rattle.kb_isolation_spec.specs.Owners.{heard, whose, destiny, unborn, fate_from, owner, is_owner, owned, concerns, purge}
-use Rattle.kb_isolation_spec.specs.Broker.{BrokerState, IsCalmFor, IsRun, owned_by}
+use Rattle.kb_isolation_spec.specs.Owners.{greeted_so_far, whose, destiny, unborn, fate_from, owner, is_owner, owned, concerns, purge}
+use Rattle.kb_isolation_spec.specs.Broker.{BrokerState, IsCalmFor, IsEventRun, owned_by}
 use Rattle.kb_isolation_spec.specs.Isolation.{IsIsolated, StartsAlike, AreAlike, own_events, own_lines, own_sent}
 use Rattle.kb_isolation_spec.specs.Alone.{HasToItself}
 use Rattle.kb_isolation_spec.proofs.Owners.{destiny-bound}
@@ -51,7 +51,7 @@ destiny-purge p setup n s [] h = refl
 destiny-purge p setup n s (Opens m ∷ es) h = let rest = destiny-purge p setup n s es h in grind (arith, rest)
 destiny-purge p setup n s (Comes m piece ∷ es) h =
     let rest = destiny-purge p setup n s es h in
-    let fed = destiny-purge p setup n (heard setup (fed piece s)) es h in
+    let fed = destiny-purge p setup n (greeted_so_far setup (fed piece s)) es h in
     grind (arith, nat_tests, rest, fed)
 destiny-purge p setup n s (Closes m ∷ es) h = let rest = destiny-purge p setup n s es h in grind (arith, nat_tests, rest)
 destiny-purge p setup n s (Moment now ∷ es) h = destiny-purge p setup n s es h
@@ -67,7 +67,7 @@ pub unborn-purge : (p : ℕ → Bool) (setup : Setup) (n : ℕ) (es : List Happe
 unborn-purge p setup n [] h = refl
 unborn-purge p setup n (Opens m ∷ es) h =
     let rest = unborn-purge p setup n es h in
-    let born = destiny-purge p setup n (fresh setup.request_bytes) es h in
+    let born = destiny-purge p setup n (new_session setup.request_bytes) es h in
     grind (arith, nat_tests, rest, born)
 unborn-purge p setup n (Comes m piece ∷ es) h = let rest = unborn-purge p setup n es h in grind (arith, rest)
 unborn-purge p setup n (Closes m ∷ es) h = let rest = unborn-purge p setup n es h in grind (arith, rest)
@@ -84,14 +84,14 @@ unborn-other p setup n (Moment now ∷ es) h = unborn-other p setup n es h
 
 fate-purge : (p : ℕ → Bool) (setup : Setup) (n : ℕ) (o : Option Session) (es : List Happening) → p n ≡ true → fate_from setup n o (purge p es) ≡ fate_from setup n o es
 fate-purge p setup n None es h = unborn-purge p setup n es h
-fate-purge p setup n (Some s) es h = destiny-purge p setup n (heard setup s) es h
+fate-purge p setup n (Some s) es h = destiny-purge p setup n (greeted_so_far setup s) es h
 
 -- a connection of another tenant that says nothing more is bound to that tenant already, or to none
 other-fate : (p : ℕ → Bool) (setup : Setup) (t n : ℕ) (o : Option Session) (es : List Happening) → p n ≡ false → is_owner t (fate_from setup n o es) ≡ false
     → is_owner t (fate_from setup n o (purge p es)) ≡ false
 other-fate p setup t n None es h f = ap (is_owner t) (unborn-other p setup n es h)
 other-fate p setup t n (Some s) es h f =
-    let x = heard setup s in
+    let x = greeted_so_far setup s in
     ap (is_owner t) (destiny-other p setup n x es h) ∙ by x f x.stage refl
   where
     by : (x : Session) → is_owner t (destiny setup n x es) ≡ false → (st : Stage) → x.stage ≡ st → is_owner t (whose x.stage) ≡ false
@@ -138,26 +138,26 @@ events-alone t es shared own h =
 -- 4. Both runs
 
 -- some events of a run are a run
-pub run-purge : (p : ℕ → Bool) (last : ℕ) (es : List Happening) → IsRun last es → IsRun last (purge p es)
+pub run-purge : (p : ℕ → Bool) (last : ℕ) (es : List Happening) → IsEventRun last es → IsEventRun last (purge p es)
 run-purge p last [] r = tt
 run-purge p last (Opens n ∷ es) r = by (p n) (run-purge p n es r.1)
   where
-    by : (b : Bool) → IsRun n (purge p es) → IsRun last (cond b (Opens n ∷ purge p es) (purge p es))
+    by : (b : Bool) → IsEventRun n (purge p es) → IsEventRun last (cond b (Opens n ∷ purge p es) (purge p es))
     by true rest = (r.0, rest)
     by false rest = run-lower last n (purge p es) (let lt = r.0 in omega arith) rest
 run-purge p last (Comes n piece ∷ es) r = by (p n) (run-purge p last es r)
   where
-    by : (b : Bool) → IsRun last (purge p es) → IsRun last (cond b (Comes n piece ∷ purge p es) (purge p es))
+    by : (b : Bool) → IsEventRun last (purge p es) → IsEventRun last (cond b (Comes n piece ∷ purge p es) (purge p es))
     by true rest = rest
     by false rest = rest
 run-purge p last (Closes n ∷ es) r = by (p n) (run-purge p last es r)
   where
-    by : (b : Bool) → IsRun last (purge p es) → IsRun last (cond b (Closes n ∷ purge p es) (purge p es))
+    by : (b : Bool) → IsEventRun last (purge p es) → IsEventRun last (cond b (Closes n ∷ purge p es) (purge p es))
     by true rest = rest
     by false rest = rest
 run-purge p last (Moment now ∷ es) r = (r.0, run-purge p last es r.1)
 
-pub run-own : (t last : ℕ) (es : List Happening) (b : BrokerState) → IsRun last es → IsRun last (own_events t es b)
+pub run-own : (t last : ℕ) (es : List Happening) (b : BrokerState) → IsEventRun last es → IsEventRun last (own_events t es b)
 run-own t last es b r = run-purge (owned_by t es b) last es r
 
 starts-alone : (t : ℕ) (es : List Happening) (shared own : BrokerState) → HasToItself t es shared own → StartsAlike t es (own_events t es shared) shared own

@@ -13,10 +13,10 @@ use Rattle.kb_isolation_spec.specs.declared.shut.Shut.TheVariants as causes
 use Rattle.kb_isolation_spec.specs.Tenant.{Wait, ready}
 use Rattle.kb_isolation_spec.specs.Session.{Greeting, has_member, Stage, Greets, BoundTo, Session, fed, room, overruns, shut_down, without_wait, can}
 use Rattle.kb_isolation_spec.specs.Greeting.{Setup}
-use Rattle.kb_isolation_spec.specs.Machine.{Happening, Comes, Line, View, each, on, those, find_line, first_able, kept_fed, turns, stepped}
-use Rattle.kb_isolation_spec.specs.Owners.{Owns, Fits, whose, heard, destiny}
+use Rattle.kb_isolation_spec.specs.Machine.{Happening, Comes, Line, View, each_line, on, those, find_line, first_able, kept_fed, turns, stepped}
+use Rattle.kb_isolation_spec.specs.Owners.{OwnsLines, Fits, whose, greeted_so_far, destiny}
 use Rattle.kb_isolation_spec.specs.Calls.{left_by}
-use Rattle.kb_isolation_spec.specs.Broker.{BrokerState, IsUnready, AnyWait, kept_of, IsReady, IsSound, IsStep, IsUntaken, Rising, Mine, view_of}
+use Rattle.kb_isolation_spec.specs.Broker.{BrokerState, IsUnready, AnyWait, kept_of_tenant, IsReady, IsSound, IsStep, IsUntaken, Rising, Mine, view_of}
 use Rattle.kb_isolation_spec.specs.Turned.{Scope, Of, IsStill, AreStill, Turned, IsFed, IsGoing}
 use Rattle.kb_tenant_api.specs.Hosted.{Kept}
 use Rattle.kb_isolation_spec.proofs.Laws.{none-those, turns-none, those-each}
@@ -36,7 +36,7 @@ comes-above : (setup : Setup) (t low last n : ℕ) (mine : ℕ → Bool) (piece 
 comes-above setup t low last n mine piece es [] r h o = tt
 comes-above setup t low last n mine piece es (l ∷ ls) r h o =
     let ne : eqb n l.number ≡ false = (let lt = r.0 in grind (arith, nat_tests)) in
-    (subst (Fits t (mine l.number)) (ap (λ (b : Bool). cond b (destiny setup l.number (heard setup (fed piece (heard setup l.session))) es) (destiny setup l.number (heard setup l.session) es)) ne) o.0, comes-above setup t l.number last n mine piece es ls r.1 (let lt = r.0 in omega arith) o.1)
+    (subst (Fits t (mine l.number)) (ap (λ (b : Bool). cond b (destiny setup l.number (greeted_so_far setup (fed piece (greeted_so_far setup l.session))) es) (destiny setup l.number (greeted_so_far setup l.session) es)) ne) o.0, comes-above setup t l.number last n mine piece es ls r.1 (let lt = r.0 in omega arith) o.1)
 
 comes-set : (setup : Setup) (t low last : ℕ) (mine : ℕ → Bool) (piece : List ℕ) (es : List Happening) (ls : List Line) (i : ℕ) (l m : Line) → Rising low last ls → IsAt ls i l → m.number ≡ l.number →
     (IsMine setup t mine (Comes l.number piece ∷ es) l → IsMine setup t mine es m) → AllByRecursion (IsMine setup t mine (Comes l.number piece ∷ es)) ls → AllByRecursion (IsMine setup t mine es) (set ls i m)
@@ -47,30 +47,30 @@ comes-set setup t low last mine piece es (k ∷ ls) zero l m r a e f o =
 comes-set setup t low last mine piece es (k ∷ ls) (suc i) l m r a e f o =
     let lt : k.number < l.number = rising-above k.number last ls i l r.1 (tail-at k ls i l a) in
     let ne : eqb l.number k.number ≡ false = grind (arith, nat_tests) in
-    (subst (Fits t (mine k.number)) (ap (λ (b : Bool). cond b (destiny setup k.number (heard setup (fed piece (heard setup k.session))) es) (destiny setup k.number (heard setup k.session) es)) ne) o.0, comes-set setup t k.number last mine piece es ls i l m r.1 (tail-at k ls i l a) e f o.1)
+    (subst (Fits t (mine k.number)) (ap (λ (b : Bool). cond b (destiny setup k.number (greeted_so_far setup (fed piece (greeted_so_far setup k.session))) es) (destiny setup k.number (greeted_so_far setup k.session) es)) ne) o.0, comes-set setup t k.number last mine piece es ls i l m r.1 (tail-at k ls i l a) e f o.1)
 
 comes-none : (setup : Setup) (t n : ℕ) (mine : ℕ → Bool) (piece : List ℕ) (es : List Happening) (ls : List Line) → AllByRecursion (λ l. l.number ≢ n) ls → AllByRecursion (IsMine setup t mine (Comes n piece ∷ es)) ls → AllByRecursion (IsMine setup t mine es) ls
 comes-none setup t n mine piece es [] h o = tt
 comes-none setup t n mine piece es (l ∷ ls) h o =
     let no = h.0 in
     let ne : eqb n l.number ≡ false = grind (arith, nat_tests) in
-    (subst (Fits t (mine l.number)) (ap (λ (b : Bool). cond b (destiny setup l.number (heard setup (fed piece (heard setup l.session))) es) (destiny setup l.number (heard setup l.session) es)) ne) o.0, comes-none setup t n mine piece es ls h.1 o.1)
+    (subst (Fits t (mine l.number)) (ap (λ (b : Bool). cond b (destiny setup l.number (greeted_so_far setup (fed piece (greeted_so_far setup l.session))) es) (destiny setup l.number (greeted_so_far setup l.session) es)) ne) o.0, comes-none setup t n mine piece es ls h.1 o.1)
 
 -- the connection that the piece came on, if it was kept
 pub comes-fed : (setup : Setup) (t : ℕ) (mine : ℕ → Bool) (piece : List ℕ) (es : List Happening) (l m : Line) → can l.session ≡ false → m.number ≡ l.number → m.session ≡ fed piece l.session → IsMine setup t mine (Comes l.number piece ∷ es) l → IsMine setup t mine es m
 comes-fed setup t mine piece es l m c n e h =
     let same : eqb l.number l.number ≡ true = grind (arith, nat_tests) in
-    let still : heard setup l.session ≡ l.session = heard-still setup l.session c in
-    let g : Fits t (mine l.number) (destiny setup l.number (heard setup (fed piece (heard setup l.session))) es) = subst (Fits t (mine l.number)) (ap (λ (b : Bool). cond b (destiny setup l.number (heard setup (fed piece (heard setup l.session))) es) (destiny setup l.number (heard setup l.session) es)) same) h in
-    let k : Fits t (mine l.number) (destiny setup l.number (heard setup m.session) es) = subst (λ x. Fits t (mine l.number) (destiny setup l.number (heard setup x) es)) (ap (fed piece) still ∙ sym e) g in
-    subst (λ x. Fits t (mine x) (destiny setup x (heard setup m.session) es)) (sym n) k
+    let still : greeted_so_far setup l.session ≡ l.session = heard-still setup l.session c in
+    let g : Fits t (mine l.number) (destiny setup l.number (greeted_so_far setup (fed piece (greeted_so_far setup l.session))) es) = subst (Fits t (mine l.number)) (ap (λ (b : Bool). cond b (destiny setup l.number (greeted_so_far setup (fed piece (greeted_so_far setup l.session))) es) (destiny setup l.number (greeted_so_far setup l.session) es)) same) h in
+    let k : Fits t (mine l.number) (destiny setup l.number (greeted_so_far setup m.session) es) = subst (λ x. Fits t (mine l.number) (destiny setup l.number (greeted_so_far setup x) es)) (ap (fed piece) still ∙ sym e) g in
+    subst (λ x. Fits t (mine x) (destiny setup x (greeted_so_far setup m.session) es)) (sym n) k
 
 -- a bound connection, whatever it is left as
 comes-bound : (setup : Setup) (t u : ℕ) (mine : ℕ → Bool) (piece : List ℕ) (es : List Happening) (l m : Line) → IsBound u l.session → IsBound u m.session → m.number ≡ l.number → IsMine setup t mine (Comes l.number piece ∷ es) l → IsMine setup t mine es m
 comes-bound setup t u mine piece es l m p q n h =
     let g : Fits t (mine l.number) (Some u) = subst (Fits t (mine l.number)) (fate-bound setup l.number l.session (Comes l.number piece ∷ es) u p) h in
-    let k : Fits t (mine l.number) (destiny setup m.number (heard setup m.session) es) = subst (Fits t (mine l.number)) (sym (fate-bound setup m.number m.session es u q)) g in
-    subst (λ y. Fits t (mine y) (destiny setup m.number (heard setup m.session) es)) (sym n) k
+    let k : Fits t (mine l.number) (destiny setup m.number (greeted_so_far setup m.session) es) = subst (Fits t (mine l.number)) (sym (fate-bound setup m.number m.session es u q)) g in
+    subst (λ y. Fits t (mine y) (destiny setup m.number (greeted_so_far setup m.session) es)) (sym n) k
 
 whose-same : (a b : Stage) → without_wait b ≡ without_wait a → whose b ≡ whose a
 whose-same (Greets g) (Greets h) e = refl
@@ -89,12 +89,12 @@ fed-still : (b : BrokerState) (i : ℕ) (l m : Line) (ps : List TenantState) (x 
 fed-still b i l m ps x none n g = changed-still (Of l.number) b i m ps x g (still-settled (Of l.number) b none) (λ c. inl n)
 
 view-fed : (w : View) (mine : ℕ → Bool) (n : ℕ) (piece : List ℕ) (ls : List Line) (kept : Kept) (yes : Bool) → mine n ≡ yes → w.lines ≡ those mine ls → first_able ls ≡ None → (yes ≡ true → kept ≡ kept_fed piece w.clock n (find_line n w.lines) w.kept) → (yes ≡ false → kept ≡ w.kept)
-    → turns (record w { kept = kept; lines = those mine (each (on n (fed piece)) ls) }) ≡ stepped yes (Comes n piece) w
+    → turns (record w { kept = kept; lines = those mine (each_line (on n (fed piece)) ls) }) ≡ stepped yes (Comes n piece) w
 view-fed w mine n piece ls kept true m f none own other =
-    ap (λ k. turns (record w { kept = k; lines = those mine (each (on n (fed piece)) ls) })) (own refl)
-    ∙ ap (λ x. turns (record w { kept = kept_fed piece w.clock n (find_line n w.lines) w.kept; lines = x })) (those-each mine (on n (fed piece)) ls ∙ ap (each (on n (fed piece))) (sym f))
+    ap (λ k. turns (record w { kept = k; lines = those mine (each_line (on n (fed piece)) ls) })) (own refl)
+    ∙ ap (λ x. turns (record w { kept = kept_fed piece w.clock n (find_line n w.lines) w.kept; lines = x })) (those-each mine (on n (fed piece)) ls ∙ ap (each_line (on n (fed piece))) (sym f))
 view-fed w mine n piece ls kept false m f none own other =
-    ap (λ k. turns (record w { kept = k; lines = those mine (each (on n (fed piece)) ls) })) (other refl)
+    ap (λ k. turns (record w { kept = k; lines = those mine (each_line (on n (fed piece)) ls) })) (other refl)
     ∙ (ap (λ x. turns (with_lines w x)) (those-on_other mine n (fed piece) ls m ∙ sym f) ∙ turns-none w (ap first_able f ∙ none-those mine ls none))
 
 unready-fed : (P : ℕ → Wait → Type 0) (b : BrokerState) (n : ℕ) (piece : List ℕ) (s : Session) → IsUnready P b n s.stage → IsUnready P b n (fed piece s).stage
@@ -123,7 +123,7 @@ fed-kept b i l m piece ts s settled at n e is = subst (λ xs. IsFed l.number pie
         let same : without_wait m.session.stage ≡ without_wait l.session.stage = ap (λ (x : Session). without_wait x.stage) e ∙ stage-fed piece l.session in
         let owner : whose m.session.stage ≡ whose l.session.stage = whose-same l.session.stage m.session.stage same in
         let still = all-at (λ x. can x.session ≡ false) b.lines i l at (all-still b.lines settled) in
-        let lines : set b.lines i m ≡ each (on l.number (fed piece)) b.lines = set-on 0 b.last (fed piece) b.lines i l m s.rising at n e in
+        let lines : set b.lines i m ≡ each_line (on l.number (fed piece)) b.lines = set-on 0 b.last (fed piece) b.lines i l m s.rising at n e in
         let going = changed-going b i l m ts b.unbound_refusals s at n (length-fed piece b.clock l.number l.session b.tenants) (range-same (length b.tenants) l.session.stage m.session.stage same (all-at _ b.lines i l at s.in_range))
         (record { setup = refl; names = names-fed piece b.clock l.number l.session b.tenants; own = λ t. (let c = counts t in omega (arith, c)); unbound = omega arith }) (λ t f. owner ∙ f) in
         record {
@@ -140,7 +140,7 @@ fed-kept b i l m piece ts s settled at n e is = subst (λ xs. IsFed l.number pie
               ap (λ x. turns (record (view_of t mine b) { kept = hosted.kept_of ts t; lines = those mine x })) lines
               ∙ view-fed (view_of t mine b) mine l.number piece b.lines (hosted.kept_of ts t) (mine l.number) refl refl settled
               (λ yes. kept-fed b.setup t b.clock mine (Comes l.number piece ∷ es) b.tenants piece l own yes
-              ∙ ap (λ o. kept_fed piece b.clock l.number o (kept_of b t)) (sym (find-those mine l.number b.lines yes ∙ find-at 0 b.last b.lines i l s.rising at)))
+              ∙ ap (λ o. kept_fed piece b.clock l.number o (kept_of_tenant b t)) (sym (find-those mine l.number b.lines yes ∙ find-at 0 b.last b.lines i l s.rising at)))
               (λ no. kept-unfed b.setup t b.clock mine (Comes l.number piece ∷ es) b.tenants piece l own no);
         }
 
@@ -163,19 +163,19 @@ fed-refused b i l m piece h x s settled at g n e up rises =
       view = λ t mine es k calm. absurd (rises calm.unbound);
     }
 
-view-hidden : (w : View) (mine : ℕ → Bool) (n : ℕ) (f : Session → Session) (piece : List ℕ) (ls : List Line) → mine n ≡ false → w.lines ≡ those mine ls → first_able ls ≡ None → turns (with_lines w (those mine (each (on n f) ls))) ≡ stepped (mine n) (Comes n piece) w
+view-hidden : (w : View) (mine : ℕ → Bool) (n : ℕ) (f : Session → Session) (piece : List ℕ) (ls : List Line) → mine n ≡ false → w.lines ≡ those mine ls → first_able ls ≡ None → turns (with_lines w (those mine (each_line (on n f) ls))) ≡ stepped (mine n) (Comes n piece) w
 view-hidden w mine n f piece ls m e none =
     ap (λ x. turns (with_lines w x)) (those-on_other mine n f ls m ∙ sym e) ∙ (turns-none w (ap first_able e ∙ none-those mine ls none) ∙ sym (ap (λ y. stepped y (Comes n piece) w) m))
 
 -- a bound connection's piece could not be kept: a refusal is counted for its tenant, whatever it keeps then, as long as nothing becomes ready
 pub fed-loud : (b : BrokerState) (i u : ℕ) (l m : Line) (piece : List ℕ) (w : Option Wait) (H : Type 0) (ts : List TenantState) → IsSound b → first_able b.lines ≡ None → IsAt b.lines i l → l.session.stage ≡ BoundTo u w → m.number ≡ l.number → m.session ≡ shut_down causes.Memory l.session →
-    IsTurn u H b.tenants ts → H → ((t k : ℕ) (w : Wait) → ready (kept_of b t) b.clock k w ≡ Silent → ready (hosted.kept_of ts t) b.clock k w ≡ Silent) → (IsCalm (count b.tenants u) (count ts u) → ⊥) → (NoneStranded b → NoneStranded (changed b i m ts b.unbound_refusals)) → IsFed l.number piece b (changed b i m ts b.unbound_refusals)
+    IsTurn u H b.tenants ts → H → ((t k : ℕ) (w : Wait) → ready (kept_of_tenant b t) b.clock k w ≡ Silent → ready (hosted.kept_of ts t) b.clock k w ≡ Silent) → (IsCalm (count b.tenants u) (count ts u) → ⊥) → (NoneStranded b → NoneStranded (changed b i m ts b.unbound_refusals)) → IsFed l.number piece b (changed b i m ts b.unbound_refusals)
 fed-loud b i u l m piece w H ts s settled at g n e turn honest quiet loud held =
     let p : IsBound u l.session = record { wait = w; is = g } in
     let same : without_wait m.session.stage ≡ without_wait l.session.stage = ap (λ (x : Session). without_wait x.stage) e ∙ stage-shut l.session in
     let q : IsBound u m.session = bound-same u l.session m.session p same in
     let new = changed b i m ts b.unbound_refusals in
-    let lines : set b.lines i m ≡ each (on l.number (λ z. m.session)) b.lines = set-on 0 b.last (λ z. m.session) b.lines i l m s.rising at n refl in
+    let lines : set b.lines i m ≡ each_line (on l.number (λ z. m.session)) b.lines = set-on 0 b.last (λ z. m.session) b.lines i l m s.rising at n refl in
     let going = called-going b i u l m H ts s at p n same turn in
     record {
       going = going;
@@ -191,14 +191,14 @@ fed-loud b i u l m piece w H ts s settled at g n e turn honest quiet loud held =
           let is' : mine l.number ≡ eqb u t = mine-bound b.setup t mine (Comes l.number piece ∷ es) l u p (all-at (IsMine b.setup t mine (Comes l.number piece ∷ es)) b.lines i l at k'.now) in
           let no : mine l.number ≡ false = is' ∙ grind (arith, nat_tests) in
           ap (λ z. turns (record (view_of t mine b) { kept = hosted.kept_of ts t; lines = those mine z })) lines
-          ∙ (ap (λ z. turns (record (view_of t mine b) { kept = z; lines = those mine (each (on l.number (λ z. m.session)) b.lines) })) (turn.others honest t ne)
+          ∙ (ap (λ z. turns (record (view_of t mine b) { kept = z; lines = those mine (each_line (on l.number (λ z. m.session)) b.lines) })) (turn.others honest t ne)
           ∙ view-hidden (view_of t mine b) mine l.number (λ z. m.session) piece b.lines no refl settled))
           k calm.own;
     }
 
 -- or its tenant keeps what it kept
 pub fed-bound : (b : BrokerState) (i u : ℕ) (l m : Line) (piece : List ℕ) (w : Option Wait) (H : Type 0) (ts : List TenantState) → IsSound b → first_able b.lines ≡ None → IsAt b.lines i l → l.session.stage ≡ BoundTo u w → m.number ≡ l.number → m.session ≡ shut_down causes.Memory l.session →
-    IsTurn u H b.tenants ts → H → ((t : ℕ) → hosted.kept_of ts t ≡ kept_of b t) → (IsCalm (count b.tenants u) (count ts u) → ⊥) → (NoneStranded b → NoneStranded (changed b i m ts b.unbound_refusals)) → IsFed l.number piece b (changed b i m ts b.unbound_refusals)
+    IsTurn u H b.tenants ts → H → ((t : ℕ) → hosted.kept_of ts t ≡ kept_of_tenant b t) → (IsCalm (count b.tenants u) (count ts u) → ⊥) → (NoneStranded b → NoneStranded (changed b i m ts b.unbound_refusals)) → IsFed l.number piece b (changed b i m ts b.unbound_refusals)
 fed-bound b i u l m piece w H ts s settled at g n e turn honest stays loud held =
     fed-loud b i u l m piece w H ts s settled at g n e turn honest (λ t k x silent. ap (λ kept. ready kept b.clock k x) (stays t) ∙ silent) loud held
 
@@ -239,7 +239,7 @@ step-not_open b n piece r none = record {
     by t mine true =
         let v = view_of t mine b in
         let gone = all-those _ mine b.lines none in
-        sym (ap (λ o. turns (record v { kept = kept_fed piece b.clock n o v.kept; lines = each (on n (fed piece)) (those mine b.lines) })) (find-none n (those mine b.lines) gone)
+        sym (ap (λ o. turns (record v { kept = kept_fed piece b.clock n o v.kept; lines = each_line (on n (fed piece)) (those mine b.lines) })) (find-none n (those mine b.lines) gone)
         ∙ (ap (λ x. turns (with_lines v x)) (each-on_none n (fed piece) (those mine b.lines) gone) ∙ settled-turns t mine b r.settled))
     by t mine false = refl
 
@@ -264,7 +264,7 @@ step-same b i l piece r at e fits =
       last = omega arith;
       grows = grows-same b;
       counted = record { own = λ t ne. refl; unbound = λ t g. refl; none = λ u. record { own = λ t. refl; unbound = refl } };
-      mine = λ t mine es m q. subst (Owns b.setup t mine b.last es) same (f.mine t mine es m q);
+      mine = λ t mine es m q. subst (OwnsLines b.setup t mine b.last es) same (f.mine t mine es m q);
       view = λ t mine es m q. sym (settled-turns t mine b r.settled) ∙ (ap (λ x. turns (with_lines (view_of t mine b) (those mine x))) (sym same) ∙ f.view t mine es m (record { own = q.own; unbound = q.unbound }));
     }
 

@@ -13,7 +13,7 @@ use Rattle.kb_isolation_spec.specs.Requests.{Asked, Versions, OtherVersions, Han
 use Rattle.kb_isolation_spec.specs.Tenant.{kept_after}
 use Rattle.kb_isolation_spec.specs.Session.{Stage, Greets, BoundTo, Session, fed, overruns, has_member, in_front}
 use Rattle.kb_isolation_spec.specs.Greeting.{Setup, for_tenant}
-use Rattle.kb_isolation_spec.specs.Machine.{Happening, Opens, Comes, Closes, Moment, Line, View, put, kept_by, kept_at, each, on, find_line, first_able, all_woken, turn_at, turn_of, turn, again, work, turns, kept_without, kept_closed, kept_fed, step}
+use Rattle.kb_isolation_spec.specs.Machine.{Happening, Opens, Comes, Closes, Moment, Line, View, kept_by_turn, kept_by, kept_at, each_line, on, find_line, first_able, all_woken, turn_at, turn_of, turn, again, work, turns, kept_without, kept_closed, kept_fed, step}
 use Rattle.kb_isolation_spec.specs.Left.{last_world}
 use Rattle.kb_isolation_spec.specs.Fetches.{ServesBatches, WakesWithBatches, AllWakeWithBatches, after_request, TurnGivesBatches, NextGivesBatches, TurnsGiveBatches, EventGivesBatches, FetchesGetBatches}
 use Rattle.kb_isolation_spec.proofs.Fetches.{served-batches, woken-batches}
@@ -66,8 +66,8 @@ small-at setup kept clock n TooSmall small = small
 small-at setup kept clock n TooLarge small = small
 small-at setup kept clock n Partial small = small
 
-small-put : (setup : Setup) (kept : Kept) (clock n : ℕ) (f : Front) → HasSmallLogs kept.world → HasSmallLogs (put setup kept clock n f).world
-unfolding put
+small-put : (setup : Setup) (kept : Kept) (clock n : ℕ) (f : Front) → HasSmallLogs kept.world → HasSmallLogs (kept_by_turn setup kept clock n f).world
+unfolding kept_by_turn
 small-put setup kept clock n f small = small-at setup kept clock n f small
 
 small-turn_at : (w : View) (n : ℕ) (f : Front) (stage : Stage) → IsSmall w → IsSmall (turn_at w n f stage)
@@ -94,7 +94,7 @@ small-step : (e : Happening) (w : View) → IsSmall w → IsSmall (step e w)
 small-step (Opens n) w small = small
 small-step (Comes n piece) w small =
     let o = find_line n w.lines in
-    small-turns (record w { kept = kept_fed piece w.clock n o w.kept; lines = each (on n (fed piece)) w.lines }) (small-fed piece w.clock n o w.kept small)
+    small-turns (record w { kept = kept_fed piece w.clock n o w.kept; lines = each_line (on n (fed piece)) w.lines }) (small-fed piece w.clock n o w.kept small)
 small-step (Closes n) w small = small-closed w.clock n (find_line n w.lines) w.kept small
 small-step (Moment now) w small =
     let clock = max w.clock now in
@@ -135,7 +135,7 @@ event-gives : (e : Happening) (w : View) → IsSmall w → EventGivesBatches e w
 event-gives (Opens n) w small = tt
 event-gives (Comes n piece) w small =
     let o = find_line n w.lines in
-    let next = record w { kept = kept_fed piece w.clock n o w.kept; lines = each (on n (fed piece)) w.lines } in
+    let next = record w { kept = kept_fed piece w.clock n o w.kept; lines = each_line (on n (fed piece)) w.lines } in
     turns-give (work next.lines) next (small-fed piece w.clock n o w.kept small)
 event-gives (Closes n) w small = tt
 event-gives (Moment now) w small =

@@ -13,14 +13,14 @@ use Rattle.kb_tenant.proofs.Batches.{looked-holds}
 use Rattle.kb_tenant_api.proofs.Laws.{served-holds}
 use Rattle.kb_isolation_spec.specs.declared.head.Head.{Head}
 use Rattle.kb_isolation_spec.specs.Requests.{Another, request}
-use Rattle.kb_isolation_spec.specs.Tenant.{Wait, Records, answer, ready}
+use Rattle.kb_isolation_spec.specs.Tenant.{Wait, Records, reaction_to, ready}
 use Rattle.kb_isolation_spec.specs.Session.{BoundTo, Session, without_wait, in_front}
 use Rattle.kb_isolation_spec.specs.Greeting.{Setup}
 use Rattle.kb_isolation_spec.specs.Machine.{after_reaction, served_by, served_at, after_turn, told, woken_by, woken}
 use Rattle.kb_isolation_spec.specs.Fetches.{GetsBatches}
 
-answer-holds : (setup : Setup) (kept : Kept) (clock n : ℕ) (version : ℤ) (body reply : List ℕ) (r : FetchRequest) → HasSmallLogs kept.world → asked_fetch version body ≡ Ok r → answer setup.node kept clock n FETCH version body ≡ Plain (Replies reply) → HoldsBatches version kept.world r reply
-unfolding answer
+answer-holds : (setup : Setup) (kept : Kept) (clock n : ℕ) (version : ℤ) (body reply : List ℕ) (r : FetchRequest) → HasSmallLogs kept.world → asked_fetch version body ≡ Ok r → reaction_to setup.node kept clock n FETCH version body ≡ Plain (Replies reply) → HoldsBatches version kept.world r reply
+unfolding reaction_to
 answer-holds setup kept clock n version body reply r small read e = served-holds setup.node kept.world clock kept.groups n version body reply r small read e
 
 ready-holds : (kept : Kept) (clock n : ℕ) (head : Head) (version : ℤ) (body : List ℕ) (deadline : ℕ) (limit : Option ℕ) (reply : List ℕ) (r : FetchRequest) → HasSmallLogs kept.world → asked_fetch version body ≡ Ok r
@@ -28,7 +28,7 @@ ready-holds : (kept : Kept) (clock n : ℕ) (head : Head) (version : ℤ) (body 
 unfolding ready
 ready-holds kept clock n head version body deadline limit reply r small read e = looked-holds kept.world clock deadline version limit body reply r small read e
 
-answered_by : (setup : Setup) (kept : Kept) (clock n : ℕ) (head : Head) (version : ℤ) (body : List ℕ) (s : Session) (r : FetchRequest) → HasSmallLogs kept.world → asked_fetch version body ≡ Ok r → (x : Reaction) → answer setup.node kept clock n FETCH version body ≡ x → GetsBatches kept.world version r head s (after_reaction x head version body s)
+answered_by : (setup : Setup) (kept : Kept) (clock n : ℕ) (head : Head) (version : ℤ) (body : List ℕ) (s : Session) (r : FetchRequest) → HasSmallLogs kept.world → asked_fetch version body ≡ Ok r → (x : Reaction) → reaction_to setup.node kept clock n FETCH version body ≡ x → GetsBatches kept.world version r head s (after_reaction x head version body s)
 answered_by setup kept clock n head version body s r small read (Plain (Replies reply)) e = inl (reply, answer-holds setup kept clock n version body reply r small read e, refl)
 answered_by setup kept clock n head version body s r small read (Plain (Waits deadline limit places)) e = inr refl
 answered_by setup kept clock n head version body s r small read (Plain Silent) e = inr refl
@@ -42,9 +42,9 @@ unfolding after_turn served_by
 served-batches setup kept clock n s frame rest version body r small at asks read =
     let head = (request setup.versions frame).head in
     let from : Session = record s { unread = rest } in
-    let is : served_at setup kept clock n s (in_front s) ≡ after_reaction (answer setup.node kept clock n FETCH version body) head version body from =
+    let is : served_at setup kept clock n s (in_front s) ≡ after_reaction (reaction_to setup.node kept clock n FETCH version body) head version body from =
     ap (served_at setup kept clock n s) at ∙ ap (λ a. served_by setup kept clock n head a from) asks in
-    subst (GetsBatches kept.world version r head from) (sym is) (answered_by setup kept clock n head version body from r small read (answer setup.node kept clock n FETCH version body) refl)
+    subst (GetsBatches kept.world version r head from) (sym is) (answered_by setup kept clock n head version body from r small read (reaction_to setup.node kept clock n FETCH version body) refl)
 
 told_by : (kept : Kept) (clock n : ℕ) (head : Head) (version : ℤ) (body : List ℕ) (deadline : ℕ) (limit : Option ℕ) (s : Session) (r : FetchRequest) → HasSmallLogs kept.world → asked_fetch version body ≡ Ok r → (x : tenant.Reaction)
     → ready kept clock n (record { head = head; awaited = Records version body deadline limit }) ≡ x → GetsBatches kept.world version r head (record s { stage = without_wait s.stage }) (told x head s)

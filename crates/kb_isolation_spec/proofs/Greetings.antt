@@ -5,11 +5,11 @@ use Rattle.std.proofs.lemmas.Bool.Decides.{nat_tests}
 use Rattle.kb_wire.specs.Codec.{int}
 use Rattle.kb_api_group.specs.Frames.{front}
 use Rattle.kb_tenant_api.specs.Hosted.{Kept, passed}
-use Rattle.kb_isolation_spec.specs.Session.{Greeting, Stage, Greets, BoundTo, Session, fresh, overruns, fed, can, is_turn, in_front}
+use Rattle.kb_isolation_spec.specs.Session.{Greeting, Stage, Greets, BoundTo, Session, new_session, overruns, fed, can, is_turn, in_front}
 use Rattle.kb_isolation_spec.specs.Greeting.{Setup, greeted}
-use Rattle.kb_isolation_spec.specs.Machine.{Happening, Opens, Comes, Closes, Moment, Line, View, Sent, woken_by, those, each, on, first_able, turn_at, turn, turns, again, kept_without, kept_closed, kept_fed, step, run, sent, by_number, find_line}
-use Rattle.kb_isolation_spec.specs.Owners.{greet_turn, greet_turn_at, heard, whose, destiny, unborn, fate_from, purge}
-use Rattle.kb_isolation_spec.specs.Broker.{BrokerState, Rising, IsRun, IsReady, IsUnowned, view_of, only, alone_unowned}
+use Rattle.kb_isolation_spec.specs.Machine.{Happening, Opens, Comes, Closes, Moment, Line, View, Sent, woken_by, those, each_line, on, first_able, turn_at, turn, turns, again, kept_without, kept_closed, kept_fed, step, run, sent, by_number, find_line}
+use Rattle.kb_isolation_spec.specs.Owners.{greet_turn, greet_turn_at, greeted_so_far, whose, destiny, unborn, fate_from, purge}
+use Rattle.kb_isolation_spec.specs.Broker.{BrokerState, Rising, IsEventRun, IsReady, IsUnowned, view_of, only, alone_unowned}
 use Rattle.kb_isolation_spec.specs.Greetings.{pieces_of, greeting, once_opened, greeted_from, sent_by, greeted_alone}
 use Rattle.kb_isolation_spec.proofs.Laws.{turn-none, turn-some, turns-none, greeted-still}
 use Rattle.kb_isolation_spec.proofs.Owners.{destiny-bound, heard-still}
@@ -27,7 +27,7 @@ empty w = record w { lines = [] }
 eqb-self : (n : ℕ) → eqb n n ≡ true
 eqb-self n = grind (arith, nat_tests)
 
-each-lone : (n : ℕ) (f : Session → Session) (s : Session) → each (on n f) (record { number = n; session = s } ∷ []) ≡ record { number = n; session = f s } ∷ []
+each-lone : (n : ℕ) (f : Session → Session) (s : Session) → each_line (on n f) (record { number = n; session = s } ∷ []) ≡ record { number = n; session = f s } ∷ []
 each-lone n f s = ap (λ b. (let l : Line = record { number = n; session = cond b (f s) s } in l) ∷ []) (eqb-self n)
 
 able-lone : (n : ℕ) (s : Session) (b : Bool) → can s ≡ b → first_able (record { number = n; session = s } ∷ []) ≡ cond b (Some (record { number = n; session = s })) None
@@ -67,8 +67,8 @@ again-lone w n zero s u = refl
 again-lone w n (suc k) s u =
     ap (again turn k) (turn-lone w n s s.stage refl (before-unbound w.setup (suc k) s s.stage refl u)) ∙ again-lone w n k (greet_turn w.setup s) u
 
-turns-lone : (w : View) (n : ℕ) (s : Session) → whose (heard w.setup s).stage ≡ None → turns (lone w n s) ≡ lone w n (heard w.setup s)
-unfolding turns heard
+turns-lone : (w : View) (n : ℕ) (s : Session) → whose (greeted_so_far w.setup s).stage ≡ None → turns (lone w n s) ≡ lone w n (greeted_so_far w.setup s)
+unfolding turns greeted_so_far
 turns-lone w n s u =
     let all : length s.unread + 0 ≡ length s.unread = omega arith in
     ap (λ k. again turn k (lone w n s)) all ∙ again-lone w n (length s.unread) s u
@@ -108,7 +108,7 @@ comes-empty w n piece = turns-none (empty w) refl
 other-number : (n m last : ℕ) → n ≤ last → last < m → eqb m n ≡ false
 other-number n m last le lt = grind (arith, nat_tests)
 
-run-gone : (n last : ℕ) (es : List Happening) (w : View) → n ≤ last → IsRun last es → run (purge (only n) es) (empty w) ≡ []
+run-gone : (n last : ℕ) (es : List Happening) (w : View) → n ≤ last → IsEventRun last es → run (purge (only n) es) (empty w) ≡ []
 run-gone n last [] w le r = refl
 run-gone n last (Opens m ∷ es) w le r =
     ap (λ b. run (cond b (Opens m ∷ purge (only n) es) (purge (only n) es)) (empty w)) (other-number n m last le r.0) ∙ run-gone n m es w (let lt = r.0 in omega arith) r.1
@@ -137,17 +137,17 @@ cond-none true x y e = (λ h. e, λ h. absurd (cc))
 cond-none false x y e = (λ h. absurd (cc), λ h. e)
 
 -- heard, it can take no turn
-settled-heard : (w : View) (n : ℕ) (s : Session) → whose (heard w.setup s).stage ≡ None → can (heard w.setup s) ≡ false
-settled-heard w n s u = by (can (heard w.setup s)) refl
+settled-heard : (w : View) (n : ℕ) (s : Session) → whose (greeted_so_far w.setup s).stage ≡ None → can (greeted_so_far w.setup s) ≡ false
+settled-heard w n s u = by (can (greeted_so_far w.setup s)) refl
   where
-    by : (b : Bool) → can (heard w.setup s) ≡ b → b ≡ false
+    by : (b : Bool) → can (greeted_so_far w.setup s) ≡ b → b ≡ false
     by false e = refl
     by true e =
-        let none : first_able (lone w n (heard w.setup s)).lines ≡ None = sym (ap (λ (v : View). first_able v.lines) (turns-lone w n s u)) ∙ turns-settled (lone w n s) in
-        let some : first_able (lone w n (heard w.setup s)).lines ≡ Some (record { number = n; session = heard w.setup s }) = able-lone n (heard w.setup s) true e in
+        let none : first_able (lone w n (greeted_so_far w.setup s)).lines ≡ None = sym (ap (λ (v : View). first_able v.lines) (turns-lone w n s u)) ∙ turns-settled (lone w n s) in
+        let some : first_able (lone w n (greeted_so_far w.setup s)).lines ≡ Some (record { number = n; session = greeted_so_far w.setup s }) = able-lone n (greeted_so_far w.setup s) true e in
         absurd (cc)
 
-run-lone : (n last : ℕ) (es : List Happening) (w : View) (s : Session) → n ≤ last → IsRun last es → can s ≡ false → destiny w.setup n s es ≡ None
+run-lone : (n last : ℕ) (es : List Happening) (w : View) (s : Session) → n ≤ last → IsEventRun last es → can s ≡ false → destiny w.setup n s es ≡ None
     → run (purge (only n) es) (lone w n s) ≡ sent_by n (Some (greeting w.setup s (pieces_of n es)))
 run-lone n last [] w s le r c d = refl
 run-lone n last (Opens m ∷ es) w s le r c d =
@@ -157,15 +157,15 @@ run-lone n last (Comes m piece ∷ es) w s le r c d = by (eqb m n) refl (λ x. r
     by : (b : Bool) → eqb m n ≡ b → ((x : Session) → can x ≡ false → destiny w.setup n x es ≡ None → run (purge (only n) es) (lone w n x) ≡ sent_by n (Some (greeting w.setup x (pieces_of n es)))) → run (cond b (Comes m piece ∷ purge (only n) es) (purge (only n) es)) (lone w n s) ≡ sent_by n (Some (greeting w.setup s (cond b (piece ∷ pieces_of n es) (pieces_of n es))))
     by true e rest =
         let f = fed piece s in
-        let later : destiny w.setup n (heard w.setup f) es ≡ None = (cond-none (eqb m n) (destiny w.setup n (heard w.setup f) es) (destiny w.setup n s es) d).0 e in
-        let u : whose (heard w.setup f).stage ≡ None = now-unbound w.setup n (heard w.setup f) es (heard w.setup f).stage refl later in
-        let here : each (on m (fed piece)) (record { number = n; session = s } ∷ []) ≡ record { number = n; session = f } ∷ [] = let is : m ≡ n = grind (arith, nat_tests) in ap (λ k. each (on k (fed piece)) (record { number = n; session = s } ∷ [])) is ∙ each-lone n (fed piece) s in
+        let later : destiny w.setup n (greeted_so_far w.setup f) es ≡ None = (cond-none (eqb m n) (destiny w.setup n (greeted_so_far w.setup f) es) (destiny w.setup n s es) d).0 e in
+        let u : whose (greeted_so_far w.setup f).stage ≡ None = now-unbound w.setup n (greeted_so_far w.setup f) es (greeted_so_far w.setup f).stage refl later in
+        let here : each_line (on m (fed piece)) (record { number = n; session = s } ∷ []) ≡ record { number = n; session = f } ∷ [] = let is : m ≡ n = grind (arith, nat_tests) in ap (λ k. each_line (on k (fed piece)) (record { number = n; session = s } ∷ [])) is ∙ each-lone n (fed piece) s in
         let bare = now-unbound w.setup n s (Comes m piece ∷ es) s.stage refl d in
         let kept : kept_fed piece w.clock m (find_line m (record { number = n; session = s } ∷ [])) w.kept ≡ w.kept = kept-lone piece w.clock m s s.stage w.kept (eqb n m) refl bare in
-        ap (λ k. run (purge (only n) es) (turns (record w { kept = k; lines = each (on m (fed piece)) (record { number = n; session = s } ∷ []) }))) kept
+        ap (λ k. run (purge (only n) es) (turns (record w { kept = k; lines = each_line (on m (fed piece)) (record { number = n; session = s } ∷ []) }))) kept
         ∙ ap (run (purge (only n) es)) (ap (λ ls. turns (record w { lines = ls })) here ∙ turns-lone w n f u)
-        ∙ rest (heard w.setup f) (settled-heard w n f u) later
-    by false e rest = rest s c ((cond-none (eqb m n) (destiny w.setup n (heard w.setup (fed piece s)) es) (destiny w.setup n s es) d).1 e)
+        ∙ rest (greeted_so_far w.setup f) (settled-heard w n f u) later
+    by false e rest = rest s c ((cond-none (eqb m n) (destiny w.setup n (greeted_so_far w.setup (fed piece s)) es) (destiny w.setup n s es) d).1 e)
 run-lone n last (Closes m ∷ es) w s le r c d = by (eqb m n) refl (run-lone n last es w s le r c)
   where
     by : (b : Bool) → eqb m n ≡ b → (destiny w.setup n s es ≡ None → run (purge (only n) es) (lone w n s) ≡ sent_by n (Some (greeting w.setup s (pieces_of n es)))) → run (cond b (Closes m ∷ purge (only n) es) (purge (only n) es)) (lone w n s) ≡ sent_by n (Some (greeting w.setup s (cond b [] (pieces_of n es))))
@@ -179,20 +179,20 @@ run-lone n last (Moment now ∷ es) w s le r c d =
     ap (run (purge (only n) es)) (moment-lone w n s now (now-unbound w.setup n s es s.stage refl d) c)
     ∙ run-lone n last es (record w { kept = passed (max w.clock now) w.kept; clock = max w.clock now }) s le r.1 c d
 
-fresh-still : (limit : ℕ) → can (fresh limit) ≡ false
+fresh-still : (limit : ℕ) → can (new_session limit) ≡ false
 unfolding can front int
 fresh-still limit = refl
 
-run-unborn : (n last : ℕ) (es : List Happening) (w : View) → IsRun last es → unborn w.setup n es ≡ None → run (purge (only n) es) (empty w) ≡ sent_by n (once_opened w.setup n es)
+run-unborn : (n last : ℕ) (es : List Happening) (w : View) → IsEventRun last es → unborn w.setup n es ≡ None → run (purge (only n) es) (empty w) ≡ sent_by n (once_opened w.setup n es)
 run-unborn n last [] w r d = refl
 run-unborn n last (Opens m ∷ es) w r d = by (eqb m n) refl (run-unborn n m es w r.1)
   where
-    by : (b : Bool) → eqb m n ≡ b → (unborn w.setup n es ≡ None → run (purge (only n) es) (empty w) ≡ sent_by n (once_opened w.setup n es)) → run (cond b (Opens m ∷ purge (only n) es) (purge (only n) es)) (empty w) ≡ sent_by n (cond b (Some (greeting w.setup (fresh w.setup.request_bytes) (pieces_of n es))) (once_opened w.setup n es))
+    by : (b : Bool) → eqb m n ≡ b → (unborn w.setup n es ≡ None → run (purge (only n) es) (empty w) ≡ sent_by n (once_opened w.setup n es)) → run (cond b (Opens m ∷ purge (only n) es) (purge (only n) es)) (empty w) ≡ sent_by n (cond b (Some (greeting w.setup (new_session w.setup.request_bytes) (pieces_of n es))) (once_opened w.setup n es))
     by true e rest =
         let is : m ≡ n = grind (arith, nat_tests) in
-        ap (λ k. run (purge (only n) es) (lone w k (fresh w.setup.request_bytes))) is
-        ∙ run-lone n m es w (fresh w.setup.request_bytes) (omega arith) r.1 (fresh-still w.setup.request_bytes) ((cond-none (eqb m n) (destiny w.setup n (fresh w.setup.request_bytes) es) (unborn w.setup n es) d).0 e)
-    by false e rest = rest ((cond-none (eqb m n) (destiny w.setup n (fresh w.setup.request_bytes) es) (unborn w.setup n es) d).1 e)
+        ap (λ k. run (purge (only n) es) (lone w k (new_session w.setup.request_bytes))) is
+        ∙ run-lone n m es w (new_session w.setup.request_bytes) (omega arith) r.1 (fresh-still w.setup.request_bytes) ((cond-none (eqb m n) (destiny w.setup n (new_session w.setup.request_bytes) es) (unborn w.setup n es) d).0 e)
+    by false e rest = rest ((cond-none (eqb m n) (destiny w.setup n (new_session w.setup.request_bytes) es) (unborn w.setup n es) d).1 e)
 run-unborn n last (Comes m piece ∷ es) w r d = by (eqb m n) (run-unborn n last es w r d)
   where
     by : (b : Bool) → run (purge (only n) es) (empty w) ≡ sent_by n (once_opened w.setup n es) → run (cond b (Comes m piece ∷ purge (only n) es) (purge (only n) es)) (empty w) ≡ sent_by n (once_opened w.setup n es)
@@ -248,14 +248,14 @@ idle-at low last n (l ∷ ls) r f = by (eqb l.number n) refl (can l.session) ref
     }
     by false e false h rest = rest (subst (λ x. cond x (Some l) (first_able ls) ≡ None) h f)
 
-run-found : (n last : ℕ) (es : List Happening) (w : View) (o : Option Session) → IsRun last es → IsIdleAt n last o → fate_from w.setup n o es ≡ None
+run-found : (n last : ℕ) (es : List Happening) (w : View) (o : Option Session) → IsEventRun last es → IsIdleAt n last o → fate_from w.setup n o es ≡ None
     → run (purge (only n) es) (record w { lines = lines_of n o }) ≡ sent_by n (greeted_from w.setup n o es)
 run-found n last es w None r i d = run-unborn n last es w r d
 run-found n last es w (Some s) r i d =
     run-lone n last es w s (i.below s refl) r (i.still s refl) (ap (λ x. destiny w.setup n x es) (sym (heard-still w.setup s (i.still s refl))) ∙ d)
 
 -- the machine of a connection without owner is the greeting of its pieces
-pub unowned-greets : (n : ℕ) (es : List Happening) (b : BrokerState) → IsReady b → IsRun b.last es → IsUnowned n es b → by_number (alone_unowned n es b) ≡ greeted_alone n es b
+pub unowned-greets : (n : ℕ) (es : List Happening) (b : BrokerState) → IsReady b → IsEventRun b.last es → IsUnowned n es b → by_number (alone_unowned n es b) ≡ greeted_alone n es b
 unowned-greets n es b ready r h =
     let w = view_of (length b.tenants) (only n) b in
     ap (λ ls. by_number (run (purge (only n) es) (record w { lines = ls }))) (only-found 0 b.last n b.lines ready.sound.rising)

@@ -2,7 +2,7 @@
 use Rattle.std.proofs.Common.{◌≡◌, ℕ, List, [], ◌∷◌, ◌++◌, Bool, true, false, cond, sym, ◌∙◌, ap, refl}
 use Rattle.kb_isolation_spec.specs.Machine.{Happening, View, Sent, run, stepped, those, those_sent, by_number}
 use Rattle.kb_isolation_spec.specs.Owners.{concerns, purge}
-use Rattle.kb_isolation_spec.specs.Broker.{BrokerState, IsCalmFor, Mine, view_of, kept_of, owned_by, alone}
+use Rattle.kb_isolation_spec.specs.Broker.{BrokerState, IsCalmFor, Mine, view_of, kept_of_tenant, owned_by, alone}
 use Rattle.kb_isolation_spec.specs.Told.{quieted}
 use Rattle.kb_isolation_spec.specs.Isolation.{IsIsolated, StartsAlike, AreAlike, own_events, own_lines, own_sent}
 use Rattle.kb_isolation_spec.specs.Left.{last_world, LeavesWorlds}
@@ -10,10 +10,10 @@ use Rattle.kb_isolation_spec.specs.Left.{last_world, LeavesWorlds}
 view-alike : (t : ℕ) (es fs : List Happening) (a b : BrokerState) → StartsAlike t es fs a b → view_of t (owned_by t fs b) b ≡ view_of t (owned_by t es a) a
 view-alike t es fs a b s =
     let lines = own_lines t fs b in
-    ap (λ x. let w : View = record { setup = x; kept = kept_of b t; clock = b.clock; lines = lines } in w) s.setup
+    ap (λ x. let w : View = record { setup = x; kept = kept_of_tenant b t; clock = b.clock; lines = lines } in w) s.setup
     ∙ (ap (λ x. let w : View = record { setup = a.setup; kept = x; clock = b.clock; lines = lines } in w) s.kept
-    ∙ (ap (λ x. let w : View = record { setup = a.setup; kept = kept_of a t; clock = x; lines = lines } in w) s.clock
-    ∙ ap (λ x. let w : View = record { setup = a.setup; kept = kept_of a t; clock = a.clock; lines = x } in w) s.lines))
+    ∙ (ap (λ x. let w : View = record { setup = a.setup; kept = kept_of_tenant a t; clock = x; lines = lines } in w) s.clock
+    ∙ ap (λ x. let w : View = record { setup = a.setup; kept = kept_of_tenant a t; clock = a.clock; lines = x } in w) s.lines))
 
 alone-alike : (t : ℕ) (es fs : List Happening) (a after_a b after_b : BrokerState) → AreAlike t es fs a after_a b after_b → alone t fs b ≡ alone t es a
 alone-alike t es fs a after_a b after_b h =

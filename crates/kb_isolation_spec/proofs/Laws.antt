@@ -12,15 +12,15 @@ use Rattle.kb_tenant_api.specs.Hosted.{Kept}
 use Rattle.kb_tenant.specs.Replies as tenant
 use Rattle.kb_tenant.specs.Replies.{Replies, Waits, Silent, Shuts, framed, reply_size}
 use Rattle.kb_tenant_api.specs.Replies.{Reaction, Plain, Rebalances}
-use Rattle.kb_isolation_spec.specs.Tenant.{answer, ready}
+use Rattle.kb_isolation_spec.specs.Tenant.{reaction_to, ready}
 use Rattle.kb_isolation_spec.specs.Session.{Greeting, Unshaken, Shaken, Bare, Stage, Greets, BoundTo, Session, shut_down, replied, throttled, unanswerable, is_turn, can, in_front}
 use Rattle.kb_isolation_spec.specs.Greeting.{Setup, for_tenant, greeted_by, greeted_frame, greeted_at, greeted, greeting_after, shaken, authenticated, logged_in, bare_login, bound, login}
-use Rattle.kb_isolation_spec.specs.Machine.{Line, View, plainly, after_reaction, served_by, served_at, after_turn, put, told, woken_by, woken, each, on, those, first_able, turn_at, turn_of, turn, again, work, turns}
+use Rattle.kb_isolation_spec.specs.Machine.{Line, View, plainly, after_reaction, served_by, served_at, after_turn, kept_by_turn, told, woken_by, woken, each_line, on, those, first_able, turn_at, turn_of, turn, again, work, turns}
 
 -- 1. Lists of connections
 
 -- a change of each connection, cut down to some
-pub those-each : (mine : ℕ → Bool) (g : ℕ → Session → Session) (ls : List Line) → those mine (each g ls) ≡ each g (those mine ls)
+pub those-each : (mine : ℕ → Bool) (g : ℕ → Session → Session) (ls : List Line) → those mine (each_line g ls) ≡ each_line g (those mine ls)
 those-each mine g [] = refl
 those-each mine g (l ∷ ls) = grind (arith, nat_tests, those-each mine g ls)
 
@@ -121,7 +121,7 @@ served_by-le setup kept clock n head Versions s = replied-le head _ s
 served_by-le setup kept clock n head OtherVersions s = replied-le head _ s
 served_by-le setup kept clock n head (Handshake v m) s = replied-le head _ s
 served_by-le setup kept clock n head (Authenticate m) s = replied-le head _ s
-served_by-le setup kept clock n head (Another k v b) s = answered-le (answer setup.node kept clock n k v b) head v b s
+served_by-le setup kept clock n head (Another k v b) s = answered-le (reaction_to setup.node kept clock n k v b) head v b s
 served_by-le setup kept clock n head Malformed s = omega arith
 
 bare_login-le : (o : Result Known (List ℕ)) (s : Session) → length (bare_login o s).unread ≤ length s.unread
@@ -211,11 +211,11 @@ served-takes setup kept clock n = record {
 le-on : (n : ℕ) (f : Session → Session) (t : Takes f) (l : Line) → length (on n f l.number l.session).unread ≤ length l.session.unread
 le-on n f t l = let h = t.le l.session in grind (arith, nat_tests, h)
 
-pub work-on_le : (n : ℕ) (f : Session → Session) (t : Takes f) (ls : List Line) → work (each (on n f) ls) ≤ work ls
+pub work-on_le : (n : ℕ) (f : Session → Session) (t : Takes f) (ls : List Line) → work (each_line (on n f) ls) ≤ work ls
 work-on_le n f t [] = omega arith
 work-on_le n f t (l ∷ ls) = omega (arith, le-on n f t l, work-on_le n f t ls)
 
-pub work-on : (n : ℕ) (f : Session → Session) (t : Takes f) (ls : List Line) (l : Line) → first_able ls ≡ Some l → l.number ≡ n → work (each (on n f) ls) < work ls
+pub work-on : (n : ℕ) (f : Session → Session) (t : Takes f) (ls : List Line) (l : Line) → first_able ls ≡ Some l → l.number ≡ n → work (each_line (on n f) ls) < work ls
 work-on n f t [] l h e = cc
 work-on n f t (k ∷ ls) l h e =
     let rest = work-on n f t ls l in
@@ -236,14 +236,14 @@ woken_by-le kept clock n s (Greets h) = omega arith
 woken_by-le kept clock n s (BoundTo u None) = omega arith
 woken_by-le kept clock n s (BoundTo u (Some w)) = told-le (ready kept clock n w) w.head s
 
-pub work-woken : (kept : Kept) (clock : ℕ) (ls : List Line) → work (each (λ k s. woken kept clock k s) ls) ≤ work ls
+pub work-woken : (kept : Kept) (clock : ℕ) (ls : List Line) → work (each_line (λ k s. woken kept clock k s) ls) ≤ work ls
 work-woken kept clock [] = omega arith
 work-woken kept clock (l ∷ ls) = let h = woken_by-le kept clock l.number l.session l.session.stage in omega (arith, h, work-woken kept clock ls)
 
 work-turn_at : (w : View) (l : Line) (st : Stage) → first_able w.lines ≡ Some l → work (turn_at w l.number (in_front l.session) st).lines < work w.lines
 work-turn_at w l (Greets h) f = work-on l.number (greeted w.setup h) (greeted-takes w.setup h) w.lines l f refl
 work-turn_at w l (BoundTo u wait) f =
-    let e = work-woken (put (for_tenant w.setup u) w.kept w.clock l.number (in_front l.session)) w.clock (each (on l.number (after_turn (for_tenant w.setup u) w.kept w.clock l.number)) w.lines) in
+    let e = work-woken (kept_by_turn (for_tenant w.setup u) w.kept w.clock l.number (in_front l.session)) w.clock (each_line (on l.number (after_turn (for_tenant w.setup u) w.kept w.clock l.number)) w.lines) in
     let lt = work-on l.number (after_turn (for_tenant w.setup u) w.kept w.clock l.number) (served-takes (for_tenant w.setup u) w.kept w.clock l.number) w.lines l f refl in
     omega (arith, e, lt)
 

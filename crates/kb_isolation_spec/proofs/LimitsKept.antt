@@ -13,9 +13,9 @@ use Rattle.kb_isolation_spec.specs.Requests.{Asked, Versions, OtherVersions, Han
 use Rattle.kb_isolation_spec.specs.Tenant.{Wait, kept_after}
 use Rattle.kb_isolation_spec.specs.Session.{Stage, Greets, BoundTo, Session, fed, has_member, overruns, in_front}
 use Rattle.kb_isolation_spec.specs.Greeting.{Setup, for_tenant, node_of}
-use Rattle.kb_isolation_spec.specs.Machine.{Happening, Opens, Comes, Closes, Moment, Line, Sent, View, again, all_woken, each, find_line, first_able, kept_at, kept_by, kept_closed, kept_fed, kept_without, on, put, step, turn, turn_at, turns, work}
+use Rattle.kb_isolation_spec.specs.Machine.{Happening, Opens, Comes, Closes, Moment, Line, Sent, View, again, all_woken, each_line, find_line, first_able, kept_at, kept_by, kept_closed, kept_fed, kept_without, on, kept_by_turn, step, turn, turn_at, turns, work}
 use Rattle.kb_isolation_spec.specs.Owners.{purge}
-use Rattle.kb_isolation_spec.specs.Broker.{BrokerState, IsCalmFor, IsReady, IsRun, Mine, kept_of, last_after, owned_by, view_of}
+use Rattle.kb_isolation_spec.specs.Broker.{BrokerState, IsCalmFor, IsReady, IsEventRun, Mine, kept_of_tenant, last_after, owned_by, view_of}
 use Rattle.kb_isolation_spec.specs.Left.{LeavesWorlds, last_world}
 use Rattle.kb_isolation_spec.specs.LimitsKept.{IsMachineOf, StaysWithin}
 use Rattle.kb_isolation_spec.proofs.Laws.{turn-none, turn-some}
@@ -68,8 +68,8 @@ stays-at setup kept clock n TooSmall = stays_same setup.node.limits kept.world
 stays-at setup kept clock n TooLarge = stays_same setup.node.limits kept.world
 stays-at setup kept clock n Partial = stays_same setup.node.limits kept.world
 
-stays-put : (setup : Setup) (kept : Kept) (clock n : ℕ) (f : Front) → Keeps setup.node.limits kept (put setup kept clock n f)
-unfolding put
+stays-put : (setup : Setup) (kept : Kept) (clock n : ℕ) (f : Front) → Keeps setup.node.limits kept (kept_by_turn setup kept clock n f)
+unfolding kept_by_turn
 stays-put setup kept clock n f = stays-at setup kept clock n f
 
 -- ---- a turn
@@ -80,7 +80,7 @@ limits_of w t = (node_of w.setup t).limits
 stays-turn_at : (w : View) (t n : ℕ) (f : Front) (stage : Stage) → ((u : ℕ) (wait : Option Wait) → stage ≡ BoundTo u wait → u ≡ t) → Keeps (limits_of w t) w.kept (turn_at w n f stage).kept
 stays-turn_at w t n f (Greets greeting) own = stays_same (limits_of w t) w.kept.world
 stays-turn_at w t n f (BoundTo u wait) own =
-    let after : Kept = put (for_tenant w.setup u) w.kept w.clock n f in
+    let after : Kept = kept_by_turn (for_tenant w.setup u) w.kept w.clock n f in
     subst (λ v. Keeps (limits_of w v) w.kept after) (own u wait refl) (stays-put (for_tenant w.setup u) w.kept w.clock n f)
 
 stays-turn : (w : View) (t : ℕ) → ((l : Line) (u : ℕ) (wait : Option Wait) → first_able w.lines ≡ Some l → l.session.stage ≡ BoundTo u wait → u ≡ t) → Keeps (limits_of w t) w.kept (turn w).kept
@@ -122,7 +122,7 @@ module _ (t last : ℕ) (es : List Happening) where
 stays-step : (t last : ℕ) (e : Happening) (es : List Happening) (w : View) → IsMachineOf t last (e ∷ es) w → Keeps (limits_of w t) w.kept (step e w).kept
 stays-step t last (Opens n) es w h = stays_same (limits_of w t) w.kept.world
 stays-step t last (Comes n piece) es w h =
-    let v : View = record w { kept = kept_fed piece w.clock n (find_line n w.lines) w.kept; lines = each (on n (fed piece)) w.lines } in
+    let v : View = record w { kept = kept_fed piece w.clock n (find_line n w.lines) w.kept; lines = each_line (on n (fed piece)) w.lines } in
     stays_then (limits_of w t) w.kept.world v.kept.world (turns v).kept.world (stays-fed (limits_of w t) piece w.clock n (find_line n w.lines) w.kept) (stays-turns t last es v (fed-turning t last n piece es w h))
 stays-step t last (Closes n) es w h = stays-closed (limits_of w t) w.clock n (find_line n w.lines) w.kept
 stays-step t last (Moment now) es w h =
@@ -154,18 +154,18 @@ last-within limits first (e ∷ es) w h = last-within limits first es (step e w)
 
 -- ---- the broker of all tenants
 
-pub own-within : (t : ℕ) (mine : ℕ → Bool) (es : List Happening) (b : BrokerState) → IsReady b → IsRun b.last es → Mine t mine es b → HasOrderedCommits (kept_of b t).world
-    → StaysWithin (node_of b.setup t).limits (kept_of b t).world (purge mine es) (view_of t mine b)
+pub own-within : (t : ℕ) (mine : ℕ → Bool) (es : List Happening) (b : BrokerState) → IsReady b → IsEventRun b.last es → Mine t mine es b → HasOrderedCommits (kept_of_tenant b t).world
+    → StaysWithin (node_of b.setup t).limits (kept_of_tenant b t).world (purge mine es) (view_of t mine b)
 own-within t mine es b ready run owns ordered =
     run-within t b.last (purge mine es) (view_of t mine b) (own-machine t mine es b ready.sound.rising ready.settled run owns) ordered
 
-pub left-within : (t : ℕ) (es : List Happening) (old new : BrokerState) (got : List Sent) → LeavesWorlds es old new got → IsReady old → IsRun old.last es → IsCalmFor t old new → HasOrderedCommits (kept_of old t).world
-    → AreLimitsKept (node_of old.setup t).limits (kept_of old t).world (kept_of new t).world
+pub left-within : (t : ℕ) (es : List Happening) (old new : BrokerState) (got : List Sent) → LeavesWorlds es old new got → IsReady old → IsEventRun old.last es → IsCalmFor t old new → HasOrderedCommits (kept_of_tenant old t).world
+    → AreLimitsKept (node_of old.setup t).limits (kept_of_tenant old t).world (kept_of_tenant new t).world
 left-within t es old new got leaves ready run calm ordered =
     let mine : ℕ → Bool = owned_by t es old in
     let limits = (node_of old.setup t).limits in
     let owns : Mine t mine es old = owned-mine t es old ready.sound.rising in
     let more : Mine t mine (es ++ []) old = subst (λ x. Mine t mine x old) (sym (append-nil es)) owns in
     let same = ap (λ (w : View). w.kept.world) (leaves t mine [] more calm).world in
-    subst (AreLimitsKept limits (kept_of old t).world) (sym same)
-    (last-within limits (kept_of old t).world (purge mine es) (view_of t mine old) (own-within t mine es old ready run owns ordered))
+    subst (AreLimitsKept limits (kept_of_tenant old t).world) (sym same)
+    (last-within limits (kept_of_tenant old t).world (purge mine es) (view_of t mine old) (own-within t mine es old ready run owns ordered))

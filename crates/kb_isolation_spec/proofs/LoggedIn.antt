@@ -3,7 +3,7 @@ use Rattle.std.proofs.Common.{◌≡◌, ℕ, List, [], ◌∷◌, ◌++◌, Boo
 use Rattle.kb_isolation_spec.specs.Greeting.{User}
 use Rattle.kb_isolation_spec.specs.Machine.{Happening, Line, View, Sent, those}
 use Rattle.kb_isolation_spec.specs.Owners.{purge}
-use Rattle.kb_isolation_spec.specs.Broker.{BrokerState, IsCalmFor, IsRun, Mine, Rising, view_of}
+use Rattle.kb_isolation_spec.specs.Broker.{BrokerState, IsCalmFor, IsEventRun, Mine, Rising, view_of}
 use Rattle.kb_isolation_spec.specs.Told.{quieted_lines}
 use Rattle.kb_isolation_spec.specs.Left.{IsLeft, LeavesWorlds, last_world}
 use Rattle.kb_isolation_spec.specs.Logins.{HaveLoggedIn}
@@ -15,7 +15,7 @@ have-quieted : (users : List User) (ls : List Line) → HaveLoggedIn users ls �
 have-quieted users [] h = tt
 have-quieted users (l ∷ ls) h = (h.0, have-quieted users ls h.1)
 
-pub have-left : (t : ℕ) (mine : ℕ → Bool) (es later : List Happening) (a b : BrokerState) (got : List Sent) → a.lines ≡ [] → IsRun a.last es → LeavesWorlds es a b got → Mine t mine (es ++ later) a → IsCalmFor t a b → HaveLoggedIn a.setup.users (those mine b.lines)
+pub have-left : (t : ℕ) (mine : ℕ → Bool) (es later : List Happening) (a b : BrokerState) (got : List Sent) → a.lines ≡ [] → IsEventRun a.last es → LeavesWorlds es a b got → Mine t mine (es ++ later) a → IsCalmFor t a b → HaveLoggedIn a.setup.users (those mine b.lines)
 have-left t mine es later a b got none run leaves owns calm =
     let left : IsLeft t mine es later a b got = leaves t mine later owns calm in
     let w : View = view_of t mine a in

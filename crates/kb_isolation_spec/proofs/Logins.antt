@@ -18,11 +18,11 @@ use Rattle.kb_isolation_spec.specs.declared.login.Login.{Login}
 use Rattle.kb_isolation_spec.specs.declared.shut.Shut.{Shut}
 use Rattle.kb_isolation_spec.specs.declared.shut.Shut.TheVariants as causes
 use Rattle.kb_isolation_spec.specs.Requests.{Asked, Versions, OtherVersions, Handshake, Authenticate, Another, Malformed, request, unserved}
-use Rattle.kb_isolation_spec.specs.Tenant.{Wait, answer, ready}
-use Rattle.kb_isolation_spec.specs.Session.{Greeting, Unshaken, Shaken, Bare, Stage, Greets, BoundTo, Session, can, fresh, fed, replied, room, shut_down, unanswerable, without_wait, in_front}
+use Rattle.kb_isolation_spec.specs.Tenant.{Wait, reaction_to, ready}
+use Rattle.kb_isolation_spec.specs.Session.{Greeting, Unshaken, Shaken, Bare, Stage, Greets, BoundTo, Session, can, new_session, fed, replied, room, shut_down, unanswerable, without_wait, in_front}
 use Rattle.kb_isolation_spec.specs.Greeting.{Setup, User, for_tenant, known_from, known_or, login, login_by, bound, failed, failed_reply, logged_in, bare_login, greeting_after, shaken, authenticated, greeted_by, greeted_frame, greeted_at, greeted}
-use Rattle.kb_isolation_spec.specs.Machine.{Happening, Opens, Comes, Closes, Moment, Line, View, plainly, after_reaction, served_by, served_at, after_turn, put, told, woken, woken_by, each, on, those, find_line, first_able, all_woken, turn_at, turn_of, turn, again, work, turns, kept_closed, kept_fed, step}
-use Rattle.kb_isolation_spec.specs.Broker.{Rising, IsRun}
+use Rattle.kb_isolation_spec.specs.Machine.{Happening, Opens, Comes, Closes, Moment, Line, View, plainly, after_reaction, served_by, served_at, after_turn, kept_by_turn, told, woken, woken_by, each_line, on, those, find_line, first_able, all_woken, turn_at, turn_of, turn, again, work, turns, kept_closed, kept_fed, step}
+use Rattle.kb_isolation_spec.specs.Broker.{Rising, IsEventRun}
 use Rattle.kb_isolation_spec.specs.Left.{last_world}
 use Rattle.kb_isolation_spec.specs.Logins.{tenant_of, HasLoggedIn, HaveLoggedIn}
 use Rattle.kb_isolation_spec.proofs.Laws.{login-replied}
@@ -138,7 +138,7 @@ login-served_by setup kept clock n head Versions s = login-replied head _ s
 login-served_by setup kept clock n head OtherVersions s = login-replied head _ s
 login-served_by setup kept clock n head (Handshake version mechanism) s = login-replied head _ s
 login-served_by setup kept clock n head (Authenticate message) s = login-replied head _ s
-login-served_by setup kept clock n head (Another key version body) s = login-answered (answer setup.node kept clock n key version body) head version body s
+login-served_by setup kept clock n head (Another key version body) s = login-answered (reaction_to setup.node kept clock n key version body) head version body s
 login-served_by setup kept clock n head Malformed s = refl
 
 -- the turn of one that is bound
@@ -186,15 +186,15 @@ has-fed users piece s h = has-same users s (fed piece s) (stage-fed piece s) (lo
 
 -- 3. Lists of connections
 
-rising-each : (low last : ℕ) (g : ℕ → Session → Session) (ls : List Line) → Rising low last ls → Rising low last (each g ls)
+rising-each : (low last : ℕ) (g : ℕ → Session → Session) (ls : List Line) → Rising low last ls → Rising low last (each_line g ls)
 rising-each low last g [] r = r
 rising-each low last g (l ∷ ls) r = (r.0, rising-each l.number last g ls r.1)
 
-all-each : (users : List User) (g : ℕ → Session → Session) → ((n : ℕ) (s : Session) → Has users s → Has users (g n s)) → (ls : List Line) → HaveLoggedIn users ls → HaveLoggedIn users (each g ls)
+all-each : (users : List User) (g : ℕ → Session → Session) → ((n : ℕ) (s : Session) → Has users s → Has users (g n s)) → (ls : List Line) → HaveLoggedIn users ls → HaveLoggedIn users (each_line g ls)
 all-each users g f [] h = tt
 all-each users g f (l ∷ ls) h = (f l.number l.session h.0, all-each users g f ls h.1)
 
-all-on : (users : List User) (n : ℕ) (f : Session → Session) → ((s : Session) → Has users s → Has users (f s)) → (ls : List Line) → HaveLoggedIn users ls → HaveLoggedIn users (each (on n f) ls)
+all-on : (users : List User) (n : ℕ) (f : Session → Session) → ((s : Session) → Has users s → Has users (f s)) → (ls : List Line) → HaveLoggedIn users ls → HaveLoggedIn users (each_line (on n f) ls)
 all-on users n f keeps ls h = all-each users (on n f) (λ k s has. by k s has (eqb k n)) ls h
   where
     by : (k : ℕ) (s : Session) → Has users s → (b : Bool) → Has users (cond b (f s) s)
@@ -211,7 +211,7 @@ first-at (k ∷ ls) l e = by (can k.session) e (first-at ls l)
     by false e rest = let at = rest e in (suc at.0, record { within = omega (arith, at.1.within); here = at.1.here })
 
 -- where numbers rise, a change of it changes no other
-all-first : (users : List User) (last : ℕ) (f : Session → Session) (ls : List Line) (l : Line) → Rising 0 last ls → first_able ls ≡ Some l → Has users (f l.session) → HaveLoggedIn users ls → HaveLoggedIn users (each (on l.number f) ls)
+all-first : (users : List User) (last : ℕ) (f : Session → Session) (ls : List Line) (l : Line) → Rising 0 last ls → first_able ls ≡ Some l → Has users (f l.session) → HaveLoggedIn users ls → HaveLoggedIn users (each_line (on l.number f) ls)
 all-first users last f ls l r e has h =
     let at = first-at ls l e in
     let m : Line = record { number = l.number; session = f l.session } in
@@ -237,7 +237,7 @@ good-turn_at last w l e g (Greets h) is = record {
 good-turn_at last w l e g (BoundTo t wait) is =
     let setup = for_tenant w.setup t in
     let f : Session → Session = after_turn setup w.kept w.clock l.number in
-    good-woken last (record w { kept = put setup w.kept w.clock l.number (in_front l.session); lines = each (on l.number f) w.lines }) (record {
+    good-woken last (record w { kept = kept_by_turn setup w.kept w.clock l.number (in_front l.session); lines = each_line (on l.number f) w.lines }) (record {
       rising = rising-each 0 last (on l.number f) w.lines g.rising;
       have = all-on w.setup.users l.number f (λ s h. has-served w.setup.users setup w.kept w.clock l.number s h) w.lines g.have;
     })
@@ -280,27 +280,27 @@ setup-turns w = setup-again (work w.lines) w
 
 pub setup-step : (e : Happening) (w : View) → (step e w).setup ≡ w.setup
 setup-step (Opens n) w = refl
-setup-step (Comes n piece) w = setup-turns (record w { kept = kept_fed piece w.clock n (find_line n w.lines) w.kept; lines = each (on n (fed piece)) w.lines })
+setup-step (Comes n piece) w = setup-turns (record w { kept = kept_fed piece w.clock n (find_line n w.lines) w.kept; lines = each_line (on n (fed piece)) w.lines })
 setup-step (Closes n) w = refl
 setup-step (Moment now) w = let clock = max w.clock now in setup-turns (all_woken (record w { kept = passed clock w.kept; clock = clock }))
 
 -- the machine's last world, and what is fixed in it
-pub have-last : (last : ℕ) (es : List Happening) (w : View) → Rising 0 last w.lines → IsRun last es → HaveLoggedIn w.setup.users w.lines → HaveLoggedIn w.setup.users (last_world es w).lines
+pub have-last : (last : ℕ) (es : List Happening) (w : View) → Rising 0 last w.lines → IsEventRun last es → HaveLoggedIn w.setup.users w.lines → HaveLoggedIn w.setup.users (last_world es w).lines
 have-last last es w r run h = by last es w run (record { rising = r; have = h })
   where
     next : (es : List Happening) (w v : View) → v.setup ≡ w.setup → HaveLoggedIn v.setup.users (last_world es v).lines → HaveLoggedIn w.setup.users (last_world es v).lines
     next es w v same h = subst (λ (setup : Setup). HaveLoggedIn setup.users (last_world es v).lines) same h
 
-    by : (last : ℕ) (es : List Happening) (w : View) → IsRun last es → IsGood last w → HaveLoggedIn w.setup.users (last_world es w).lines
+    by : (last : ℕ) (es : List Happening) (w : View) → IsEventRun last es → IsGood last w → HaveLoggedIn w.setup.users (last_world es w).lines
     by last [] w run g = g.have
     by last (Opens n ∷ es) w run g =
-        let l : Line = record { number = n; session = fresh w.setup.request_bytes } in
+        let l : Line = record { number = n; session = new_session w.setup.request_bytes } in
         by n es (step (Opens n) w) run.1 (record {
           rising = rising-push 0 last n w.lines l g.rising run.0 refl;
           have = all-push _ w.lines l g.have tt;
         })
     by last (Comes n piece ∷ es) w run g =
-        let v : View = record w { kept = kept_fed piece w.clock n (find_line n w.lines) w.kept; lines = each (on n (fed piece)) w.lines } in
+        let v : View = record w { kept = kept_fed piece w.clock n (find_line n w.lines) w.kept; lines = each_line (on n (fed piece)) w.lines } in
         let good : IsGood last v = record {
           rising = rising-each 0 last (on n (fed piece)) w.lines g.rising;
           have = all-on w.setup.users n (fed piece) (λ s h. has-fed w.setup.users piece s h) w.lines g.have;

@@ -8,12 +8,12 @@ use Rattle.kb_tenant_api.specs.Hosted.{Kept, passed}
 use Rattle.kb_isolation_spec.specs.declared.head.Head.{Head}
 use Rattle.kb_isolation_spec.specs.Tenant.{Wait, ready}
 use Rattle.kb_api_group.specs.Frames.{Front}
-use Rattle.kb_isolation_spec.specs.Session.{Greeting, Stage, Greets, BoundTo, Session, can, fed, fresh, without_wait, in_front}
+use Rattle.kb_isolation_spec.specs.Session.{Greeting, Stage, Greets, BoundTo, Session, can, fed, new_session, without_wait, in_front}
 use Rattle.kb_isolation_spec.specs.Greeting.{Setup, for_tenant, greeted}
-use Rattle.kb_isolation_spec.specs.Machine.{Happening, Opens, Comes, Closes, Moment, Line, View, after_turn, again, all_woken, each, find_line, first_able, kept_fed, on, put, step, those, told, turn, turn_at, turns, woken, woken_by, work}
+use Rattle.kb_isolation_spec.specs.Machine.{Happening, Opens, Comes, Closes, Moment, Line, View, after_turn, again, all_woken, each_line, find_line, first_able, kept_fed, on, kept_by_turn, step, those, told, turn, turn_at, turns, woken, woken_by, work}
 use Rattle.kb_isolation_spec.specs.Calls.{other_than}
-use Rattle.kb_isolation_spec.specs.Owners.{Fits, destiny, heard, purge, unborn}
-use Rattle.kb_isolation_spec.specs.Broker.{BrokerState, IsRun, Mine, Rising, last_after, view_of}
+use Rattle.kb_isolation_spec.specs.Owners.{Fits, destiny, greeted_so_far, purge, unborn}
+use Rattle.kb_isolation_spec.specs.Broker.{BrokerState, IsEventRun, Mine, Rising, last_after, view_of}
 use Rattle.kb_isolation_spec.specs.LimitsKept.{IsMachineOf}
 use Rattle.kb_isolation_spec.proofs.Alone.{destiny-purge, run-purge, unborn-other, unborn-purge}
 use Rattle.kb_isolation_spec.proofs.Feeds.{comes-fed}
@@ -31,7 +31,7 @@ every n = true
 
 -- ---- lists of connections
 
-pub rising-each : (g : ℕ → Session → Session) (low last : ℕ) (ls : List Line) → Rising low last ls → Rising low last (each g ls)
+pub rising-each : (g : ℕ → Session → Session) (low last : ℕ) (ls : List Line) → Rising low last ls → Rising low last (each_line g ls)
 rising-each g low last [] r = r
 rising-each g low last (l ∷ ls) r = (r.0, rising-each g l.number last ls r.1)
 
@@ -59,13 +59,13 @@ alone-there low last ls l r able =
 
 -- what is still to come leads both to the same tenant
 abbrev SameEnd : Setup → Session → Session → Type 0
-SameEnd setup s u = (n : ℕ) (es : List Happening) → destiny setup n (heard setup u) es ≡ destiny setup n (heard setup s) es
+SameEnd setup s u = (n : ℕ) (es : List Happening) → destiny setup n (greeted_so_far setup u) es ≡ destiny setup n (greeted_so_far setup s) es
 
 end-bound : (setup : Setup) (t : ℕ) (s u : Session) → IsBound t s → without_wait u.stage ≡ without_wait s.stage → SameEnd setup s u
 end-bound setup t s u b same = λ n es. fate-bound setup n u es t (bound-same t s u b same) ∙ sym (fate-bound setup n s es t b)
 
 end-greeted : (setup : Setup) (h : Greeting) (s : Session) → s.stage ≡ Greets h → SameEnd setup s (greeted setup h s)
-end-greeted setup h s e = λ n es. ap (λ x. destiny setup n x es) (ap (heard setup) (greeted-turn setup h s e) ∙ heard-turn setup s)
+end-greeted setup h s e = λ n es. ap (λ x. destiny setup n x es) (ap (greeted_so_far setup) (greeted-turn setup h s e) ∙ heard-turn setup s)
 
 stage-told : (r : tenant.Reaction) (head : Head) (s : Session) → without_wait s.stage ≡ without_wait (without_wait s.stage) → without_wait (told r head s).stage ≡ without_wait s.stage
 stage-told (Replies reply) head s twice = stage-replied head reply (record s { stage = without_wait s.stage }) ∙ sym twice
@@ -84,11 +84,11 @@ module _ (setup : Setup) (t : ℕ) (es : List Happening) where
   abbrev Own : List Line → Type 0
   Own ls = AllByRecursion (IsMine setup t every es) ls
 
-  own-each : (g : ℕ → Session → Session) (ls : List Line) → AllByRecursion (λ (l : Line). SameEnd setup l.session (g l.number l.session)) ls → Own ls → Own (each g ls)
+  own-each : (g : ℕ → Session → Session) (ls : List Line) → AllByRecursion (λ (l : Line). SameEnd setup l.session (g l.number l.session)) ls → Own ls → Own (each_line g ls)
   own-each g [] f h = tt
   own-each g (l ∷ ls) f h = (subst (Fits t true) (sym (f.0 l.number es)) h.0, own-each g ls f.1 h.1)
 
-  own-woken : (kept : Kept) (clock : ℕ) (ls : List Line) → Own ls → Own (each (λ k s. woken kept clock k s) ls)
+  own-woken : (kept : Kept) (clock : ℕ) (ls : List Line) → Own ls → Own (each_line (λ k s. woken kept clock k s) ls)
   own-woken kept clock ls h = own-each (λ k s. woken kept clock k s) ls (ends ls) h
     where
       ends : (ls : List Line) → AllByRecursion (λ (l : Line). SameEnd setup l.session (woken kept clock l.number l.session)) ls
@@ -96,7 +96,7 @@ module _ (setup : Setup) (t : ℕ) (es : List Happening) where
       ends (l ∷ ls) = (end-woken setup kept clock l.number l.session l.session.stage refl, ends ls)
 
   -- a change of the connection that takes a turn
-  own-on : (last : ℕ) (f : Session → Session) (ls : List Line) (l : Line) → Rising 0 last ls → first_able ls ≡ Some l → SameEnd setup l.session (f l.session) → Own ls → Own (each (on l.number f) ls)
+  own-on : (last : ℕ) (f : Session → Session) (ls : List Line) (l : Line) → Rising 0 last ls → first_able ls ≡ Some l → SameEnd setup l.session (f l.session) → Own ls → Own (each_line (on l.number f) ls)
   own-on last f ls l r able ends h =
       own-each (on l.number f) ls (all-map (λ (x : Line). eqb x.number l.number ≡ true → x.session ≡ l.session) (λ (x : Line). SameEnd setup x.session (on l.number f x.number x.session))
       (λ x only. by x (eqb x.number l.number) only) ls (alone-there 0 last ls l r able)) h
@@ -127,7 +127,7 @@ module _ (t last : ℕ) (es : List Happening) where
   turning_at w l h able (BoundTo u wait) e =
       let setup = for_tenant w.setup u in
       let f : Session → Session = after_turn setup w.kept w.clock l.number in
-      let v : View = record w { kept = put setup w.kept w.clock l.number (in_front l.session); lines = each (on l.number f) w.lines } in
+      let v : View = record w { kept = kept_by_turn setup w.kept w.clock l.number (in_front l.session); lines = each_line (on l.number f) w.lines } in
       woken-turning v (record {
         rising = rising-each (on l.number f) 0 last w.lines h.rising;
         own = own-on w.setup t es last f w.lines l h.rising able
@@ -181,14 +181,14 @@ turns-setup w = again-setup (work w.lines) w
 
 pub step-setup : (e : Happening) (w : View) → (step e w).setup ≡ w.setup
 step-setup (Opens n) w = refl
-step-setup (Comes n piece) w = turns-setup (record w { kept = kept_fed piece w.clock n (find_line n w.lines) w.kept; lines = each (on n (fed piece)) w.lines })
+step-setup (Comes n piece) w = turns-setup (record w { kept = kept_fed piece w.clock n (find_line n w.lines) w.kept; lines = each_line (on n (fed piece)) w.lines })
 step-setup (Closes n) w = refl
 step-setup (Moment now) w = let clock = max w.clock now in turns-setup (all_woken (record w { kept = passed clock w.kept; clock = clock }))
 
 -- ---- events
 
 own-fed : (setup : Setup) (t n : ℕ) (piece : List ℕ) (es : List Happening) (ls : List Line) → AllByRecursion (λ (l : Line). can l.session ≡ false) ls → AllByRecursion (IsMine setup t every (Comes n piece ∷ es)) ls
-    → AllByRecursion (IsMine setup t every es) (each (on n (fed piece)) ls)
+    → AllByRecursion (IsMine setup t every es) (each_line (on n (fed piece)) ls)
 own-fed setup t n piece es [] still h = tt
 own-fed setup t n piece es (l ∷ ls) still h = (by (eqb l.number n) refl, own-fed setup t n piece es ls still.1 h.1)
   where
@@ -198,11 +198,11 @@ own-fed setup t n piece es (l ∷ ls) still h = (by (eqb l.number n) refl, own-f
         comes-fed setup t every piece es l (record { number = l.number; session = fed piece l.session }) still.0 refl refl here
     by false e =
         let ne : eqb n l.number ≡ false = grind (arith, nat_tests, e) in
-        subst (Fits t true) (ap (λ (b : Bool). cond b (destiny setup l.number (heard setup (fed piece (heard setup l.session))) es) (destiny setup l.number (heard setup l.session) es)) ne) h.0
+        subst (Fits t true) (ap (λ (b : Bool). cond b (destiny setup l.number (greeted_so_far setup (fed piece (greeted_so_far setup l.session))) es) (destiny setup l.number (greeted_so_far setup l.session) es)) ne) h.0
 
 -- the machine before the turns of a piece
 pub fed-turning : (t last n : ℕ) (piece : List ℕ) (es : List Happening) (w : View) → IsMachineOf t last (Comes n piece ∷ es) w
-    → IsTurning t last es (record w { kept = kept_fed piece w.clock n (find_line n w.lines) w.kept; lines = each (on n (fed piece)) w.lines })
+    → IsTurning t last es (record w { kept = kept_fed piece w.clock n (find_line n w.lines) w.kept; lines = each_line (on n (fed piece)) w.lines })
 fed-turning t last n piece es w h = record {
   rising = rising-each (on n (fed piece)) 0 last w.lines h.rising;
   own = own-fed w.setup t n piece es w.lines (all-still w.lines h.settled) h.own.now;
@@ -216,7 +216,7 @@ moment-turning t last now es w h =
     woken-turning t last es (record w { kept = passed clock w.kept; clock = clock }) (record { rising = h.rising; own = h.own.now })
 
 -- turns come to an end, and then it is a machine again
-after_turns : (t last : ℕ) (es : List Happening) (w : View) → IsTurning t last es w → IsRun last es → ((n : ℕ) → last < n → Fits t true (unborn w.setup n es)) → IsMachineOf t last es (turns w)
+after_turns : (t last : ℕ) (es : List Happening) (w : View) → IsTurning t last es w → IsEventRun last es → ((n : ℕ) → last < n → Fits t true (unborn w.setup n es)) → IsMachineOf t last es (turns w)
 after_turns t last es w h run later =
     let all = turns-turning t last es w h in
     record {
@@ -228,13 +228,13 @@ after_turns t last es w h run later =
 
 pub machine-step : (t last : ℕ) (e : Happening) (es : List Happening) (w : View) → IsMachineOf t last (e ∷ es) w → IsMachineOf t (last_after e last) es (step e w)
 machine-step t last (Opens n) es w h = record {
-  rising = rising-push 0 last n w.lines (record { number = n; session = fresh w.setup.request_bytes }) h.rising h.in_order.0 refl;
-  settled = first-push w.lines (record { number = n; session = fresh w.setup.request_bytes }) h.settled (can-fresh w.setup.request_bytes);
+  rising = rising-push 0 last n w.lines (record { number = n; session = new_session w.setup.request_bytes }) h.rising h.in_order.0 refl;
+  settled = first-push w.lines (record { number = n; session = new_session w.setup.request_bytes }) h.settled (can-fresh w.setup.request_bytes);
   in_order = h.in_order.1;
   own = owns-opens w.setup t last n every es w.lines h.in_order.0 h.own;
 }
 machine-step t last (Comes n piece) es w h =
-    after_turns t last es (record w { kept = kept_fed piece w.clock n (find_line n w.lines) w.kept; lines = each (on n (fed piece)) w.lines })
+    after_turns t last es (record w { kept = kept_fed piece w.clock n (find_line n w.lines) w.kept; lines = each_line (on n (fed piece)) w.lines })
     (fed-turning t last n piece es w h) h.in_order h.own.later
 machine-step t last (Closes n) es w h = record {
   rising = rising-those 0 last (other_than n) w.lines h.rising;
@@ -253,10 +253,10 @@ own-those setup t mine es [] h = tt
 own-those setup t mine es (l ∷ ls) h = by (mine l.number) refl (own-those setup t mine es ls h.1)
   where
     by : (b : Bool) → mine l.number ≡ b → AllByRecursion (IsMine setup t every (purge mine es)) (those mine ls) → AllByRecursion (IsMine setup t every (purge mine es)) (cond {A = List Line} b (l ∷ those mine ls) (those mine ls))
-    by true e rest = (subst (Fits t true) (sym (destiny-purge mine setup l.number (heard setup l.session) es e)) (subst (λ b. Fits t b (destiny setup l.number (heard setup l.session) es)) e h.0), rest)
+    by true e rest = (subst (Fits t true) (sym (destiny-purge mine setup l.number (greeted_so_far setup l.session) es e)) (subst (λ b. Fits t b (destiny setup l.number (greeted_so_far setup l.session) es)) e h.0), rest)
     by false e rest = rest
 
-pub own-machine : (t : ℕ) (mine : ℕ → Bool) (es : List Happening) (b : BrokerState) → Rising 0 b.last b.lines → first_able b.lines ≡ None → IsRun b.last es → Mine t mine es b → IsMachineOf t b.last (purge mine es) (view_of t mine b)
+pub own-machine : (t : ℕ) (mine : ℕ → Bool) (es : List Happening) (b : BrokerState) → Rising 0 b.last b.lines → first_able b.lines ≡ None → IsEventRun b.last es → Mine t mine es b → IsMachineOf t b.last (purge mine es) (view_of t mine b)
 own-machine t mine es b rising settled run owns = record {
   rising = rising-those 0 b.last mine b.lines rising;
   settled = none-those mine b.lines settled;

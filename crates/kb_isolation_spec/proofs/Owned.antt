@@ -3,11 +3,11 @@ use Rattle.std.proofs.Common.{◌≡◌, ◌<◌, ◌≤◌, ◌∷◌, [], ℕ,
 use Rattle.std.specs.Prelude.{cond}
 use Rattle.std.specs.List.{AllByRecursion}
 use Rattle.std.proofs.lemmas.Bool.Decides.{nat_tests}
-use Rattle.kb_isolation_spec.specs.Session.{Stage, Greets, BoundTo, Session, fresh, fed}
+use Rattle.kb_isolation_spec.specs.Session.{Stage, Greets, BoundTo, Session, new_session, fed}
 use Rattle.kb_isolation_spec.specs.Greeting.{Setup}
 use Rattle.kb_isolation_spec.specs.Machine.{Happening, Opens, Comes, Closes, Moment, Line, find_line}
-use Rattle.kb_isolation_spec.specs.Owners.{destiny, heard, unborn, fate_from, owner, owned, is_owner, whose, Fits}
-use Rattle.kb_isolation_spec.specs.Broker.{BrokerState, IsSound, Rising, IsRun, last_after, Mine, owned_by, InRange, only, IsUnowned, IsCalmFor, Grows}
+use Rattle.kb_isolation_spec.specs.Owners.{destiny, greeted_so_far, unborn, fate_from, owner, owned, is_owner, whose, Fits}
+use Rattle.kb_isolation_spec.specs.Broker.{BrokerState, IsSound, Rising, IsEventRun, last_after, Mine, owned_by, InRange, only, IsUnowned, IsCalmFor, Grows}
 use Rattle.kb_tenant_state.specs.Counts.{IsCalm}
 use Rattle.kb_isolation_spec.proofs.Ranges.{AreUsers, IsBelow, range-heard, range-fed}
 use Rattle.kb_isolation_spec.proofs.Sets.{all-map, rising-last}
@@ -40,7 +40,7 @@ not-found low last n (l ∷ ls) r h =
 pub owned-mine : (t : ℕ) (es : List Happening) (b : BrokerState) → Rising 0 b.last b.lines → Mine t (owned_by t es b) es b
 unfolding owned
 owned-mine t es b r = record {
-  now = all-map (λ l. find_line l.number b.lines ≡ Some l.session) (λ l. Fits t (owned_by t es b l.number) (destiny b.setup l.number (heard b.setup l.session) es))
+  now = all-map (λ l. find_line l.number b.lines ≡ Some l.session) (λ l. Fits t (owned_by t es b l.number) (destiny b.setup l.number (greeted_so_far b.setup l.session) es))
       (λ l f. subst (Fits t (owned_by t es b l.number)) (ap (λ o. fate_from b.setup l.number o es) f) (own t (owner b.setup b.lines es l.number))) b.lines (found 0 b.last b.lines r);
   later = λ n h. subst (Fits t (owned_by t es b n)) (ap (λ o. fate_from b.setup n o es) (not-found 0 b.last n b.lines r h)) (own t (owner b.setup b.lines es n));
 }
@@ -49,20 +49,20 @@ owned-mine t es b r = record {
     own t None = tt
     own t (Some u) = refl
 
-pub run-lower : (low last : ℕ) (es : List Happening) → low ≤ last → IsRun last es → IsRun low es
+pub run-lower : (low last : ℕ) (es : List Happening) → low ≤ last → IsEventRun last es → IsEventRun low es
 run-lower low last [] h r = tt
 run-lower low last (Opens n ∷ es) h r = (let lt = r.0 in omega arith, r.1)
 run-lower low last (Comes n piece ∷ es) h r = run-lower low last es h r
 run-lower low last (Closes n ∷ es) h r = run-lower low last es h r
 run-lower low last (Moment now ∷ es) h r = (r.0, run-lower low last es h r.1)
 
-pub run-after : (low last : ℕ) (e : Happening) (es : List Happening) → low ≤ last_after e last → IsRun last (e ∷ es) → IsRun low es
+pub run-after : (low last : ℕ) (e : Happening) (es : List Happening) → low ≤ last_after e last → IsEventRun last (e ∷ es) → IsEventRun low es
 run-after low last (Opens n) es h r = run-lower low n es h r.1
 run-after low last (Comes n piece) es h r = run-lower low last es h r
 run-after low last (Closes n) es h r = run-lower low last es h r
 run-after low last (Moment now) es h r = run-lower low last es h r.1
 
-pub run-first : (last : ℕ) (e : Happening) (es : List Happening) → IsRun last (e ∷ es) → IsRun last (e ∷ [])
+pub run-first : (last : ℕ) (e : Happening) (es : List Happening) → IsEventRun last (e ∷ es) → IsEventRun last (e ∷ [])
 run-first last (Opens n) es r = (r.0, tt)
 run-first last (Comes n piece) es r = tt
 run-first last (Closes n) es r = tt
@@ -85,11 +85,11 @@ below-destiny k setup n s (Moment m ∷ es) us r = below-destiny k setup n s es 
 below-destiny k setup n s (Closes m ∷ es) us r = below-if k (whose s.stage) (destiny setup n s es) (eqb m n) (below-whose k s.stage r) (below-destiny k setup n s es us r)
 below-destiny k setup n s (Comes m piece ∷ es) us r =
     let f = fed piece s in
-    below-if k (destiny setup n (heard setup f) es) (destiny setup n s es) (eqb m n) (below-destiny k setup n (heard setup f) es us (range-heard k setup f us (range-fed k piece s r))) (below-destiny k setup n s es us r)
+    below-if k (destiny setup n (greeted_so_far setup f) es) (destiny setup n s es) (eqb m n) (below-destiny k setup n (greeted_so_far setup f) es us (range-heard k setup f us (range-fed k piece s r))) (below-destiny k setup n s es us r)
 
 below-unborn : (k : ℕ) (setup : Setup) (n : ℕ) (es : List Happening) → AreUsers k setup.users → IsBelow k (unborn setup n es)
 below-unborn k setup n [] us = tt
-below-unborn k setup n (Opens m ∷ es) us = below-if k (destiny setup n (fresh setup.request_bytes) es) (unborn setup n es) (eqb m n) (below-destiny k setup n (fresh setup.request_bytes) es us tt) (below-unborn k setup n es us)
+below-unborn k setup n (Opens m ∷ es) us = below-if k (destiny setup n (new_session setup.request_bytes) es) (unborn setup n es) (eqb m n) (below-destiny k setup n (new_session setup.request_bytes) es us tt) (below-unborn k setup n es us)
 below-unborn k setup n (Moment m ∷ es) us = below-unborn k setup n es us
 below-unborn k setup n (Closes m ∷ es) us = below-unborn k setup n es us
 below-unborn k setup n (Comes m piece ∷ es) us = below-unborn k setup n es us
@@ -105,10 +105,10 @@ nobody users n k (Some u) p b e f = nobody_by users n k u p b e f (eqb k n) refl
 
 -- the fate of each open connection is found, and in range
 fates : (users : ℕ) (setup : Setup) (n : ℕ) (es : List Happening) (all ls : List Line) → AreUsers users setup.users → fate_from setup n (find_line n all) es ≡ None → AllByRecursion (λ l. find_line l.number all ≡ Some l.session) ls → AllByRecursion (λ l. InRange users l.session.stage) ls →
-    AllByRecursion (λ l. Fits users (only n l.number) (destiny setup l.number (heard setup l.session) es)) ls
+    AllByRecursion (λ l. Fits users (only n l.number) (destiny setup l.number (greeted_so_far setup l.session) es)) ls
 fates users setup n es all [] us h f r = tt
 fates users setup n es all (l ∷ ls) us h f r = (
-  nobody users n l.number (destiny setup l.number (heard setup l.session) es) (fate_from setup n (find_line n all) es) (below-destiny users setup l.number (heard setup l.session) es us (range-heard users setup l.session us r.0)) h
+  nobody users n l.number (destiny setup l.number (greeted_so_far setup l.session) es) (fate_from setup n (find_line n all) es) (below-destiny users setup l.number (greeted_so_far setup l.session) es us (range-heard users setup l.session us r.0)) h
       (λ e. sym (ap (λ o. fate_from setup l.number o es) f.0) ∙ ap (λ k. fate_from setup k (find_line k all) es) e),
   fates users setup n es all ls us h f.1 r.1,
 )

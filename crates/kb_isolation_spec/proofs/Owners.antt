@@ -11,11 +11,11 @@ use Rattle.kb_tenant_api.specs.Hosted.{Kept}
 use Rattle.kb_tenant.specs.Replies as tenant
 use Rattle.kb_tenant.specs.Replies.{Replies, Waits, Silent, Shuts, framed, reply_size}
 use Rattle.kb_tenant_api.specs.Replies.{Reaction, Plain, Rebalances}
-use Rattle.kb_isolation_spec.specs.Tenant.{Wait, Records, Group, answer}
+use Rattle.kb_isolation_spec.specs.Tenant.{Wait, Records, Group, reaction_to}
 use Rattle.kb_isolation_spec.specs.Session.{Greeting, Stage, Greets, BoundTo, Session, fed, shut_down, without_wait, waiting, can, is_turn, room, replied, throttled, unanswerable, in_front}
 use Rattle.kb_isolation_spec.specs.Greeting.{Setup, for_tenant, greeted}
-use Rattle.kb_isolation_spec.specs.Machine.{Happening, Opens, Comes, Closes, Moment, Line, View, plainly, after_reaction, served_by, served_at, after_turn, put, each, on, those, first_able, all_woken, turn_at, turn, turns, again}
-use Rattle.kb_isolation_spec.specs.Owners.{greet_turn, greet_turn_at, heard, destiny, whose, Fits, Owns, Pairwise}
+use Rattle.kb_isolation_spec.specs.Machine.{Happening, Opens, Comes, Closes, Moment, Line, View, plainly, after_reaction, served_by, served_at, after_turn, kept_by_turn, each_line, on, those, first_able, all_woken, turn_at, turn, turns, again}
+use Rattle.kb_isolation_spec.specs.Owners.{greet_turn, greet_turn_at, greeted_so_far, destiny, whose, Fits, OwnsLines, Pairwise}
 use Rattle.kb_isolation_spec.proofs.Laws.{those-each, first-those, turn-some, turns-turn, greeted-less, greeted-still}
 
 -- 1. The greeting, as far as the bytes go
@@ -46,19 +46,19 @@ enough setup (suc n) (suc m) s (inr h) p q =
     let t = greet_turn setup s in
     enough setup n m t (step_by setup t t.stage refl) (omega arith) (omega arith)
 
-pub heard-turn : (setup : Setup) (s : Session) → heard setup (greet_turn setup s) ≡ heard setup s
-unfolding heard
+pub heard-turn : (setup : Setup) (s : Session) → greeted_so_far setup (greet_turn setup s) ≡ greeted_so_far setup s
+unfolding greeted_so_far
 heard-turn setup s =
     elim (step_by setup s s.stage refl) [
-      | inl h ↦ ap (heard setup) h
+      | inl h ↦ ap (greeted_so_far setup) h
       | inr h ↦
           let t = greet_turn setup s in
           enough setup (length t.unread) (length s.unread) t (step_by setup t t.stage refl) (omega arith) (omega arith)
           ∙ enough setup (suc (length s.unread)) (length s.unread) s (inr h) (omega arith) (omega arith)
     ]
 
-pub heard-bound : (setup : Setup) (s : Session) (u : ℕ) (w : Option Wait) → s.stage ≡ BoundTo u w → heard setup s ≡ s
-unfolding heard greet_turn
+pub heard-bound : (setup : Setup) (s : Session) (u : ℕ) (w : Option Wait) → s.stage ≡ BoundTo u w → greeted_so_far setup s ≡ s
+unfolding greeted_so_far greet_turn
 heard-bound setup s u w e = still setup (length s.unread) s (ap (greet_turn_at setup s) e)
 
 pub greeted-turn : (setup : Setup) (h : Greeting) (s : Session) → s.stage ≡ Greets h → greeted setup h s ≡ greet_turn setup s
@@ -66,14 +66,14 @@ unfolding greet_turn
 greeted-turn setup h s e = sym (ap (greet_turn_at setup s) e)
 
 -- a connection that cannot take a turn has been heard
-heard-still_by : (setup : Setup) (s : Session) (st : Stage) → s.stage ≡ st → can s ≡ false → heard setup s ≡ s
-unfolding heard greet_turn can
+heard-still_by : (setup : Setup) (s : Session) (st : Stage) → s.stage ≡ st → can s ≡ false → greeted_so_far setup s ≡ s
+unfolding greeted_so_far greet_turn can
 heard-still_by setup s (BoundTo u w) e c = heard-bound setup s u w e
 heard-still_by setup s (Greets h) e c =
     let f : is_turn (in_front s) ≡ false = grind (arith, e, c) in
     still setup (length s.unread) s (ap (greet_turn_at setup s) e ∙ greeted-still setup h s f)
 
-pub heard-still : (setup : Setup) (s : Session) → can s ≡ false → heard setup s ≡ s
+pub heard-still : (setup : Setup) (s : Session) → can s ≡ false → greeted_so_far setup s ≡ s
 heard-still setup s c = heard-still_by setup s s.stage refl c
 
 -- 2. A bound connection stays bound
@@ -137,7 +137,7 @@ stage-served_by setup kept clock n head Versions s = stage-replied head _ s
 stage-served_by setup kept clock n head OtherVersions s = stage-replied head _ s
 stage-served_by setup kept clock n head (Handshake v m) s = stage-replied head _ s
 stage-served_by setup kept clock n head (Authenticate m) s = stage-replied head _ s
-stage-served_by setup kept clock n head (Another k v b) s = stage-answered (answer setup.node kept clock n k v b) head v b s
+stage-served_by setup kept clock n head (Another k v b) s = stage-answered (reaction_to setup.node kept clock n k v b) head v b s
 stage-served_by setup kept clock n head Malformed s = stage-shut s
 
 -- a bound connection's turn leaves it bound
@@ -160,10 +160,10 @@ destiny-bound setup n s (Comes m piece ∷ es) u b =
     let h = destiny-bound setup n s es u b in
     let f = fed piece s in
     let g : IsBound u f = bound-fed u piece s b in
-    let k : destiny setup n (heard setup f) es ≡ Some u = ap (λ x. destiny setup n x es) (heard-bound setup f u g.wait g.is) ∙ destiny-bound setup n f es u g in
+    let k : destiny setup n (greeted_so_far setup f) es ≡ Some u = ap (λ x. destiny setup n x es) (heard-bound setup f u g.wait g.is) ∙ destiny-bound setup n f es u g in
     grind (arith, h, k)
 
-pub fate-bound : (setup : Setup) (n : ℕ) (s : Session) (es : List Happening) (u : ℕ) → IsBound u s → destiny setup n (heard setup s) es ≡ Some u
+pub fate-bound : (setup : Setup) (n : ℕ) (s : Session) (es : List Happening) (u : ℕ) → IsBound u s → destiny setup n (greeted_so_far setup s) es ≡ Some u
 fate-bound setup n s es u b = ap (λ x. destiny setup n x es) (heard-bound setup s u b.wait b.is) ∙ destiny-bound setup n s es u b
 
 -- 3. Pairs of lists
@@ -177,26 +177,26 @@ pairwise-same R r (l ∷ ls) = (r l, pairwise-same R r ls)
 -- what is still to come leads the connection to the same tenant
 pub record SameFate (setup : Setup) (l m : Line) : Type 0 where
   pub number : m.number ≡ l.number
-  pub fate : (es : List Happening) → destiny setup l.number (heard setup m.session) es ≡ destiny setup l.number (heard setup l.session) es
+  pub fate : (es : List Happening) → destiny setup l.number (greeted_so_far setup m.session) es ≡ destiny setup l.number (greeted_so_far setup l.session) es
 
 pub fate-same : (setup : Setup) (l : Line) → SameFate setup l l
 fate-same setup l = record { number = refl; fate = λ es. refl }
 
 pub fate-greeted : (setup : Setup) (h : Greeting) (l m : Line) → l.session.stage ≡ Greets h → m.number ≡ l.number → m.session ≡ greeted setup h l.session → SameFate setup l m
-fate-greeted setup h l m e n g = record { number = n; fate = λ es. ap (λ x. destiny setup l.number x es) (ap (heard setup) (g ∙ greeted-turn setup h l.session e) ∙ heard-turn setup l.session) }
+fate-greeted setup h l m e n g = record { number = n; fate = λ es. ap (λ x. destiny setup l.number x es) (ap (greeted_so_far setup) (g ∙ greeted-turn setup h l.session e) ∙ heard-turn setup l.session) }
 
 -- whether a connection is one of those, if these events are to come
 abbrev pub IsMine : Setup → ℕ → (ℕ → Bool) → List Happening → Line → Type 0
-IsMine setup t mine es l = Fits t (mine l.number) (destiny setup l.number (heard setup l.session) es)
+IsMine setup t mine es l = Fits t (mine l.number) (destiny setup l.number (greeted_so_far setup l.session) es)
 
 owns-now : (setup : Setup) (t : ℕ) (mine : ℕ → Bool) (es : List Happening) (ls ms : List Line) → Pairwise (SameFate setup) ls ms → AllByRecursion (IsMine setup t mine es) ls → AllByRecursion (IsMine setup t mine es) ms
 owns-now setup t mine es [] [] p h = tt
 owns-now setup t mine es [] (m ∷ ms) p h = absurd p
 owns-now setup t mine es (l ∷ ls) [] p h = absurd p
 owns-now setup t mine es (l ∷ ls) (m ∷ ms) p h =
-    (subst (λ n. Fits t (mine n) (destiny setup n (heard setup m.session) es)) (sym p.0.number) (subst (Fits t (mine l.number)) (sym (p.0.fate es)) h.0), owns-now setup t mine es ls ms p.1 h.1)
+    (subst (λ n. Fits t (mine n) (destiny setup n (greeted_so_far setup m.session) es)) (sym p.0.number) (subst (Fits t (mine l.number)) (sym (p.0.fate es)) h.0), owns-now setup t mine es ls ms p.1 h.1)
 
-pub owns-fates : (setup : Setup) (t : ℕ) (mine : ℕ → Bool) (last : ℕ) (es : List Happening) (ls ms : List Line) → Pairwise (SameFate setup) ls ms → Owns setup t mine last es ls → Owns setup t mine last es ms
+pub owns-fates : (setup : Setup) (t : ℕ) (mine : ℕ → Bool) (last : ℕ) (es : List Happening) (ls ms : List Line) → Pairwise (SameFate setup) ls ms → OwnsLines setup t mine last es ls → OwnsLines setup t mine last es ms
 owns-fates setup t mine last es ls ms p h = record { now = owns-now setup t mine es ls ms p h.now; later = h.later }
 
 -- 5. What is not the tenant's is out of its view
@@ -208,7 +208,7 @@ mine-bound setup t mine es l u b h = subst (Fits t (mine l.number)) (fate-bound 
 pub same_line : (l m : Line) → m.number ≡ l.number → m.session ≡ l.session → m ≡ l
 same_line l m a b = ap (λ n. let x : Line = record { number = n; session = m.session } in x) a ∙ ap (λ s. let x : Line = record { number = l.number; session = s } in x) b
 
-pub those-on_other : (mine : ℕ → Bool) (n : ℕ) (f : Session → Session) (ls : List Line) → mine n ≡ false → those mine (each (on n f) ls) ≡ those mine ls
+pub those-on_other : (mine : ℕ → Bool) (n : ℕ) (f : Session → Session) (ls : List Line) → mine n ≡ false → those mine (each_line (on n f) ls) ≡ those mine ls
 those-on_other mine n f [] h = refl
 those-on_other mine n f (l ∷ ls) h = let rest = those-on_other mine n f ls h in grind (arith, nat_tests, rest)
 
@@ -216,19 +216,19 @@ those-on_other mine n f (l ∷ ls) h = let rest = those-on_other mine n f ls h i
 
 -- a greeting turn is the machine's turn, or nothing
 pub view-greeting : (mine : ℕ → Bool) (w : View) (all : List Line) (l : Line) (h : Greeting) (b : Bool) → mine l.number ≡ b → first_able all ≡ Some l → l.session.stage ≡ Greets h → w.lines ≡ those mine all →
-    turns (record w { lines = those mine (each (on l.number (greeted w.setup h)) all) }) ≡ turns w
+    turns (record w { lines = those mine (each_line (on l.number (greeted w.setup h)) all) }) ≡ turns w
 view-greeting mine w all l h false m f g e = ap (λ ls. turns (record w { lines = ls })) (those-on_other mine l.number (greeted w.setup h) all m ∙ sym e)
 view-greeting mine w all l h true m f g e =
     let able : first_able w.lines ≡ Some l = ap first_able e ∙ first-those mine all l f m in
-    let lines : those mine (each (on l.number (greeted w.setup h)) all) ≡ each (on l.number (greeted w.setup h)) w.lines = those-each mine (on l.number (greeted w.setup h)) all ∙ ap (each (on l.number (greeted w.setup h))) (sym e) in
+    let lines : those mine (each_line (on l.number (greeted w.setup h)) all) ≡ each_line (on l.number (greeted w.setup h)) w.lines = those-each mine (on l.number (greeted w.setup h)) all ∙ ap (each_line (on l.number (greeted w.setup h))) (sym e) in
     let taken : turn w ≡ turn_at w l.number (in_front l.session) (Greets h) = turn-some w l able ∙ ap (turn_at w l.number (in_front l.session)) g in
     ap (λ ls. turns (record w { lines = ls })) lines ∙ (ap turns (sym taken) ∙ turns-turn w)
 
 -- a turn for the tenant itself is the machine's turn
 pub view-served : (mine : ℕ → Bool) (w : View) (all : List Line) (l : Line) (t : ℕ) (wait : Option Wait) → first_able all ≡ Some l → l.session.stage ≡ BoundTo t wait → w.lines ≡ those mine all → mine l.number ≡ true →
-    turns (all_woken (record w { kept = put (for_tenant w.setup t) w.kept w.clock l.number (in_front l.session); lines = those mine (each (on l.number (after_turn (for_tenant w.setup t) w.kept w.clock l.number)) all) })) ≡ turns w
+    turns (all_woken (record w { kept = kept_by_turn (for_tenant w.setup t) w.kept w.clock l.number (in_front l.session); lines = those mine (each_line (on l.number (after_turn (for_tenant w.setup t) w.kept w.clock l.number)) all) })) ≡ turns w
 view-served mine w all l t wait f g e m =
     let able : first_able w.lines ≡ Some l = ap first_able e ∙ first-those mine all l f m in
-    let lines : those mine (each (on l.number (after_turn (for_tenant w.setup t) w.kept w.clock l.number)) all) ≡ each (on l.number (after_turn (for_tenant w.setup t) w.kept w.clock l.number)) w.lines = those-each mine (on l.number (after_turn (for_tenant w.setup t) w.kept w.clock l.number)) all ∙ ap (each (on l.number (after_turn (for_tenant w.setup t) w.kept w.clock l.number))) (sym e) in
+    let lines : those mine (each_line (on l.number (after_turn (for_tenant w.setup t) w.kept w.clock l.number)) all) ≡ each_line (on l.number (after_turn (for_tenant w.setup t) w.kept w.clock l.number)) w.lines = those-each mine (on l.number (after_turn (for_tenant w.setup t) w.kept w.clock l.number)) all ∙ ap (each_line (on l.number (after_turn (for_tenant w.setup t) w.kept w.clock l.number))) (sym e) in
     let taken : turn w ≡ turn_at w l.number (in_front l.session) (BoundTo t wait) = turn-some w l able ∙ ap (turn_at w l.number (in_front l.session)) g in
-    ap (λ ls. turns (all_woken (record w { kept = put (for_tenant w.setup t) w.kept w.clock l.number (in_front l.session); lines = ls }))) lines ∙ (ap turns (sym taken) ∙ turns-turn w)
+    ap (λ ls. turns (all_woken (record w { kept = kept_by_turn (for_tenant w.setup t) w.kept w.clock l.number (in_front l.session); lines = ls }))) lines ∙ (ap turns (sym taken) ∙ turns-turn w)

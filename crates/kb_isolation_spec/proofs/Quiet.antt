@@ -28,13 +28,13 @@ use Rattle.kb_tenant.proofs.Again.{retained_again}
 use Rattle.kb_tenant.proofs.Asked.{before_end, waits_until}
 use Rattle.kb_tenant_api.proofs.Laws.{served_again, served_waits}
 use Rattle.kb_isolation_spec.specs.declared.head.Head.{Head}
-use Rattle.kb_isolation_spec.specs.Tenant.{Wait, Awaited, Records, Group, ready, ready_for, asked, asked_in, asked_for, kept_after, answer}
+use Rattle.kb_isolation_spec.specs.Tenant.{Wait, Awaited, Records, Group, ready, ready_for, asked, asked_in, asked_for, kept_after, reaction_to}
 use Rattle.kb_isolation_spec.specs.Greeting.{Setup, for_tenant}
 use Rattle.kb_isolation_spec.specs.Requests.{Asked, Versions, OtherVersions, Handshake, Authenticate, Another, Malformed}
 use Rattle.kb_isolation_spec.specs.Requests as requests
 use Rattle.kb_isolation_spec.specs.Session.{Stage, Greets, BoundTo, Session, waiting, without_wait, is_free, in_front}
-use Rattle.kb_isolation_spec.specs.Broker.{BrokerState, AnyWait, AreUnready, IsUnready, kept_of}
-use Rattle.kb_isolation_spec.specs.Machine.{Line, after_reaction, served_by, served_at, after_turn, kept_by, kept_at, put}
+use Rattle.kb_isolation_spec.specs.Broker.{BrokerState, AnyWait, AreUnready, IsUnready, kept_of_tenant}
+use Rattle.kb_isolation_spec.specs.Machine.{Line, after_reaction, served_by, served_at, after_turn, kept_by, kept_at, kept_by_turn}
 use Rattle.kb_isolation_spec.proofs.Parking.{told_as, parks}
 use Rattle.kb_isolation_spec.proofs.Parts.{each-tenant}
 use Rattle.kb_isolation_spec.proofs.Sets.{IsAt, all-map, all-set}
@@ -138,9 +138,9 @@ asked-group k head = refl
 -- 3. The one that begins to wait
 
 -- the partitions that a fetch begins to wait for are those that it asks for
-pub asked-parks : (node : Node) (k : Kept) (clock n : ℕ) (key version : ℤ) (body : List ℕ) (deadline : ℕ) (limit : Option ℕ) (places : List TopicPartition) (head : Head) → answer node k clock n key version body ≡ Plain (Waits deadline limit places) →
+pub asked-parks : (node : Node) (k : Kept) (clock n : ℕ) (key version : ℤ) (body : List ℕ) (deadline : ℕ) (limit : Option ℕ) (places : List TopicPartition) (head : Head) → reaction_to node k clock n key version body ≡ Plain (Waits deadline limit places) →
     places ≡ asked (kept_after node k clock n key version body) (record { head = head; awaited = Records version body deadline limit })
-unfolding answer kept_after asked
+unfolding reaction_to kept_after asked
 asked-parks node k clock n key version body deadline limit places head e = (parks node k.world clock k.groups n key version body deadline limit places e).asks
 
 -- what waits at that stage, on the connection of number n, is not ready
@@ -167,13 +167,13 @@ answered-idle clock kept n (Plain Shuts) head version body s free none silent = 
 answered-idle clock kept n Rebalances head version body s free none silent = waiting-idle clock kept n (record { head = head; awaited = Group }) s.stage (group-silent clock kept n head none)
 
 by-idle : (setup : Setup) (kept : Kept) (clock n : ℕ) (head : Head) (a : Asked) (s : Session) → is_free s.stage ≡ true → has_released (kept_by setup kept clock n a).groups ≡ false → IsIdle clock (kept_by setup kept clock n a) n (served_by setup kept clock n head a s).stage
-unfolding served_by ready kept_after answer
+unfolding served_by ready kept_after reaction_to
 by-idle setup kept clock n head Versions s free none = free-idle clock kept n _ (free-replied head _ s free)
 by-idle setup kept clock n head OtherVersions s free none = free-idle clock kept n _ (free-replied head _ s free)
 by-idle setup kept clock n head (Handshake version mechanism) s free none = free-idle clock kept n _ (free-replied head _ s free)
 by-idle setup kept clock n head (Authenticate message) s free none = free-idle clock kept n _ (free-replied head _ s free)
 by-idle setup kept clock n head (Another key version body) s free none =
-    answered-idle clock (kept_after setup.node kept clock n key version body) n (answer setup.node kept clock n key version body) head version body s free none
+    answered-idle clock (kept_after setup.node kept clock n key version body) n (reaction_to setup.node kept clock n key version body) head version body s free none
     (λ deadline limit places e. (parks setup.node kept.world clock kept.groups n key version body deadline limit places e).silent)
 by-idle setup kept clock n head Malformed s free none = free-idle clock kept n _ (free-without s.stage)
 
@@ -184,16 +184,16 @@ at-idle setup kept clock n s TooLarge free none = free-idle clock kept n _ (free
 at-idle setup kept clock n s Partial free none = free-idle clock kept n s.stage free
 
 -- what a connection waits for after its turn is not ready, where the turn answered nobody who waited for a group
-pub served-idle : (setup : Setup) (kept : Kept) (clock n : ℕ) (s : Session) → is_free s.stage ≡ true → has_released (put setup kept clock n (in_front s)).groups ≡ false → IsIdle clock (put setup kept clock n (in_front s)) n (after_turn setup kept clock n s).stage
-unfolding after_turn put
+pub served-idle : (setup : Setup) (kept : Kept) (clock n : ℕ) (s : Session) → is_free s.stage ≡ true → has_released (kept_by_turn setup kept clock n (in_front s)).groups ≡ false → IsIdle clock (kept_by_turn setup kept clock n (in_front s)) n (after_turn setup kept clock n s).stage
+unfolding after_turn kept_by_turn
 served-idle setup kept clock n s free none = at-idle setup kept clock n s (in_front s) free none
 
 -- 4. The turn of a bound connection
 
 module _ (b : BrokerState) (i u : ℕ) (l m : Line) (us : List TenantState) (H : Type 0) (turn : IsTurn u H b.tenants us) (honest : H) where
   -- of each tenant a request that was not ready is not ready
-  kept-unready : ((n : ℕ) (w : Wait) → ready (kept_of b u) b.clock n w ≡ Silent → ready (hosted.kept_of us u) b.clock n w ≡ Silent) → (t n : ℕ) (w : Wait) → ready (kept_of b t) b.clock n w ≡ Silent → ready (hosted.kept_of us t) b.clock n w ≡ Silent
-  kept-unready quiet t n w silent = each-tenant (λ v. ready (kept_of b v) b.clock n w ≡ Silent → ready (hosted.kept_of us v) b.clock n w ≡ Silent) u t (eqb u t) refl
+  kept-unready : ((n : ℕ) (w : Wait) → ready (kept_of_tenant b u) b.clock n w ≡ Silent → ready (hosted.kept_of us u) b.clock n w ≡ Silent) → (t n : ℕ) (w : Wait) → ready (kept_of_tenant b t) b.clock n w ≡ Silent → ready (hosted.kept_of us t) b.clock n w ≡ Silent
+  kept-unready quiet t n w silent = each-tenant (λ v. ready (kept_of_tenant b v) b.clock n w ≡ Silent → ready (hosted.kept_of us v) b.clock n w ≡ Silent) u t (eqb u t) refl
       (λ e. quiet n w e) (λ ne e. ap (λ k. ready k b.clock n w) (turn.others honest t ne) ∙ e) silent
 
   pub own-unready : (n : ℕ) (st : Stage) → without_wait st ≡ BoundTo u None → IsIdle b.clock (hosted.kept_of us u) n st → IsUnready AnyWait (changed b i m us b.unbound_refusals) n st
@@ -203,19 +203,19 @@ module _ (b : BrokerState) (i u : ℕ) (l m : Line) (us : List TenantState) (H :
 
   -- what the connection itself waits for then is not ready, where the turn answered nobody who waited for a group
   pub own-turn : IsAt b.lines i l → is_free l.session.stage ≡ true → without_wait l.session.stage ≡ BoundTo u None → m.number ≡ l.number → without_wait m.session.stage ≡ without_wait l.session.stage
-      → m.session ≡ after_turn (for_tenant b.setup u) (kept_of b u) b.clock l.number l.session → hosted.kept_of us u ≡ put (for_tenant b.setup u) (kept_of b u) b.clock l.number (in_front l.session) → has_released (hosted.kept_of us u).groups ≡ false
+      → m.session ≡ after_turn (for_tenant b.setup u) (kept_of_tenant b u) b.clock l.number l.session → hosted.kept_of us u ≡ kept_by_turn (for_tenant b.setup u) (kept_of_tenant b u) b.clock l.number (in_front l.session) → has_released (hosted.kept_of us u).groups ≡ false
       → IsUnready AnyWait (changed b i m us b.unbound_refusals) m.number m.session.stage
   own-turn at free bound number same is after none =
-      let kept = put (for_tenant b.setup u) (kept_of b u) b.clock l.number (in_front l.session) in
-      let there : IsIdle b.clock kept l.number (after_turn (for_tenant b.setup u) (kept_of b u) b.clock l.number l.session).stage =
-      served-idle (for_tenant b.setup u) (kept_of b u) b.clock l.number l.session free (subst (λ (k : Kept). has_released k.groups ≡ false) after none) in
+      let kept = kept_by_turn (for_tenant b.setup u) (kept_of_tenant b u) b.clock l.number (in_front l.session) in
+      let there : IsIdle b.clock kept l.number (after_turn (for_tenant b.setup u) (kept_of_tenant b u) b.clock l.number l.session).stage =
+      served-idle (for_tenant b.setup u) (kept_of_tenant b u) b.clock l.number l.session free (subst (λ (k : Kept). has_released k.groups ≡ false) after none) in
       let idle : IsIdle b.clock (hosted.kept_of us u) l.number m.session.stage = subst (λ (k : Kept). IsIdle b.clock k l.number m.session.stage) (sym after) (subst (λ (s : Session). IsIdle b.clock kept l.number s.stage) (sym is) there) in
       own-unready m.number m.session.stage (same ∙ bound) (subst (λ n. IsIdle b.clock (hosted.kept_of us u) n m.session.stage) (sym number) idle)
 
   -- a turn that touched no partition and answered nobody leaves nothing ready, where nothing was before
   pub quiet-turn : AreUnready AnyWait b → IsAt b.lines i l → is_free l.session.stage ≡ true → without_wait l.session.stage ≡ BoundTo u None → m.number ≡ l.number → without_wait m.session.stage ≡ without_wait l.session.stage
-      → m.session ≡ after_turn (for_tenant b.setup u) (kept_of b u) b.clock l.number l.session → hosted.kept_of us u ≡ put (for_tenant b.setup u) (kept_of b u) b.clock l.number (in_front l.session) → has_released (hosted.kept_of us u).groups ≡ false
-      → ((n : ℕ) (w : Wait) → ready (kept_of b u) b.clock n w ≡ Silent → ready (hosted.kept_of us u) b.clock n w ≡ Silent) → AreUnready AnyWait (changed b i m us b.unbound_refusals)
+      → m.session ≡ after_turn (for_tenant b.setup u) (kept_of_tenant b u) b.clock l.number l.session → hosted.kept_of us u ≡ kept_by_turn (for_tenant b.setup u) (kept_of_tenant b u) b.clock l.number (in_front l.session) → has_released (hosted.kept_of us u).groups ≡ false
+      → ((n : ℕ) (w : Wait) → ready (kept_of_tenant b u) b.clock n w ≡ Silent → ready (hosted.kept_of us u) b.clock n w ≡ Silent) → AreUnready AnyWait (changed b i m us b.unbound_refusals)
   quiet-turn unready at free bound number same is after none quiet =
       let c = changed b i m us b.unbound_refusals in
       all-set (λ (k : Line). IsUnready AnyWait c k.number k.session.stage) b.lines i m

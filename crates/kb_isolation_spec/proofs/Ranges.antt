@@ -12,7 +12,7 @@ use Rattle.kb_isolation_spec.specs.declared.login.Known.{Known}
 use Rattle.kb_isolation_spec.specs.Requests.{Asked, Versions, OtherVersions, Handshake, Authenticate, Another, Malformed, request}
 use Rattle.kb_isolation_spec.specs.Session.{Greeting, Unshaken, Shaken, Bare, Stage, Greets, BoundTo, Session, shut_down, replied, throttled, without_wait, fed, unanswerable, in_front}
 use Rattle.kb_isolation_spec.specs.Greeting.{Setup, User, greeted_by, greeted_frame, greeted_at, greeted, greeting_after, shaken, authenticated, logged_in, bare_login, bound, failed, login, login_by, known_from, known_or}
-use Rattle.kb_isolation_spec.specs.Owners.{greet_turn, greet_turn_at, heard}
+use Rattle.kb_isolation_spec.specs.Owners.{greet_turn, greet_turn_at, greeted_so_far}
 use Rattle.kb_isolation_spec.specs.Machine.{again}
 use Rattle.kb_isolation_spec.specs.Broker.{InRange}
 use Rattle.kb_isolation_spec.proofs.Owners.{stage-fed}
@@ -112,8 +112,8 @@ range-again : (n : ℕ) (setup : Setup) (k : ℕ) (s : Session) → AreUsers n s
 range-again n setup zero s us r = r
 range-again n setup (suc k) s us r = range-again n setup k (greet_turn setup s) us (range-turn n setup s s.stage refl us r)
 
-pub range-heard : (n : ℕ) (setup : Setup) (s : Session) → AreUsers n setup.users → InRange n s.stage → InRange n (heard setup s).stage
-unfolding heard
+pub range-heard : (n : ℕ) (setup : Setup) (s : Session) → AreUsers n setup.users → InRange n s.stage → InRange n (greeted_so_far setup s).stage
+unfolding greeted_so_far
 range-heard n setup s us r = range-again n setup (length s.unread) s us r
 
 pub range-fed : (n : ℕ) (piece : List ℕ) (s : Session) → InRange n s.stage → InRange n (fed piece s).stage

@@ -11,10 +11,10 @@ use Rattle.kb_isolation_spec.specs.declared.head.Head.{Head}
 use Rattle.kb_isolation_spec.specs.declared.login.Known.{Known}
 use Rattle.kb_isolation_spec.specs.declared.shut.Shut.TheVariants as causes
 use Rattle.kb_isolation_spec.specs.Requests.{Asked, Versions, OtherVersions, Handshake, Authenticate, Another, Malformed, request}
-use Rattle.kb_isolation_spec.specs.Tenant.{answer, ready}
-use Rattle.kb_isolation_spec.specs.Session.{Greeting, Unshaken, Shaken, Bare, Stage, Greets, BoundTo, Session, fresh, fed, in_front, replied, room, shut_down, throttled, unanswerable, without_wait}
+use Rattle.kb_isolation_spec.specs.Tenant.{reaction_to, ready}
+use Rattle.kb_isolation_spec.specs.Session.{Greeting, Unshaken, Shaken, Bare, Stage, Greets, BoundTo, Session, new_session, fed, in_front, replied, room, shut_down, throttled, unanswerable, without_wait}
 use Rattle.kb_isolation_spec.specs.Greeting.{Setup, for_tenant, login, bound, failed, failed_reply, logged_in, bare_login, greeting_after, shaken, greeted_by, greeted_frame, greeted_at, greeted}
-use Rattle.kb_isolation_spec.specs.Machine.{Happening, Opens, Comes, Closes, Moment, Line, View, Sent, plainly, after_reaction, served_by, served_at, after_turn, put, told, woken, woken_by, each, on, those, find_line, first_able, all_woken, turn_at, turn_of, turn, again, work, turns, kept_fed, step}
+use Rattle.kb_isolation_spec.specs.Machine.{Happening, Opens, Comes, Closes, Moment, Line, View, Sent, plainly, after_reaction, served_by, served_at, after_turn, kept_by_turn, told, woken, woken_by, each_line, on, those, find_line, first_able, all_woken, turn_at, turn_of, turn, again, work, turns, kept_fed, step}
 use Rattle.kb_isolation_spec.specs.Owners.{purge}
 use Rattle.kb_isolation_spec.specs.Broker.{BrokerState, IsCalmFor, Mine, view_of}
 use Rattle.kb_isolation_spec.specs.Told.{quieted_lines}
@@ -86,7 +86,7 @@ limit-served_by setup kept clock n head Versions s = limit-replied head _ s
 limit-served_by setup kept clock n head OtherVersions s = limit-replied head _ s
 limit-served_by setup kept clock n head (Handshake version mechanism) s = limit-replied head _ s
 limit-served_by setup kept clock n head (Authenticate message) s = limit-replied head _ s
-limit-served_by setup kept clock n head (Another key version body) s = limit-answered (answer setup.node kept clock n key version body) head version body s
+limit-served_by setup kept clock n head (Another key version body) s = limit-answered (reaction_to setup.node kept clock n key version body) head version body s
 limit-served_by setup kept clock n head Malformed s = refl
 
 pub limit-served : (setup : Setup) (kept : Kept) (clock n : ℕ) (s : Session) → (after_turn setup kept clock n s).limit ≡ s.limit
@@ -125,11 +125,11 @@ limit-fed piece s = by s.shut (nat_lt (room s) (length piece)) (s.unread ++ piec
 
 -- 2. Lists of connections
 
-have-each : (limit : ℕ) (g : ℕ → Session → Session) → ((n : ℕ) (s : Session) → (g n s).limit ≡ s.limit) → (ls : List Line) → HaveLimit limit ls → HaveLimit limit (each g ls)
+have-each : (limit : ℕ) (g : ℕ → Session → Session) → ((n : ℕ) (s : Session) → (g n s).limit ≡ s.limit) → (ls : List Line) → HaveLimit limit ls → HaveLimit limit (each_line g ls)
 have-each limit g keeps [] h = tt
 have-each limit g keeps (l ∷ ls) h = (keeps l.number l.session ∙ h.0, have-each limit g keeps ls h.1)
 
-have-on : (limit n : ℕ) (f : Session → Session) → ((s : Session) → (f s).limit ≡ s.limit) → (ls : List Line) → HaveLimit limit ls → HaveLimit limit (each (on n f) ls)
+have-on : (limit n : ℕ) (f : Session → Session) → ((s : Session) → (f s).limit ≡ s.limit) → (ls : List Line) → HaveLimit limit ls → HaveLimit limit (each_line (on n f) ls)
 have-on limit n f keeps ls h = have-each limit (on n f) (λ k s. by s (eqb k n)) ls h
   where
     by : (s : Session) (b : Bool) → (let x : Session = cond b (f s) s in x).limit ≡ s.limit
@@ -146,7 +146,7 @@ have-turn_at limit w n f (Greets h) have = have-on limit n (greeted w.setup h) (
 have-turn_at limit w n f (BoundTo t wait) have =
     let setup = for_tenant w.setup t in
     let g : Session → Session = after_turn setup w.kept w.clock n in
-    have-woken limit (record w { kept = put setup w.kept w.clock n f; lines = each (on n g) w.lines }) (have-on limit n g (limit-served setup w.kept w.clock n) w.lines have)
+    have-woken limit (record w { kept = kept_by_turn setup w.kept w.clock n f; lines = each_line (on n g) w.lines }) (have-on limit n g (limit-served setup w.kept w.clock n) w.lines have)
 
 have-turn : (limit : ℕ) (w : View) → HaveLimit limit w.lines → HaveLimit limit (turn w).lines
 unfolding turn
@@ -165,9 +165,9 @@ unfolding turns
 have-turns limit w h = have-again limit (work w.lines) w h
 
 have-step : (e : Happening) (w : View) → HaveLimit w.setup.request_bytes w.lines → HaveLimit w.setup.request_bytes (step e w).lines
-have-step (Opens n) w h = all-push (λ l. l.session.limit ≡ w.setup.request_bytes) w.lines (record { number = n; session = fresh w.setup.request_bytes }) h refl
+have-step (Opens n) w h = all-push (λ l. l.session.limit ≡ w.setup.request_bytes) w.lines (record { number = n; session = new_session w.setup.request_bytes }) h refl
 have-step (Comes n piece) w h =
-    have-turns w.setup.request_bytes (record w { kept = kept_fed piece w.clock n (find_line n w.lines) w.kept; lines = each (on n (fed piece)) w.lines })
+    have-turns w.setup.request_bytes (record w { kept = kept_fed piece w.clock n (find_line n w.lines) w.kept; lines = each_line (on n (fed piece)) w.lines })
     (have-on w.setup.request_bytes n (fed piece) (limit-fed piece) w.lines h)
 have-step (Closes n) w h = all-those (λ l. l.session.limit ≡ w.setup.request_bytes) (λ k. not (eqb k n)) w.lines h
 have-step (Moment now) w h =

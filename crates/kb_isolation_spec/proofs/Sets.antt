@@ -4,7 +4,7 @@ use Rattle.std.specs.Prelude.{cond, map}
 use Rattle.std.specs.List.{AllByRecursion}
 use Rattle.std.proofs.lemmas.Bool.Decides.{nat_tests}
 use Rattle.kb_isolation_spec.specs.Session.{Session, can}
-use Rattle.kb_isolation_spec.specs.Machine.{Line, each, on, those, work, first_able, find_line}
+use Rattle.kb_isolation_spec.specs.Machine.{Line, each_line, on, those, work, first_able, find_line}
 use Rattle.kb_isolation_spec.specs.Owners.{Pairwise}
 use Rattle.kb_isolation_spec.specs.Broker.{Rising}
 use Rattle.kb_isolation_spec.proofs.Owners.{same_line, pairwise-same}
@@ -68,12 +68,12 @@ rising-places low last (k ∷ ls) zero (suc j) l m r a b h = let e = ap (λ (x :
 rising-places low last (k ∷ ls) (suc i) zero l m r a b h = absurd (omega arith)
 rising-places low last (k ∷ ls) (suc i) (suc j) l m r a b h = rising-places k.number last ls i j l m r.1 (tail-at k ls i l a) (tail-at k ls j m b) (omega arith)
 
-each-on_below : (low last n : ℕ) (f : Session → Session) (ls : List Line) → Rising low last ls → n ≤ low → each (on n f) ls ≡ ls
+each-on_below : (low last n : ℕ) (f : Session → Session) (ls : List Line) → Rising low last ls → n ≤ low → each_line (on n f) ls ≡ ls
 each-on_below low last n f [] r h = refl
 each-on_below low last n f (k ∷ ls) r h = let rest = each-on_below k.number last n f ls r.1 (omega (arith, r.0)) in let lt = r.0 in grind (arith, nat_tests, rest, lt)
 
 -- a write at a place is a change at its number
-pub set-on : (low last : ℕ) (f : Session → Session) (ls : List Line) (i : ℕ) (l m : Line) → Rising low last ls → IsAt ls i l → m.number ≡ l.number → m.session ≡ f l.session → set ls i m ≡ each (on l.number f) ls
+pub set-on : (low last : ℕ) (f : Session → Session) (ls : List Line) (i : ℕ) (l m : Line) → Rising low last ls → IsAt ls i l → m.number ≡ l.number → m.session ≡ f l.session → set ls i m ≡ each_line (on l.number f) ls
 set-on low last f [] i l m r a e g = no-at i l a
 set-on low last f (k ∷ ls) zero l m r a e g =
     let n : l.number ≡ k.number = ap (λ (x : Line). x.number) a.here in
@@ -112,7 +112,7 @@ pub all-push : (P : Line → Type 0) (ls : List Line) (x : Line) → AllByRecurs
 all-push P [] x h p = (p, tt)
 all-push P (l ∷ ls) x h p = (h.0, all-push P ls x h.1 p)
 
-pub each-on_none : (n : ℕ) (f : Session → Session) (ls : List Line) → AllByRecursion (λ l. l.number ≢ n) ls → each (on n f) ls ≡ ls
+pub each-on_none : (n : ℕ) (f : Session → Session) (ls : List Line) → AllByRecursion (λ l. l.number ≢ n) ls → each_line (on n f) ls ≡ ls
 each-on_none n f [] h = refl
 each-on_none n f (l ∷ ls) h = let no = h.0 in let rest = each-on_none n f ls h.1 in grind (arith, nat_tests, rest)
 

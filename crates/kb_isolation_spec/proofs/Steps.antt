@@ -12,12 +12,12 @@ use Rattle.kb_tenant_api.specs.Turns.{HavePassed}
 use Rattle.std.specs.Prelude.{Some}
 use Rattle.kb_tenant.specs.Replies.{Silent}
 use Rattle.kb_isolation_spec.proofs.Quiet.{still-silent}
-use Rattle.kb_isolation_spec.specs.Tenant.{Wait, Awaited, Records, Group, is_past, ready, ready_for}
-use Rattle.kb_isolation_spec.specs.Session.{Stage, Greets, BoundTo, fresh, can}
+use Rattle.kb_isolation_spec.specs.Tenant.{Wait, Awaited, Records, Group, is_overdue, ready, ready_for}
+use Rattle.kb_isolation_spec.specs.Session.{Stage, Greets, BoundTo, new_session, can}
 use Rattle.kb_isolation_spec.specs.Greeting.{Setup, User}
 use Rattle.kb_isolation_spec.specs.Machine.{Happening, Opens, Closes, Moment, Line, View, those, find_line, first_able, all_woken, kept_closed, turns, stepped}
-use Rattle.kb_isolation_spec.specs.Owners.{Owns, Fits, whose, heard, destiny, unborn}
-use Rattle.kb_isolation_spec.specs.Broker.{BrokerState, InRange, Grows, IsSound, IsUnready, AreUnready, AnyWait, kept_of, IsStep, Rising, Mine, view_of}
+use Rattle.kb_isolation_spec.specs.Owners.{OwnsLines, Fits, whose, greeted_so_far, destiny, unborn}
+use Rattle.kb_isolation_spec.specs.Broker.{BrokerState, InRange, Grows, IsSound, IsUnready, AreUnready, AnyWait, kept_of_tenant, IsStep, Rising, Mine, view_of}
 use Rattle.kb_isolation_spec.specs.Calls.{opened, closed, moved, other_than}
 use Rattle.kb_isolation_spec.proofs.Laws.{none-those, turns-none}
 use Rattle.kb_isolation_spec.specs.declared.whom.Whom.{Whom}
@@ -52,42 +52,42 @@ pub first-push : (ls : List Line) (x : Line) → first_able ls ≡ None → can 
 first-push [] x h e = grind (arith, e)
 first-push (l ∷ ls) x h e = let rest = first-push ls x in grind (arith, rest)
 
-pub can-fresh : (limit : ℕ) → can (fresh limit) ≡ false
+pub can-fresh : (limit : ℕ) → can (new_session limit) ≡ false
 unfolding can front int
 can-fresh limit = refl
 
-heard-fresh : (setup : Setup) (limit : ℕ) → heard setup (fresh limit) ≡ fresh limit
-heard-fresh setup limit = heard-still setup (fresh limit) (can-fresh limit)
+heard-fresh : (setup : Setup) (limit : ℕ) → greeted_so_far setup (new_session limit) ≡ new_session limit
+heard-fresh setup limit = heard-still setup (new_session limit) (can-fresh limit)
 
-pub owns-opens : (setup : Setup) (t last n : ℕ) (mine : ℕ → Bool) (es : List Happening) (ls : List Line) → last < n → Owns setup t mine last (Opens n ∷ es) ls → Owns setup t mine n es (ls ++ record { number = n; session = fresh setup.request_bytes } ∷ [])
+pub owns-opens : (setup : Setup) (t last n : ℕ) (mine : ℕ → Bool) (es : List Happening) (ls : List Line) → last < n → OwnsLines setup t mine last (Opens n ∷ es) ls → OwnsLines setup t mine n es (ls ++ record { number = n; session = new_session setup.request_bytes } ∷ [])
 owns-opens setup t last n mine es ls h o =
     let same : eqb n n ≡ true = grind (arith, nat_tests) in
-    let new : Fits t (mine n) (destiny setup n (fresh setup.request_bytes) es) = subst (Fits t (mine n)) (ap (λ (b : Bool). cond b (destiny setup n (fresh setup.request_bytes) es) (unborn setup n es)) same) (o.later n h) in
+    let new : Fits t (mine n) (destiny setup n (new_session setup.request_bytes) es) = subst (Fits t (mine n)) (ap (λ (b : Bool). cond b (destiny setup n (new_session setup.request_bytes) es) (unborn setup n es)) same) (o.later n h) in
     record {
-      now = all-push (IsMine setup t mine es) ls (record { number = n; session = fresh setup.request_bytes }) o.now (subst (λ s. Fits t (mine n) (destiny setup n s es)) (sym (heard-fresh setup setup.request_bytes)) new);
+      now = all-push (IsMine setup t mine es) ls (record { number = n; session = new_session setup.request_bytes }) o.now (subst (λ s. Fits t (mine n) (destiny setup n s es)) (sym (heard-fresh setup setup.request_bytes)) new);
       later = λ k lt.
           let ne : eqb n k ≡ false = grind (arith, nat_tests) in
-          subst (Fits t (mine k)) (ap (λ (b : Bool). cond b (destiny setup k (fresh setup.request_bytes) es) (unborn setup k es)) ne) (o.later k (omega arith));
+          subst (Fits t (mine k)) (ap (λ (b : Bool). cond b (destiny setup k (new_session setup.request_bytes) es) (unborn setup k es)) ne) (o.later k (omega arith));
     }
 
 pub sound-opened : (b : BrokerState) (n : ℕ) → IsSound b → b.last < n → IsSound (opened b n)
 sound-opened b n s lt = record {
-  rising = rising-push 0 b.last n b.lines (record { number = n; session = fresh b.setup.request_bytes }) s.rising lt refl;
-  in_range = all-push _ b.lines (record { number = n; session = fresh b.setup.request_bytes }) s.in_range tt;
+  rising = rising-push 0 b.last n b.lines (record { number = n; session = new_session b.setup.request_bytes }) s.rising lt refl;
+  in_range = all-push _ b.lines (record { number = n; session = new_session b.setup.request_bytes }) s.in_range tt;
   users = s.users;
   clock = s.clock;
 }
 
 pub settled-opened : (b : BrokerState) (n : ℕ) → first_able b.lines ≡ None → first_able (opened b n).lines ≡ None
-settled-opened b n settled = first-push b.lines (record { number = n; session = fresh b.setup.request_bytes }) settled (can-fresh b.setup.request_bytes)
+settled-opened b n settled = first-push b.lines (record { number = n; session = new_session b.setup.request_bytes }) settled (can-fresh b.setup.request_bytes)
 
 pub unready-opened : (b : BrokerState) (n : ℕ) → AreUnready AnyWait b → AreUnready AnyWait (opened b n)
-unready-opened b n unready = all-push (λ l. IsUnready AnyWait b l.number l.session.stage) b.lines (record { number = n; session = fresh b.setup.request_bytes }) unready tt
+unready-opened b n unready = all-push (λ l. IsUnready AnyWait b l.number l.session.stage) b.lines (record { number = n; session = new_session b.setup.request_bytes }) unready tt
 
-view-opened : (w : View) (n : ℕ) (mine : ℕ → Bool) (yes : Bool) → mine n ≡ yes → with_lines w (w.lines ++ those mine (record { number = n; session = fresh w.setup.request_bytes } ∷ [])) ≡ stepped yes (Opens n) w
+view-opened : (w : View) (n : ℕ) (mine : ℕ → Bool) (yes : Bool) → mine n ≡ yes → with_lines w (w.lines ++ those mine (record { number = n; session = new_session w.setup.request_bytes } ∷ [])) ≡ stepped yes (Opens n) w
 view-opened w n mine true e = ap (λ (x : List Line). with_lines w (w.lines ++ x)) (grind (arith, e))
 view-opened w n mine false e =
-    let none : those mine (record { number = n; session = fresh w.setup.request_bytes } ∷ []) ≡ [] = grind (arith, e) in
+    let none : those mine (record { number = n; session = new_session w.setup.request_bytes } ∷ []) ≡ [] = grind (arith, e) in
     ap (with_lines w) (ap (λ x. w.lines ++ x) none ∙ append-nil w.lines)
 
 pub step-opened : (b : BrokerState) (n : ℕ) → b.last < n → IsStep (Opens n) b (opened b n)
@@ -96,7 +96,7 @@ step-opened b n lt = record {
   grows = record { setup = refl; names = refl; own = λ t. omega arith; unbound = omega arith };
   counted = λ t. refl;
   mine = λ t mine es m q. owns-opens b.setup t b.last n mine es b.lines lt m;
-  view = λ t mine es m q. ap (with_lines (view_of t mine b)) (lines-push b.lines (record { number = n; session = fresh b.setup.request_bytes }) mine) ∙ view-opened (view_of t mine b) n mine (mine n) refl;
+  view = λ t mine es m q. ap (with_lines (view_of t mine b)) (lines-push b.lines (record { number = n; session = new_session b.setup.request_bytes }) mine) ∙ view-opened (view_of t mine b) n mine (mine n) refl;
 }
 
 -- a connection that could not be kept
@@ -157,7 +157,7 @@ closes-others setup t n mine es (l ∷ ls) h = closes-others_by setup t n mine e
   where
     closes-others_by : (setup : Setup) (t n : ℕ) (mine : ℕ → Bool) (es : List Happening) (l : Line) (ls : List Line) (b : Bool) → eqb l.number n ≡ b → IsMine setup t mine (Closes n ∷ es) l → AllByRecursion (IsMine setup t mine es) ls → AllByRecursion (IsMine setup t mine es) (cond (not (eqb l.number n)) (l ∷ ls) ls)
     closes-others_by setup t n mine es l ls true e p h = rw e h
-    closes-others_by setup t n mine es l ls false e p h = let ne : eqb n l.number ≡ false = grind (arith, nat_tests) in rw e (subst (Fits t (mine l.number)) (ap (λ (b : Bool). cond b (whose (heard setup l.session).stage) (destiny setup l.number (heard setup l.session) es)) ne) p, h)
+    closes-others_by setup t n mine es l ls false e p h = let ne : eqb n l.number ≡ false = grind (arith, nat_tests) in rw e (subst (Fits t (mine l.number)) (ap (λ (b : Bool). cond b (whose (greeted_so_far setup l.session).stage) (destiny setup l.number (greeted_so_far setup l.session) es)) ne) p, h)
 
 view-closed : (w : View) (n : ℕ) (mine : ℕ → Bool) (ls : List Line) (kept : Kept) (yes : Bool) → w.lines ≡ those mine ls → mine n ≡ yes → (yes ≡ true → kept ≡ kept_closed w.clock n (find_line n w.lines) w.kept) → (yes ≡ false → kept ≡ w.kept)
     → record w { kept = kept; lines = those mine (those (other_than n) ls) } ≡ stepped yes (Closes n) w
@@ -227,24 +227,24 @@ sound-begun b now clock H ts s r le =
     }
 
 -- a request that was not ready is not before its deadline, as long as its tenant keeps the same
-later : (kept : Kept) (clock now n : ℕ) (w : Wait) → ready kept clock n w ≡ Silent → is_past now w.awaited ≡ false → ready kept now n w ≡ Silent
+later : (kept : Kept) (clock now n : ℕ) (w : Wait) → ready kept clock n w ≡ Silent → is_overdue now w.awaited ≡ false → ready kept now n w ≡ Silent
 unfolding ready
 later kept clock now n w e early = by w.awaited e early
   where
-    by : (x : Awaited) → ready_for kept clock n x ≡ Silent → is_past now x ≡ false → ready_for kept now n x ≡ Silent
+    by : (x : Awaited) → ready_for kept clock n x ≡ Silent → is_overdue now x ≡ false → ready_for kept now n x ≡ Silent
     by (Records version body deadline limit) h early =
         let before : now < deadline = grind (arith, nat_tests, early) in
         still-silent kept.world clock now deadline version limit body (λ still. before) h
     by Group h early = h
 
 -- so where nothing happened to the tenants only those can be ready after the clock moved whose deadline has come
-pub due-unready : (b : BrokerState) (now : ℕ) (ts : List TenantState) → ((t : ℕ) → hosted.kept_of ts t ≡ kept_of b t) → AreUnready AnyWait b → AreUnready (IsPassedOver whoms.Due (max b.clock now)) (begun b now ts)
+pub due-unready : (b : BrokerState) (now : ℕ) (ts : List TenantState) → ((t : ℕ) → hosted.kept_of ts t ≡ kept_of_tenant b t) → AreUnready AnyWait b → AreUnready (IsPassedOver whoms.Due (max b.clock now)) (begun b now ts)
 due-unready b now ts same r = all-map (λ l. IsUnready AnyWait b l.number l.session.stage) (λ l. IsUnready (IsPassedOver whoms.Due (max b.clock now)) (begun b now ts) l.number l.session.stage) (λ l. one l.number l.session.stage) b.lines r
   where
     one : (n : ℕ) (st : Stage) → IsUnready AnyWait b n st → IsUnready (IsPassedOver whoms.Due (max b.clock now)) (begun b now ts) n st
     one n (Greets h) u = tt
     one n (BoundTo t None) u = tt
-    one n (BoundTo t (Some w)) u = λ early. subst (λ k. ready k (max b.clock now) n w ≡ Silent) (sym (same t)) (later (kept_of b t) b.clock (max b.clock now) n w (u tt) early)
+    one n (BoundTo t (Some w)) u = λ early. subst (λ k. ready k (max b.clock now) n w ≡ Silent) (sym (same t)) (later (kept_of_tenant b t) b.clock (max b.clock now) n w (u tt) early)
 
 -- where all are looked at none is passed over
 pub all-unready : (b : BrokerState) (clock : ℕ) → AreUnready (IsPassedOver whoms.All clock) b

@@ -14,10 +14,10 @@ use Rattle.kb_tenant_api.proofs.WaitersServed.{left_none, left_on}
 use Rattle.kb_tenant.specs.Replies.{Silent}
 use Rattle.kb_isolation_spec.specs.declared.shut.Shut.TheVariants as causes
 use Rattle.kb_isolation_spec.specs.Tenant.{Awaited, Records, Group, Wait, is_members, ready, ready_for}
-use Rattle.kb_isolation_spec.specs.Session.{Stage, Greets, BoundTo, Session, fed, fresh, has_member, is_free, overruns, room, shut_down}
-use Rattle.kb_isolation_spec.specs.Machine.{Line, each, on, those, find_line}
+use Rattle.kb_isolation_spec.specs.Session.{Stage, Greets, BoundTo, Session, fed, new_session, has_member, is_free, overruns, room, shut_down}
+use Rattle.kb_isolation_spec.specs.Machine.{Line, each_line, on, those, find_line}
 use Rattle.kb_isolation_spec.specs.Broker.{BrokerState, IsSound}
-use Rattle.kb_isolation_spec.specs.Calls.{closed, left_by, left_in, moved, opened, other_than, taken, without_output}
+use Rattle.kb_isolation_spec.specs.Calls.{closed, left_by, left_in, moved, opened, other_than, output_taken, without_output}
 use Rattle.kb_isolation_spec.specs.Told.{quieted_lines}
 use Rattle.kb_isolation_spec.specs.Stranded.{IsMembersAt, IsMembersIn, NoneStranded, members_of, replies_of}
 use Rattle.kb_isolation_spec.proofs.Leaving.{kept-other, kept-with, left_fed}
@@ -258,22 +258,22 @@ find-pushed n k s t (l ∷ ls) h = by (eqb l.number n) h (find-pushed n k s t ls
     by false here rest = rest here
 
 pub stranded-opened : (b : BrokerState) (n : ℕ) → NoneStranded b → NoneStranded (opened b n)
-stranded-opened b n h = record { held = λ t k some. find-pushed k n (fresh b.setup.request_bytes) t b.lines (h.held t k some); once = h.once }
+stranded-opened b n h = record { held = λ t k some. find-pushed k n (new_session b.setup.request_bytes) t b.lines (h.held t k some); once = h.once }
 
 pub stranded-unopened : (b : BrokerState) (x : ℕ) → NoneStranded b → NoneStranded (record b { unbound_refusals = x })
 stranded-unopened b x h = record { held = h.held; once = h.once }
 
-find-quiet : (n k t : ℕ) (ls : List Line) → IsMembersIn t (find_line k ls) → IsMembersIn t (find_line k (each (on n without_output) ls))
+find-quiet : (n k t : ℕ) (ls : List Line) → IsMembersIn t (find_line k ls) → IsMembersIn t (find_line k (each_line (on n without_output) ls))
 find-quiet n k t [] h = absurd h
 find-quiet n k t (l ∷ ls) h = by (eqb l.number k) (eqb l.number n) h (find-quiet n k t ls)
   where
-    by : (c d : Bool) → IsMembersIn t (cond c (Some l.session) (find_line k ls)) → (IsMembersIn t (find_line k ls) → IsMembersIn t (find_line k (each (on n without_output) ls)))
-        → IsMembersIn t (cond c (Some (cond d (without_output l.session) l.session)) (find_line k (each (on n without_output) ls)))
+    by : (c d : Bool) → IsMembersIn t (cond c (Some l.session) (find_line k ls)) → (IsMembersIn t (find_line k ls) → IsMembersIn t (find_line k (each_line (on n without_output) ls)))
+        → IsMembersIn t (cond c (Some (cond d (without_output l.session) l.session)) (find_line k (each_line (on n without_output) ls)))
     by true true here rest = here
     by true false here rest = here
     by false d here rest = rest here
 
-pub stranded-taken : (b : BrokerState) (n : ℕ) → NoneStranded b → NoneStranded (taken b n)
+pub stranded-taken : (b : BrokerState) (n : ℕ) → NoneStranded b → NoneStranded (output_taken b n)
 stranded-taken b n h = record { held = λ t k some. find-quiet n k t b.lines (h.held t k some); once = h.once }
 
 find-closed : (n k : ℕ) (ls : List Line) → k ≢ n → find_line k (those (other_than n) ls) ≡ find_line k ls

@@ -17,9 +17,9 @@ use Rattle.kb_tenant.specs.Replies.{Silent}
 use Rattle.kb_isolation_spec.specs.Tenant.{Wait, ready}
 use Rattle.kb_isolation_spec.specs.Session.{Greeting, Unshaken, Shaken, Bare, Stage, Session, Greets, BoundTo, shut_down, replied, throttled, without_wait, is_free, can, unanswerable, in_front}
 use Rattle.kb_isolation_spec.specs.Greeting.{Setup, for_tenant, login, logged_in, bare_login, bound, greeting_after, shaken, greeted_by, greeted_frame, greeted_at, greeted}
-use Rattle.kb_isolation_spec.specs.Machine.{Happening, Line, after_turn, put, each, on, those, first_able, all_woken, turns, find_line}
-use Rattle.kb_isolation_spec.specs.Owners.{Owns, whose}
-use Rattle.kb_isolation_spec.specs.Broker.{BrokerState, IsSound, IsUnready, AreUnready, AnyWait, Grows, InRange, Mine, view_of, kept_of, refusals_of, bound_to, bound_as}
+use Rattle.kb_isolation_spec.specs.Machine.{Happening, Line, after_turn, kept_by_turn, each_line, on, those, first_able, all_woken, turns, find_line}
+use Rattle.kb_isolation_spec.specs.Owners.{OwnsLines, whose}
+use Rattle.kb_isolation_spec.specs.Broker.{BrokerState, IsSound, IsUnready, AreUnready, AnyWait, Grows, InRange, Mine, view_of, kept_of_tenant, refusals_of, bound_to, bound_as}
 use Rattle.kb_isolation_spec.specs.Turned.{Scope, Of, Everybody, HasTenant, InScope, IsStill, AreStill, IsCountedIn, IsGoing, is_resting, AreUntouched, Turned, Served}
 use Rattle.kb_isolation_spec.proofs.Owners.{IsBound, IsMine, SameFate, fate-same, fate-greeted, fate-bound, mine-bound, bound-same, owns-fates, those-on_other, view-greeting, view-served}
 use Rattle.kb_isolation_spec.proofs.Ranges.{range-greeted, range-same, range-without}
@@ -145,16 +145,16 @@ free-greeted setup h s free = by (in_front s)
     by Partial = free
 
 -- a state in which the tenants keep the same at the same time
-pub unready-same : (P : ℕ → Wait → Type 0) (a b : BrokerState) (n : ℕ) (st : Stage) → b.clock ≡ a.clock → ((t : ℕ) → kept_of b t ≡ kept_of a t) → IsUnready P a n st → IsUnready P b n st
+pub unready-same : (P : ℕ → Wait → Type 0) (a b : BrokerState) (n : ℕ) (st : Stage) → b.clock ≡ a.clock → ((t : ℕ) → kept_of_tenant b t ≡ kept_of_tenant a t) → IsUnready P a n st → IsUnready P b n st
 unready-same P a b n (Greets h) e kept u = tt
 unready-same P a b n (BoundTo t None) e kept u = tt
-unready-same P a b n (BoundTo t (Some w)) e kept u = λ p. ap (λ k. ready k b.clock n w) (kept t) ∙ (ap (λ c. ready (kept_of a t) c n w) e ∙ u p)
+unready-same P a b n (BoundTo t (Some w)) e kept u = λ p. ap (λ k. ready k b.clock n w) (kept t) ∙ (ap (λ c. ready (kept_of_tenant a t) c n w) e ∙ u p)
 
 -- a state in which what was not ready is not ready, at the same time
-pub unready-quiet : (P : ℕ → Wait → Type 0) (a b : BrokerState) → b.clock ≡ a.clock → ((t n : ℕ) (w : Wait) → ready (kept_of a t) a.clock n w ≡ Silent → ready (kept_of b t) a.clock n w ≡ Silent) → (n : ℕ) (st : Stage) → IsUnready P a n st → IsUnready P b n st
+pub unready-quiet : (P : ℕ → Wait → Type 0) (a b : BrokerState) → b.clock ≡ a.clock → ((t n : ℕ) (w : Wait) → ready (kept_of_tenant a t) a.clock n w ≡ Silent → ready (kept_of_tenant b t) a.clock n w ≡ Silent) → (n : ℕ) (st : Stage) → IsUnready P a n st → IsUnready P b n st
 unready-quiet P a b e quiet n (Greets h) u = tt
 unready-quiet P a b e quiet n (BoundTo t None) u = tt
-unready-quiet P a b e quiet n (BoundTo t (Some w)) u = λ p. ap (λ c. ready (kept_of b t) c n w) e ∙ quiet t n w (u p)
+unready-quiet P a b e quiet n (BoundTo t (Some w)) u = λ p. ap (λ c. ready (kept_of_tenant b t) c n w) e ∙ quiet t n w (u p)
 
 -- fewer waits pass
 pub weaken : (P Q : ℕ → Wait → Type 0) (b : BrokerState) → ((t : ℕ) (w : Wait) → Q t w → P t w) → (n : ℕ) (st : Stage) → IsUnready P b n st → IsUnready Q b n st
@@ -166,13 +166,13 @@ pub unready-weaken : (P Q : ℕ → Wait → Type 0) (b : BrokerState) → ((t :
 unready-weaken P Q b less u = all-map (λ l. IsUnready P b l.number l.session.stage) (λ l. IsUnready Q b l.number l.session.stage) (λ l. weaken P Q b less l.number l.session.stage) b.lines u
 
 -- another connection at a place, while what was not ready is not ready
-pub changed-quiet : (P : ℕ → Wait → Type 0) (b : BrokerState) (i : ℕ) (m : Line) (ps : List TenantState) (x : ℕ) → ((t n : ℕ) (w : Wait) → ready (kept_of b t) b.clock n w ≡ Silent → ready (hosted.kept_of ps t) b.clock n w ≡ Silent) → AreUnready P b → IsUnready P b m.number m.session.stage → AreUnready P (record b { lines = set b.lines i m; tenants = ps; unbound_refusals = x })
+pub changed-quiet : (P : ℕ → Wait → Type 0) (b : BrokerState) (i : ℕ) (m : Line) (ps : List TenantState) (x : ℕ) → ((t n : ℕ) (w : Wait) → ready (kept_of_tenant b t) b.clock n w ≡ Silent → ready (hosted.kept_of ps t) b.clock n w ≡ Silent) → AreUnready P b → IsUnready P b m.number m.session.stage → AreUnready P (record b { lines = set b.lines i m; tenants = ps; unbound_refusals = x })
 changed-quiet P b i m ps x quiet u here =
     let new = record b { lines = set b.lines i m; tenants = ps; unbound_refusals = x } in
     all-map (λ l. IsUnready P b l.number l.session.stage) (λ l. IsUnready P new l.number l.session.stage) (λ l. unready-quiet P b new refl quiet l.number l.session.stage) (set b.lines i m) (all-set (λ l. IsUnready P b l.number l.session.stage) b.lines i m u here)
 
 -- or while the tenants keep the same
-pub changed-unready : (P : ℕ → Wait → Type 0) (b : BrokerState) (i : ℕ) (m : Line) (ps : List TenantState) (x : ℕ) → ((t : ℕ) → hosted.kept_of ps t ≡ kept_of b t) → AreUnready P b → IsUnready P b m.number m.session.stage → AreUnready P (record b { lines = set b.lines i m; tenants = ps; unbound_refusals = x })
+pub changed-unready : (P : ℕ → Wait → Type 0) (b : BrokerState) (i : ℕ) (m : Line) (ps : List TenantState) (x : ℕ) → ((t : ℕ) → hosted.kept_of ps t ≡ kept_of_tenant b t) → AreUnready P b → IsUnready P b m.number m.session.stage → AreUnready P (record b { lines = set b.lines i m; tenants = ps; unbound_refusals = x })
 changed-unready P b i m ps x stays u here = changed-quiet P b i m ps x (λ t n w silent. ap (λ k. ready k b.clock n w) (stays t) ∙ silent) u here
 
 -- 3. Another connection at a place
@@ -294,7 +294,7 @@ pub turned-greeting : (scope : Scope) (b : BrokerState) (i : ℕ) (l m : Line) (
     l.session.stage ≡ Greets h → m.number ≡ l.number → m.session ≡ greeted b.setup h l.session → Turned scope b (changed b i m b.tenants b.unbound_refusals)
 turned-greeting scope b i l m h s still at able c g n e =
     let none : whose l.session.stage ≡ None = ap whose g in
-    let lines : set b.lines i m ≡ each (on l.number (greeted b.setup h)) b.lines = set-on 0 b.last (greeted b.setup h) b.lines i l m s.rising at n e in
+    let lines : set b.lines i m ≡ each_line (on l.number (greeted b.setup h)) b.lines = set-on 0 b.last (greeted b.setup h) b.lines i l m s.rising at n e in
     let stays = greeting-stays l m h g in
     let going = greeting-going b i l m h s at g n e in
     record {
@@ -334,7 +334,7 @@ pub fate-two : (b : BrokerState) (u : ℕ) (l m : Line) → IsBound u l.session 
 fate-two b u l m p q n = record { number = n; fate = λ es. fate-bound b.setup l.number m.session es u q ∙ sym (fate-bound b.setup l.number l.session es u p) }
 
 pub bound-mine : (b : BrokerState) (i u : ℕ) (l m : Line) → IsAt b.lines i l → IsBound u l.session → IsBound u m.session → m.number ≡ l.number →
-    (t : ℕ) (mine : ℕ → Bool) (es : List Happening) → Mine t mine es b → Owns b.setup t mine b.last es (set b.lines i m)
+    (t : ℕ) (mine : ℕ → Bool) (es : List Happening) → Mine t mine es b → OwnsLines b.setup t mine b.last es (set b.lines i m)
 bound-mine b i u l m at p q n t mine es k = owns-fates b.setup t mine b.last es b.lines (set b.lines i m) (pairwise-set (SameFate b.setup) (fate-same b.setup) b.lines i l m at (fate-two b u l m p q n)) k
 
 -- to another tenant, what happens to a bound connection is nothing
@@ -374,7 +374,7 @@ served-unready b i u m H ts turn honest q k =
     all-set (λ l. IsUnready (λ t w. t ≢ u) new l.number l.session.stage) b.lines i m (all-map (λ l. IsUnready AnyWait b l.number l.session.stage) (λ l. IsUnready (λ t w. t ≢ u) new l.number l.session.stage) (λ l. other b u new (λ t ne. turn.others honest t ne) l.number l.session.stage) b.lines k)
     (subst (IsUnready (λ t w. t ≢ u) new m.number) (sym q.is) (own u new m.number q.wait))
   where
-    other : (b : BrokerState) (u : ℕ) (new : BrokerState) → ((t : ℕ) → t ≢ u → hosted.kept_of ts t ≡ kept_of b t) → (n : ℕ) (st : Stage) → IsUnready AnyWait b n st → IsUnready (λ t w. t ≢ u) (changed b i m ts b.unbound_refusals) n st
+    other : (b : BrokerState) (u : ℕ) (new : BrokerState) → ((t : ℕ) → t ≢ u → hosted.kept_of ts t ≡ kept_of_tenant b t) → (n : ℕ) (st : Stage) → IsUnready AnyWait b n st → IsUnready (λ t w. t ≢ u) (changed b i m ts b.unbound_refusals) n st
     other b u new kept n (Greets h) k = tt
     other b u new kept n (BoundTo t None) k = tt
     other b u new kept n (BoundTo t (Some w)) k = λ ne. ap (λ x. ready x b.clock n w) (kept t ne) ∙ k tt
@@ -386,7 +386,7 @@ served-unready b i u m H ts turn honest q k =
 -- the turn of a bound connection, which is a call for its tenant: where nothing was refused to the tenant, it is the machine's
 pub served-bound : (scope : Scope) (b : BrokerState) (i u : ℕ) (l m : Line) (w : Option Wait) (H : Type 0) (ts : List TenantState) → IsSound b → AreStill scope b → IsAt b.lines i l → first_able b.lines ≡ Some l → can l.session ≡ true →
     l.session.stage ≡ BoundTo u w → m.number ≡ l.number → without_wait m.session.stage ≡ without_wait l.session.stage → IsTurn u H b.tenants ts → H →
-    (IsCalm (count b.tenants u) (count ts u) → (m.session ≡ after_turn (for_tenant b.setup u) (kept_of b u) b.clock l.number l.session) × (hosted.kept_of ts u ≡ put (for_tenant b.setup u) (kept_of b u) b.clock l.number (in_front l.session))) →
+    (IsCalm (count b.tenants u) (count ts u) → (m.session ≡ after_turn (for_tenant b.setup u) (kept_of_tenant b u) b.clock l.number l.session) × (hosted.kept_of ts u ≡ kept_by_turn (for_tenant b.setup u) (kept_of_tenant b u) b.clock l.number (in_front l.session))) →
     (NoneStranded b → NoneStranded (changed b i m ts b.unbound_refusals)) → Served u scope b (changed b i m ts b.unbound_refusals)
 served-bound scope b i u l m w H ts s still at able c g n same turn honest meets held =
     let p : IsBound u l.session = record { wait = w; is = g } in
@@ -408,8 +408,8 @@ served-bound scope b i u l m w H ts s still at able c g n same turn honest meets
       view = λ mine es k calm.
           let done = meets calm in
           let x = view_of u mine b in
-          let lines : set b.lines i m ≡ each (on l.number (after_turn (for_tenant b.setup u) (kept_of b u) b.clock l.number)) b.lines = set-on 0 b.last (after_turn (for_tenant b.setup u) (kept_of b u) b.clock l.number) b.lines i l m s.rising at n done.0 in
+          let lines : set b.lines i m ≡ each_line (on l.number (after_turn (for_tenant b.setup u) (kept_of_tenant b u) b.clock l.number)) b.lines = set-on 0 b.last (after_turn (for_tenant b.setup u) (kept_of_tenant b u) b.clock l.number) b.lines i l m s.rising at n done.0 in
           ap (λ z. turns (all_woken (record x { kept = hosted.kept_of ts u; lines = those mine z }))) lines
-          ∙ (ap (λ z. turns (all_woken (record x { kept = z; lines = those mine (each (on l.number (after_turn (for_tenant x.setup u) x.kept x.clock l.number)) b.lines) }))) done.1
+          ∙ (ap (λ z. turns (all_woken (record x { kept = z; lines = those mine (each_line (on l.number (after_turn (for_tenant x.setup u) x.kept x.clock l.number)) b.lines) }))) done.1
           ∙ view-served mine x b.lines l u w able g refl (shown b i u l at p mine es k));
     }

@@ -20,9 +20,9 @@ use Rattle.kb_tenant_api.specs.Replies as service
 use Rattle.kb_isolation_spec.specs.declared.head.Head.{Head}
 use Rattle.kb_isolation_spec.specs.Tenant.{Wait, Awaited, Records, Group, ready, ready_for}
 use Rattle.kb_isolation_spec.specs.Session.{Stage, Greets, BoundTo, Session, without_wait, is_free, shut_down, unanswerable}
-use Rattle.kb_isolation_spec.specs.Machine.{Happening, Line, told, woken_by, woken, each, on, those, all_woken, turns}
+use Rattle.kb_isolation_spec.specs.Machine.{Happening, Line, told, woken_by, woken, each_line, on, those, all_woken, turns}
 use Rattle.kb_isolation_spec.specs.Owners.{whose}
-use Rattle.kb_isolation_spec.specs.Broker.{BrokerState, IsSound, IsUnready, AreUnready, AnyWait, Mine, view_of, kept_of, refusals_of}
+use Rattle.kb_isolation_spec.specs.Broker.{BrokerState, IsSound, IsUnready, AreUnready, AnyWait, Mine, view_of, kept_of_tenant, refusals_of}
 use Rattle.kb_isolation_spec.specs.declared.whom.Whom.{Whom}
 use Rattle.kb_isolation_spec.specs.declared.whom.Whom.TheVariants as whoms
 use Rattle.kb_isolation_spec.specs.Turned.{Scope, HasTenant, is_resting, Turned, Served, Concerns, Waked, IsLookedFor, IsPassedOver}
@@ -108,21 +108,21 @@ unconcerned whom t u concerned never = λ e. never (subst (Concerns whom) (sym e
 busy : (u : ℕ) (w : Wait) (s : Session) → s.stage ≡ BoundTo u (Some w) → is_resting (Some s) ≡ false
 busy u w s e = let f : is_free s.stage ≡ false = ap is_free e in grind (arith, f)
 
-each-again : (kept : Kept) (clock n : ℕ) (ls : List Line) → each (λ k s. woken kept clock k s) (each (on n (woken kept clock n)) ls) ≡ each (λ k s. woken kept clock k s) ls
+each-again : (kept : Kept) (clock n : ℕ) (ls : List Line) → each_line (λ k s. woken kept clock k s) (each_line (on n (woken kept clock n)) ls) ≡ each_line (λ k s. woken kept clock k s) ls
 each-again kept clock n [] = refl
 each-again kept clock n (l ∷ ls) = by (eqb l.number n) refl (each-again kept clock n ls)
   where
-    by : (b : Bool) → eqb l.number n ≡ b → each (λ k s. woken kept clock k s) (each (on n (woken kept clock n)) ls) ≡ each (λ k s. woken kept clock k s) ls →
-        (let x : Line = record { number = l.number; session = woken kept clock l.number (cond b (woken kept clock n l.session) l.session) } in x) ∷ each (λ k s. woken kept clock k s) (each (on n (woken kept clock n)) ls) ≡ (let x : Line = record { number = l.number; session = woken kept clock l.number l.session } in x) ∷ each (λ k s. woken kept clock k s) ls
+    by : (b : Bool) → eqb l.number n ≡ b → each_line (λ k s. woken kept clock k s) (each_line (on n (woken kept clock n)) ls) ≡ each_line (λ k s. woken kept clock k s) ls →
+        (let x : Line = record { number = l.number; session = woken kept clock l.number (cond b (woken kept clock n l.session) l.session) } in x) ∷ each_line (λ k s. woken kept clock k s) (each_line (on n (woken kept clock n)) ls) ≡ (let x : Line = record { number = l.number; session = woken kept clock l.number l.session } in x) ∷ each_line (λ k s. woken kept clock k s) ls
     by true e rest =
         let twice = ap (λ k. woken kept clock l.number (woken kept clock k l.session)) (sym (eqb_same l.number n e)) ∙ woken-twice kept clock l.number l.session in
-        ap (λ s. (let x : Line = record { number = l.number; session = s } in x) ∷ each (λ k s. woken kept clock k s) (each (on n (woken kept clock n)) ls)) twice ∙ ap (λ xs. (let x : Line = record { number = l.number; session = woken kept clock l.number l.session } in x) ∷ xs) rest
+        ap (λ s. (let x : Line = record { number = l.number; session = s } in x) ∷ each_line (λ k s. woken kept clock k s) (each_line (on n (woken kept clock n)) ls)) twice ∙ ap (λ xs. (let x : Line = record { number = l.number; session = woken kept clock l.number l.session } in x) ∷ xs) rest
     by false e rest = ap (λ xs. (let x : Line = record { number = l.number; session = woken kept clock l.number l.session } in x) ∷ xs) rest
 
 -- a waiting connection of a concerned tenant was looked at
 pub waked-line : (whom : Whom) (b : BrokerState) (i u : ℕ) (l m : Line) (w : Wait) (H : Type 0) (ts : List TenantState) → IsSound b → IsAt b.lines i l → l.session.stage ≡ BoundTo u (Some w) → Concerns whom u →
-    m.number ≡ l.number → without_wait m.session.stage ≡ without_wait l.session.stage → IsTurn u H b.tenants ts → H → ((t : ℕ) → hosted.kept_of ts t ≡ kept_of b t) →
-    (IsCalm (count b.tenants u) (count ts u) → m.session ≡ woken (kept_of b u) b.clock l.number l.session) →
+    m.number ≡ l.number → without_wait m.session.stage ≡ without_wait l.session.stage → IsTurn u H b.tenants ts → H → ((t : ℕ) → hosted.kept_of ts t ≡ kept_of_tenant b t) →
+    (IsCalm (count b.tenants u) (count ts u) → m.session ≡ woken (kept_of_tenant b u) b.clock l.number l.session) →
     (NoneStranded b → NoneStranded (changed b i m ts b.unbound_refusals)) → Waked whom b (changed b i m ts b.unbound_refusals)
 waked-line whom b i u l m w H ts s at g concerned n same turn honest stays meets held =
     let p : IsBound u l.session = record { wait = Some w; is = g } in
@@ -146,15 +146,15 @@ waked-line whom b i u l m w H ts s at g concerned n same turn honest stays meets
     }
   where
     own : (b : BrokerState) (i u : ℕ) (l m : Line) (ts : List TenantState) → IsSound b → IsAt b.lines i l → m.number ≡ l.number → (mine : ℕ → Bool) →
-        m.session ≡ woken (kept_of b u) b.clock l.number l.session → hosted.kept_of ts u ≡ kept_of b u → all_woken (view_of u mine (changed b i m ts b.unbound_refusals)) ≡ all_woken (view_of u mine b)
+        m.session ≡ woken (kept_of_tenant b u) b.clock l.number l.session → hosted.kept_of ts u ≡ kept_of_tenant b u → all_woken (view_of u mine (changed b i m ts b.unbound_refusals)) ≡ all_woken (view_of u mine b)
     own b i u l m ts s at n mine done same =
         let x = view_of u mine b in
-        let g = woken (kept_of b u) b.clock l.number in
-        let lines : set b.lines i m ≡ each (on l.number g) b.lines = set-on 0 b.last g b.lines i l m s.rising at n done in
-        let cut : those mine (set b.lines i m) ≡ each (on l.number g) (those mine b.lines) = ap (those mine) lines ∙ those-each mine (on l.number g) b.lines in
+        let g = woken (kept_of_tenant b u) b.clock l.number in
+        let lines : set b.lines i m ≡ each_line (on l.number g) b.lines = set-on 0 b.last g b.lines i l m s.rising at n done in
+        let cut : those mine (set b.lines i m) ≡ each_line (on l.number g) (those mine b.lines) = ap (those mine) lines ∙ those-each mine (on l.number g) b.lines in
         ap (λ k. all_woken (record x { kept = k; lines = those mine (set b.lines i m) })) same
         ∙ (ap (λ z. all_woken (record x { lines = z })) cut
-        ∙ ap (λ z. record x { lines = z }) (each-again (kept_of b u) b.clock l.number (those mine b.lines)))
+        ∙ ap (λ z. record x { lines = z }) (each-again (kept_of_tenant b u) b.clock l.number (those mine b.lines)))
 
 -- 4. What was looked at is not ready
 
@@ -180,33 +180,33 @@ never-waits kept clock n w deadline limit places e = for w.awaited e
     for Group h = tells (reply_to n kept.groups) h
 
 -- what is left of a connection after a look waits no longer, or is not ready
-pub unready-woken : (P : ℕ → Wait → Type 0) (b : BrokerState) (n : ℕ) (s : Session) (u : ℕ) (w : Wait) → s.stage ≡ BoundTo u (Some w) → IsUnready P b n (woken (kept_of b u) b.clock n s).stage
-unready-woken P b n s u w e = subst (λ (x : Session). IsUnready P b n x.stage) (sym (woken-at (kept_of b u) b.clock n s u w e)) (by (ready (kept_of b u) b.clock n w) refl)
+pub unready-woken : (P : ℕ → Wait → Type 0) (b : BrokerState) (n : ℕ) (s : Session) (u : ℕ) (w : Wait) → s.stage ≡ BoundTo u (Some w) → IsUnready P b n (woken (kept_of_tenant b u) b.clock n s).stage
+unready-woken P b n s u w e = subst (λ (x : Session). IsUnready P b n x.stage) (sym (woken-at (kept_of_tenant b u) b.clock n s u w e)) (by (ready (kept_of_tenant b u) b.clock n w) refl)
   where
-    by : (r : Reaction) → ready (kept_of b u) b.clock n w ≡ r → IsUnready P b n (told r w.head s).stage
+    by : (r : Reaction) → ready (kept_of_tenant b u) b.clock n w ≡ r → IsUnready P b n (told r w.head s).stage
     by (Replies reply) f = free-unready P b n (told (Replies reply) w.head s).stage (free-replied w.head reply (record s { stage = without_wait s.stage }) (free-without s.stage))
-    by (Waits deadline limit places) f = absurd (never-waits (kept_of b u) b.clock n w deadline limit places f)
+    by (Waits deadline limit places) f = absurd (never-waits (kept_of_tenant b u) b.clock n w deadline limit places f)
     by Silent f = subst (IsUnready P b n) (sym e) (λ p. f)
     by Shuts f = shut-unready P b n s
 
 -- of the tenant's connections none is ready
 each-unready : (P : ℕ → Wait → Type 0) (b : BrokerState) (t : ℕ) (mine : ℕ → Bool) (es : List Happening) → ((w : Wait) → P t w) → (ls : List Line) → AllByRecursion (IsMine b.setup t mine es) ls → AllByRecursion (λ (l : Line). IsUnready P b l.number l.session.stage) ls →
-    each (λ k s. woken (kept_of b t) b.clock k s) (those mine ls) ≡ those mine ls
+    each_line (λ k s. woken (kept_of_tenant b t) b.clock k s) (those mine ls) ≡ those mine ls
 each-unready P b t mine es passes [] m h = refl
 each-unready P b t mine es passes (l ∷ ls) m h = by (mine l.number) refl (each-unready P b t mine es passes ls m.1 h.1)
   where
-    at : (st : Stage) → l.session.stage ≡ st → mine l.number ≡ true → woken (kept_of b t) b.clock l.number l.session ≡ l.session
-    at (Greets g) e among = woken-free (kept_of b t) b.clock l.number l.session (ap is_free e)
-    at (BoundTo u None) e among = woken-free (kept_of b t) b.clock l.number l.session (ap is_free e)
+    at : (st : Stage) → l.session.stage ≡ st → mine l.number ≡ true → woken (kept_of_tenant b t) b.clock l.number l.session ≡ l.session
+    at (Greets g) e among = woken-free (kept_of_tenant b t) b.clock l.number l.session (ap is_free e)
+    at (BoundTo u None) e among = woken-free (kept_of_tenant b t) b.clock l.number l.session (ap is_free e)
     at (BoundTo u (Some w)) e among =
         let is : mine l.number ≡ eqb u t = mine-bound b.setup t mine es l u (record { wait = Some w; is = e }) m.0 in
         let same : u ≡ t = eqb_same u t (sym is ∙ among) in
-        let silent : ready (kept_of b t) b.clock l.number w ≡ Silent = subst (λ v. P v w → ready (kept_of b v) b.clock l.number w ≡ Silent) same (subst (IsUnready P b l.number) e h.0) (passes w) in
-        woken-at (kept_of b t) b.clock l.number l.session u w e ∙ ap (λ r. told r w.head l.session) silent
+        let silent : ready (kept_of_tenant b t) b.clock l.number w ≡ Silent = subst (λ v. P v w → ready (kept_of_tenant b v) b.clock l.number w ≡ Silent) same (subst (IsUnready P b l.number) e h.0) (passes w) in
+        woken-at (kept_of_tenant b t) b.clock l.number l.session u w e ∙ ap (λ r. told r w.head l.session) silent
 
-    by : (c : Bool) → mine l.number ≡ c → each (λ k s. woken (kept_of b t) b.clock k s) (those mine ls) ≡ those mine ls → each (λ k s. woken (kept_of b t) b.clock k s) (cond c (l ∷ those mine ls) (those mine ls)) ≡ cond c (l ∷ those mine ls) (those mine ls)
+    by : (c : Bool) → mine l.number ≡ c → each_line (λ k s. woken (kept_of_tenant b t) b.clock k s) (those mine ls) ≡ those mine ls → each_line (λ k s. woken (kept_of_tenant b t) b.clock k s) (cond c (l ∷ those mine ls) (those mine ls)) ≡ cond c (l ∷ those mine ls) (those mine ls)
     by false e rest = rest
-    by true e rest = ap (λ s. (let x : Line = record { number = l.number; session = s } in x) ∷ each (λ k s. woken (kept_of b t) b.clock k s) (those mine ls)) (at l.session.stage refl e) ∙ ap (λ xs. l ∷ xs) rest
+    by true e rest = ap (λ s. (let x : Line = record { number = l.number; session = s } in x) ∷ each_line (λ k s. woken (kept_of_tenant b t) b.clock k s) (those mine ls)) (at l.session.stage refl e) ∙ ap (λ xs. l ∷ xs) rest
 
 -- then no look finds anything new
 pub unready-view : (P : ℕ → Wait → Type 0) (b : BrokerState) (t : ℕ) (mine : ℕ → Bool) (es : List Happening) → AreUnready P b → ((w : Wait) → P t w) → Mine t mine es b → all_woken (view_of t mine b) ≡ view_of t mine b

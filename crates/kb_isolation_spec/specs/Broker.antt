@@ -1,5 +1,6 @@
 -- The broker of all tenants, and what each of its steps is to each tenant.
 use Rattle.std.specs.Prelude.{◌≡◌, ◌≢◌, ℕ, ◌<◌, ◌≤◌, ◌^◌, ◌==◌, List, [], ◌∷◌, length, Option, Some, None, Bool, true, ⊤, ◌⊎◌}
+use Rattle.kb_wire.specs.declared.clock.TheConstants.{MAX_CLOCK}
 use Rattle.std.specs.List.{AllByRecursion}
 use Rattle.kb_tenant_state.specs.Counts.{IsCalm}
 use Rattle.kb_tenant_api.specs.Hosted as hosted
@@ -9,7 +10,7 @@ use Rattle.kb_isolation_spec.specs.Tenant.{Wait, ready}
 use Rattle.kb_isolation_spec.specs.Session.{Stage, Greets, BoundTo, Session}
 use Rattle.kb_isolation_spec.specs.Greeting.{Setup, User}
 use Rattle.kb_isolation_spec.specs.Machine.{Happening, Opens, Comes, Closes, Moment, Line, View, Sent, those, first_able, stepped, run, find_line}
-use Rattle.kb_isolation_spec.specs.Owners.{Owns, concerns, purge, owner, owned, whose}
+use Rattle.kb_isolation_spec.specs.Owners.{OwnsLines, concerns, purge, owner, owned, whose}
 
 -- the broker: what is fixed, the tenants in byte order of names, the refusals that were counted for no tenant, the clock,
 -- the greatest number that a connection has had, and the open connections by rising number
@@ -23,19 +24,19 @@ pub record BrokerState : Type 0 where
 
 -- 1. What a tenant sees of it
 
-abbrev pub kept_of : BrokerState → ℕ → Kept
-kept_of b t = hosted.kept_of b.tenants t
+abbrev pub kept_of_tenant : BrokerState → ℕ → Kept
+kept_of_tenant b t = hosted.kept_of b.tenants t
 
 abbrev pub refusals_of : BrokerState → ℕ → ℕ
 refusals_of b t = hosted.refusals_of b.tenants t
 
 -- the world of a tenant whose connections are those
 abbrev pub view_of : ℕ → (ℕ → Bool) → BrokerState → View
-view_of t mine b = record { setup = b.setup; kept = kept_of b t; clock = b.clock; lines = those mine b.lines }
+view_of t mine b = record { setup = b.setup; kept = kept_of_tenant b t; clock = b.clock; lines = those mine b.lines }
 
 -- those are the tenant's connections, if these events are still to come
 abbrev pub Mine : ℕ → (ℕ → Bool) → List Happening → BrokerState → Type 0
-Mine t mine es b = Owns b.setup t mine b.last es b.lines
+Mine t mine es b = OwnsLines b.setup t mine b.last es b.lines
 
 abbrev pub bound_as : Option Session → Option ℕ
 bound_as None = None
@@ -101,13 +102,13 @@ pub record IsSound (b : BrokerState) : Type 0 where
   pub rising : Rising 0 b.last b.lines
   pub in_range : AllByRecursion (λ l. InRange (length b.tenants) l.session.stage) b.lines
   pub users : AllByRecursion (λ (u : User). u.tenant < length b.tenants) b.setup.users
-  pub clock : b.clock ≤ 2 ^ 62
+  pub clock : b.clock ≤ MAX_CLOCK
 
 -- on the connection of number n, at that stage, nothing waits that is ready, among the waits of a tenant that pass
 abbrev pub IsUnready : (ℕ → Wait → Type 0) → BrokerState → ℕ → Stage → Type 0
 IsUnready P b n (Greets greeting) = ⊤
 IsUnready P b n (BoundTo tenant None) = ⊤
-IsUnready P b n (BoundTo tenant (Some wait)) = P tenant wait → ready (kept_of b tenant) b.clock n wait ≡ Silent
+IsUnready P b n (BoundTo tenant (Some wait)) = P tenant wait → ready (kept_of_tenant b tenant) b.clock n wait ≡ Silent
 
 abbrev pub AreUnready : (ℕ → Wait → Type 0) → BrokerState → Type 0
 AreUnready P b = AllByRecursion (λ l. IsUnready P b l.number l.session.stage) b.lines
@@ -142,13 +143,13 @@ pub record IsStep (e : Happening) (old new : BrokerState) : Type 0 where
   pub view : (t : ℕ) (mine : ℕ → Bool) (es : List Happening) → Mine t mine (e ∷ es) old → IsCalmFor t old new
       → view_of t mine new ≡ stepped (concerns mine e) e (view_of t mine old)
 
--- numbers of new connections rise, and no moment is after 2 ^ 62
-abbrev pub IsRun : ℕ → List Happening → Type 0
-IsRun last [] = ⊤
-IsRun last (Opens n ∷ es) = (last < n) × IsRun n es
-IsRun last (Comes n piece ∷ es) = IsRun last es
-IsRun last (Closes n ∷ es) = IsRun last es
-IsRun last (Moment now ∷ es) = (now ≤ 2 ^ 62) × IsRun last es
+-- numbers of new connections rise, and no moment is after MAX_CLOCK
+abbrev pub IsEventRun : ℕ → List Happening → Type 0
+IsEventRun last [] = ⊤
+IsEventRun last (Opens n ∷ es) = (last < n) × IsEventRun n es
+IsEventRun last (Comes n piece ∷ es) = IsEventRun last es
+IsEventRun last (Closes n ∷ es) = IsEventRun last es
+IsEventRun last (Moment now ∷ es) = (now ≤ MAX_CLOCK) × IsEventRun last es
 
 -- 5. Whole runs
 

@@ -1,7 +1,7 @@
 -- What the broker's calls answer, and the state that they leave.
 use Rattle.std.specs.Prelude.{◌≡◌, ℕ, ◌==◌, ◌&&◌, List, [], ◌∷◌, ◌++◌, max, Bool, true, false, not, if◌then◌else◌, Option, Some, None}
-use Rattle.kb_isolation_spec.specs.Session.{Stage, Greets, BoundTo, Session, fresh, room, has_member}
-use Rattle.kb_isolation_spec.specs.Machine.{each, on, those, find_line}
+use Rattle.kb_isolation_spec.specs.Session.{Stage, Greets, BoundTo, Session, new_session, room, has_member}
+use Rattle.kb_isolation_spec.specs.Machine.{each_line, on, those, find_line}
 use Rattle.kb_tenant_state.specs.Counts.{counted_once}
 use Rattle.kb_tenant_api.specs.Hosted.{TenantState, kept_of, left}
 use Rattle.kb_tenant_api.specs.Turns.{with_kept, count_named, all_calm}
@@ -14,10 +14,10 @@ use Rattle.kb_isolation_spec.specs.Broker.{BrokerState}
 
 -- after a connection opened
 abbrev pub opened : BrokerState → ℕ → BrokerState
-opened b n = record b { last = n; lines = b.lines ++ record { number = n; session = fresh b.setup.request_bytes } ∷ [] }
+opened b n = record b { last = n; lines = b.lines ++ record { number = n; session = new_session b.setup.request_bytes } ∷ [] }
 
 -- after a connection could not be kept: one refusal more is counted for no tenant, short of the end of the count
-pub record IsRefused (old new : BrokerState) : Type 0 where
+pub record IsRefusedUnbound (old new : BrokerState) : Type 0 where
   pub is : new ≡ record old { unbound_refusals = new.unbound_refusals }
   pub once : new.unbound_refusals ≡ counted_once old.unbound_refusals
 
@@ -45,8 +45,8 @@ abbrev pub without_output : Session → Session
 without_output s = record s { output = [] }
 
 -- after a connection's output was taken
-abbrev pub taken : BrokerState → ℕ → BrokerState
-taken b n = record b { lines = each (on n without_output) b.lines }
+abbrev pub output_taken : BrokerState → ℕ → BrokerState
+output_taken b n = record b { lines = each_line (on n without_output) b.lines }
 
 -- 2. What is asked of a connection: of one that is not open there is nothing
 
@@ -75,8 +75,8 @@ abbrev pub login_in : Option Session → Login
 login_in None = logins.Nobody
 login_in (Some s) = s.login
 
-abbrev pub login_of : ℕ → BrokerState → Login
-login_of n b = login_in (find_line n b.lines)
+abbrev pub login_on : ℕ → BrokerState → Login
+login_on n b = login_in (find_line n b.lines)
 
 -- whether the broker shut it
 abbrev pub is_shut : ℕ → BrokerState → Bool
@@ -89,13 +89,13 @@ open_in (Some s) = true
 abbrev pub is_open : ℕ → BrokerState → Bool
 is_open n b = open_in (find_line n b.lines)
 
-abbrev pub room_in : Option Session → ℕ
-room_in None = 0
-room_in (Some s) = room s
+abbrev pub room_if_open : Option Session → ℕ
+room_if_open None = 0
+room_if_open (Some s) = room s
 
 -- how many more bytes it takes
 abbrev pub room_of : ℕ → BrokerState → ℕ
-room_of n b = room_in (find_line n b.lines)
+room_of n b = room_if_open (find_line n b.lines)
 
 -- 3. Counts
 

@@ -13,7 +13,7 @@ use Rattle.kb_isolation_spec.specs.Requests.{Another, request}
 use Rattle.kb_isolation_spec.specs.Tenant.{Records}
 use Rattle.kb_isolation_spec.specs.Session.{Stage, Greets, BoundTo, Session, fed, replied, without_wait, in_front}
 use Rattle.kb_isolation_spec.specs.Greeting.{for_tenant}
-use Rattle.kb_isolation_spec.specs.Machine.{Happening, Opens, Comes, Closes, Moment, Line, View, after_turn, put, woken, kept_fed, find_line, each}
+use Rattle.kb_isolation_spec.specs.Machine.{Happening, Opens, Comes, Closes, Moment, Line, View, after_turn, kept_by_turn, woken, kept_fed, find_line, each_line}
 use Rattle.kb_isolation_spec.specs.Machine.{on, first_able, all_woken, turn, work, step}
 
 -- it got a reply that holds such batches, as that version tells them, or no reply
@@ -47,8 +47,8 @@ AllWakeWithBatches w = AllByRecursion (λ (l : Line). WakesWithBatches w l.numbe
 -- the world after the request of a tenant's connection, when those that wait are looked at
 abbrev pub after_request : View → ℕ → Line → View
 after_request w tenant l = record w {
-  kept = put (for_tenant w.setup tenant) w.kept w.clock l.number (in_front l.session);
-  lines = each (on l.number (after_turn (for_tenant w.setup tenant) w.kept w.clock l.number)) w.lines;
+  kept = kept_by_turn (for_tenant w.setup tenant) w.kept w.clock l.number (in_front l.session);
+  lines = each_line (on l.number (after_turn (for_tenant w.setup tenant) w.kept w.clock l.number)) w.lines;
 }
 
 -- a turn: its own connection, and then those that wait
@@ -73,7 +73,7 @@ abbrev pub EventGivesBatches : Happening → View → Type 0
 EventGivesBatches (Opens n) w = ⊤
 EventGivesBatches (Comes n piece) w =
     let kept = kept_fed piece w.clock n (find_line n w.lines) w.kept in
-    AllTurnsGiveBatches (record w { kept = kept; lines = each (on n (fed piece)) w.lines })
+    AllTurnsGiveBatches (record w { kept = kept; lines = each_line (on n (fed piece)) w.lines })
 EventGivesBatches (Closes n) w = ⊤
 EventGivesBatches (Moment now) w =
     let clock = max w.clock now in

@@ -1,9 +1,9 @@
 -- What a connection gets that is never bound: the answers of the greeting to its own pieces, with no world in it.
 use Rattle.std.specs.Prelude.{ℕ, ◌==◌, List, [], ◌∷◌, if◌then◌else◌, Option, Some, None}
-use Rattle.kb_isolation_spec.specs.Session.{Session, fresh, fed}
+use Rattle.kb_isolation_spec.specs.Session.{Session, new_session, fed}
 use Rattle.kb_isolation_spec.specs.Greeting.{Setup}
 use Rattle.kb_isolation_spec.specs.Machine.{Happening, Opens, Comes, Closes, Moment, Sent, find_line}
-use Rattle.kb_isolation_spec.specs.Owners.{heard}
+use Rattle.kb_isolation_spec.specs.Owners.{greeted_so_far}
 use Rattle.kb_isolation_spec.specs.Broker.{BrokerState}
 
 -- the pieces that come on a connection until it closes
@@ -17,12 +17,12 @@ pieces_of n (Moment now ∷ es) = pieces_of n es
 -- a greeting connection after those pieces: each is taken, and then the requests are answered that are whole
 abbrev pub greeting : Setup → Session → List (List ℕ) → Session
 greeting setup s [] = s
-greeting setup s (piece ∷ pieces) = greeting setup (heard setup (fed piece s)) pieces
+greeting setup s (piece ∷ pieces) = greeting setup (greeted_so_far setup (fed piece s)) pieces
 
 -- a connection in the end, if an event opens it
 abbrev pub once_opened : Setup → ℕ → List Happening → Option Session
 once_opened setup n [] = None
-once_opened setup n (Opens m ∷ es) = if m == n then Some (greeting setup (fresh setup.request_bytes) (pieces_of n es)) else once_opened setup n es
+once_opened setup n (Opens m ∷ es) = if m == n then Some (greeting setup (new_session setup.request_bytes) (pieces_of n es)) else once_opened setup n es
 once_opened setup n (Comes m piece ∷ es) = once_opened setup n es
 once_opened setup n (Closes m ∷ es) = once_opened setup n es
 once_opened setup n (Moment now ∷ es) = once_opened setup n es

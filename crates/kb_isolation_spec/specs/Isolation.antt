@@ -2,7 +2,7 @@
 use Rattle.std.specs.Prelude.{◌≡◌, ℕ, List}
 use Rattle.kb_isolation_spec.specs.Machine.{Happening, Line, Sent, those, those_sent, by_number}
 use Rattle.kb_isolation_spec.specs.Owners.{purge}
-use Rattle.kb_isolation_spec.specs.Broker.{BrokerState, IsCalmFor, kept_of, owned_by, alone}
+use Rattle.kb_isolation_spec.specs.Broker.{BrokerState, IsCalmFor, kept_of_tenant, owned_by, alone}
 
 -- 1. One run
 
@@ -30,7 +30,7 @@ own_sent t es b got = those_sent (owned_by t es b) got
 -- before the runs the tenant has the same in both: what is fixed, what it keeps, the clock, and its open connections
 pub record StartsAlike (t : ℕ) (es fs : List Happening) (a b : BrokerState) : Type 0 where
   pub setup : b.setup ≡ a.setup
-  pub kept : kept_of b t ≡ kept_of a t
+  pub kept : kept_of_tenant b t ≡ kept_of_tenant a t
   pub clock : b.clock ≡ a.clock
   pub lines : own_lines t fs b ≡ own_lines t es a
 

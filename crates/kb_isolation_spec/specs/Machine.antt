@@ -11,8 +11,8 @@ use Rattle.kb_isolation_spec.specs.declared.head.Head.{Head}
 use Rattle.kb_isolation_spec.specs.declared.shut.Shut.{Shut}
 use Rattle.kb_isolation_spec.specs.declared.shut.Shut.TheVariants as causes
 use Rattle.kb_isolation_spec.specs.Requests.{Asked, Versions, OtherVersions, Handshake, Authenticate, Another, Malformed, request, unserved}
-use Rattle.kb_isolation_spec.specs.Tenant.{Records, Group, kept_after, answer, ready}
-use Rattle.kb_isolation_spec.specs.Session.{Stage, Greets, BoundTo, Session, fresh, without_wait, waiting, shut_down, overruns, fed, replied, in_front}
+use Rattle.kb_isolation_spec.specs.Tenant.{Records, Group, kept_after, reaction_to, ready}
+use Rattle.kb_isolation_spec.specs.Session.{Stage, Greets, BoundTo, Session, new_session, without_wait, waiting, shut_down, overruns, fed, replied, in_front}
 use Rattle.kb_isolation_spec.specs.Session.{has_member, can, unanswerable}
 use Rattle.kb_isolation_spec.specs.Greeting.{Setup, for_tenant, greeted, versions_in, versions_reply, handshake_reply, illegal_state}
 
@@ -57,7 +57,7 @@ served_by setup kept clock n head OtherVersions s = replied head (versions_reply
 served_by setup kept clock n head (Handshake version mechanism) s = replied head (handshake_reply errors.IllegalSaslState) s
 served_by setup kept clock n head (Authenticate message) s = replied head illegal_state s
 served_by setup kept clock n head (Another key version body) s =
-    after_reaction (answer setup.node kept clock n key version body) head version body s
+    after_reaction (reaction_to setup.node kept clock n key version body) head version body s
 served_by setup kept clock n head Malformed s = shut_down (unserved setup.versions head) s
 
 abbrev pub served_at : Setup → Kept → ℕ → ℕ → Session → Front → Session
@@ -86,8 +86,8 @@ kept_at setup kept clock n TooLarge = kept
 kept_at setup kept clock n Partial = kept
 
 -- what the turn of a bound connection, in front of whose unread bytes that stands, leaves of what is kept
-unfoldable pub put : Setup → Kept → ℕ → ℕ → Front → Kept
-put setup kept clock n front = kept_at setup kept clock n front
+unfoldable pub kept_by_turn : Setup → Kept → ℕ → ℕ → Front → Kept
+kept_by_turn setup kept clock n front = kept_at setup kept clock n front
 
 -- 2. Waits
 
@@ -110,8 +110,8 @@ woken kept clock n s = woken_by kept clock n s s.stage
 -- 3. Lists of connections
 
 -- each connection is changed by its number
-abbrev pub each : (ℕ → Session → Session) → List Line → List Line
-each g lines = map (λ l. record { number = l.number; session = g l.number l.session }) lines
+abbrev pub each_line : (ℕ → Session → Session) → List Line → List Line
+each_line g lines = map (λ l. record { number = l.number; session = g l.number l.session }) lines
 
 -- the connection of that number is changed
 abbrev pub on : ℕ → (Session → Session) → ℕ → Session → Session
@@ -133,15 +133,15 @@ first_able (l ∷ ls) = if can l.session then Some l else first_able ls
 
 -- all waits that are ready are answered
 abbrev pub all_woken : View → View
-all_woken w = record w { lines = each (λ k s. woken w.kept w.clock k s) w.lines }
+all_woken w = record w { lines = each_line (λ k s. woken w.kept w.clock k s) w.lines }
 
 -- a bound connection's request, which sees of all nodes its tenant's alone: what is kept changes, then all waits that became ready are
 -- answered
 abbrev pub turn_at : View → ℕ → Front → Stage → View
-turn_at w n front (Greets greeting) = record w { lines = each (on n (greeted w.setup greeting)) w.lines }
+turn_at w n front (Greets greeting) = record w { lines = each_line (on n (greeted w.setup greeting)) w.lines }
 turn_at w n front (BoundTo tenant wait) =
     let setup = for_tenant w.setup tenant in
-    all_woken (record w { kept = put setup w.kept w.clock n front; lines = each (on n (after_turn setup w.kept w.clock n)) w.lines })
+    all_woken (record w { kept = kept_by_turn setup w.kept w.clock n front; lines = each_line (on n (after_turn setup w.kept w.clock n)) w.lines })
 
 abbrev pub turn_of : View → Option Line → View
 turn_of w None = w
@@ -183,9 +183,9 @@ kept_fed piece clock n (Some s) kept = if overruns piece s then kept_without clo
 -- one event: at a moment the clock, then the tenant's own part, then the waits that are ready, then turns; a moment before the clock
 -- acts as one at the clock
 abbrev pub step : Happening → View → View
-step (Opens n) w = record w { lines = w.lines ++ record { number = n; session = fresh w.setup.request_bytes } ∷ [] }
+step (Opens n) w = record w { lines = w.lines ++ record { number = n; session = new_session w.setup.request_bytes } ∷ [] }
 step (Comes n piece) w =
-    turns (record w { kept = kept_fed piece w.clock n (find_line n w.lines) w.kept; lines = each (on n (fed piece)) w.lines })
+    turns (record w { kept = kept_fed piece w.clock n (find_line n w.lines) w.kept; lines = each_line (on n (fed piece)) w.lines })
 step (Closes n) w = record w { kept = kept_closed w.clock n (find_line n w.lines) w.kept; lines = those (λ k. not (k == n)) w.lines }
 step (Moment now) w = let clock = max w.clock now in turns (all_woken (record w { kept = passed clock w.kept; clock = clock }))
 

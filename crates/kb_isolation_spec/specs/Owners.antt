@@ -1,7 +1,7 @@
 -- Which connections are a tenant's: those that what they say binds to it.
 use Rattle.std.specs.Prelude.{◌≡◌, ℕ, ◌<◌, ◌==◌, List, [], ◌∷◌, length, filter, Bool, true, false, if◌then◌else◌, Option, Some, None, ⊤}
 use Rattle.std.specs.List.{AllByRecursion}
-use Rattle.kb_isolation_spec.specs.Session.{Stage, Greets, BoundTo, Session, fresh, fed}
+use Rattle.kb_isolation_spec.specs.Session.{Stage, Greets, BoundTo, Session, new_session, fed}
 use Rattle.kb_isolation_spec.specs.Greeting.{Setup, greeted}
 use Rattle.kb_isolation_spec.specs.Machine.{Happening, Opens, Comes, Closes, Moment, Line, again, find_line}
 
@@ -16,8 +16,8 @@ unfoldable pub greet_turn : Setup → Session → Session
 greet_turn setup s = greet_turn_at setup s s.stage
 
 -- the greeting as far as the bytes go
-unfoldable pub heard : Setup → Session → Session
-heard setup s = again (greet_turn setup) (length s.unread) s
+unfoldable pub greeted_so_far : Setup → Session → Session
+greeted_so_far setup s = again (greet_turn setup) (length s.unread) s
 
 -- the tenant that a connection is bound to
 abbrev pub whose : Stage → Option ℕ
@@ -28,21 +28,21 @@ whose (BoundTo tenant wait) = Some tenant
 abbrev pub destiny : Setup → ℕ → Session → List Happening → Option ℕ
 destiny setup n s [] = whose s.stage
 destiny setup n s (Opens m ∷ es) = destiny setup n s es
-destiny setup n s (Comes m piece ∷ es) = if m == n then destiny setup n (heard setup (fed piece s)) es else destiny setup n s es
+destiny setup n s (Comes m piece ∷ es) = if m == n then destiny setup n (greeted_so_far setup (fed piece s)) es else destiny setup n s es
 destiny setup n s (Closes m ∷ es) = if m == n then whose s.stage else destiny setup n s es
 destiny setup n s (Moment now ∷ es) = destiny setup n s es
 
 -- of a connection that is not open yet
 abbrev pub unborn : Setup → ℕ → List Happening → Option ℕ
 unborn setup n [] = None
-unborn setup n (Opens m ∷ es) = if m == n then destiny setup n (fresh setup.request_bytes) es else unborn setup n es
+unborn setup n (Opens m ∷ es) = if m == n then destiny setup n (new_session setup.request_bytes) es else unborn setup n es
 unborn setup n (Comes m piece ∷ es) = unborn setup n es
 unborn setup n (Closes m ∷ es) = unborn setup n es
 unborn setup n (Moment now ∷ es) = unborn setup n es
 
 abbrev pub fate_from : Setup → ℕ → Option Session → List Happening → Option ℕ
 fate_from setup n None es = unborn setup n es
-fate_from setup n (Some s) es = destiny setup n (heard setup s) es
+fate_from setup n (Some s) es = destiny setup n (greeted_so_far setup s) es
 
 -- the owner of a connection: the tenant to which what it said and what it is still to say binds it, or none
 abbrev pub owner : Setup → List Line → List Happening → ℕ → Option ℕ
@@ -76,8 +76,8 @@ Fits t included (Some u) = included ≡ (u == t)
 
 -- those are the tenant's connections, by what they have said and what is still to come: the open ones, and the later ones. Some that
 -- are never bound may be among them
-pub record Owns (setup : Setup) (t : ℕ) (mine : ℕ → Bool) (last : ℕ) (es : List Happening) (lines : List Line) : Type 0 where
-  pub now : AllByRecursion (λ l. Fits t (mine l.number) (destiny setup l.number (heard setup l.session) es)) lines
+pub record OwnsLines (setup : Setup) (t : ℕ) (mine : ℕ → Bool) (last : ℕ) (es : List Happening) (lines : List Line) : Type 0 where
+  pub now : AllByRecursion (λ l. Fits t (mine l.number) (destiny setup l.number (greeted_so_far setup l.session) es)) lines
   pub later : (n : ℕ) → last < n → Fits t (mine n) (unborn setup n es)
 
 -- the relation holds of each two, in order

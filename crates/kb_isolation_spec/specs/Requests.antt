@@ -32,16 +32,16 @@ pub data Asked : Type 0 where
   Another : (key version : ℤ) (body : List ℕ) → Asked
   Malformed : Asked
 
-abbrev pub if_read : {A : Type 0} → Result A WireFault → (A → Asked) → Asked
-if_read (Ok v) f = f v
-if_read (Err fault) f = Malformed
+abbrev pub read_or_malformed : {A : Type 0} → Result A WireFault → (A → Asked) → Asked
+read_or_malformed (Ok v) f = f v
+read_or_malformed (Err fault) f = Malformed
 
 -- a body, by its key: the tenant is asked in the version that the request's is laid out as
 abbrev pub asked_by : ℤ → ℤ → List ℕ → Asked
 asked_by key version body =
-    if int_eq key API_VERSIONS then if_read (whole api_versions_request body) (λ v. Versions)
-    else if int_eq key SASL_HANDSHAKE then if_read (whole sasl_handshake_request body) (λ v. Handshake version v.mechanism)
-    else if int_eq key SASL_AUTHENTICATE then if_read (whole sasl_authenticate_request body) (λ v. Authenticate v.auth_bytes)
+    if int_eq key API_VERSIONS then read_or_malformed (whole api_versions_request body) (λ v. Versions)
+    else if int_eq key SASL_HANDSHAKE then read_or_malformed (whole sasl_handshake_request body) (λ v. Handshake version v.mechanism)
+    else if int_eq key SASL_AUTHENTICATE then read_or_malformed (whole sasl_authenticate_request body) (λ v. Authenticate v.auth_bytes)
     else Another key (base_of key version).version body
 
 -- a header, and the body behind it

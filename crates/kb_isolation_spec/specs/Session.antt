@@ -34,8 +34,8 @@ pub record Session : Type 0 where
   pub login : Login
 
 -- one that has said nothing, on which no request of more than that many bytes is read
-abbrev pub fresh : ℕ → Session
-fresh limit = record { stage = Greets Unshaken; limit = limit; unread = []; output = []; shut = false; why = None; login = logins.Nobody }
+abbrev pub new_session : ℕ → Session
+new_session limit = record { stage = Greets Unshaken; limit = limit; unread = []; output = []; shut = false; why = None; login = logins.Nobody }
 
 abbrev pub without_wait : Stage → Stage
 without_wait (Greets greeting) = Greets greeting

@@ -33,8 +33,8 @@ unfoldable pub kept_after : Node → Kept → ℕ → ℕ → ℤ → ℤ → Li
 kept_after node kept clock n key version body = let o = outcome node kept clock n key version body in kept_in o.world o.groups
 
 -- what a request comes to for its connection
-unfoldable pub answer : Node → Kept → ℕ → ℕ → ℤ → ℤ → List ℕ → Reaction
-answer node kept clock n key version body = (outcome node kept clock n key version body).reaction
+unfoldable pub reaction_to : Node → Kept → ℕ → ℕ → ℤ → ℤ → List ℕ → Reaction
+reaction_to node kept clock n key version body = (outcome node kept clock n key version body).reaction
 
 abbrev pub ready_for : Kept → ℕ → ℕ → Awaited → tenant.Reaction
 ready_for kept clock n (Records version body deadline limit) = looked kept.world clock deadline version limit body
@@ -58,9 +58,9 @@ unfoldable pub asked : Kept → Wait → List TopicPartition
 asked kept wait = asked_for kept wait.awaited
 
 -- whether it waits no longer than that, whatever happens
-abbrev pub is_past : ℕ → Awaited → Bool
-is_past clock (Records version body deadline limit) = nat_le deadline clock
-is_past clock Group = false
+abbrev pub is_overdue : ℕ → Awaited → Bool
+is_overdue clock (Records version body deadline limit) = nat_le deadline clock
+is_overdue clock Group = false
 
 -- whether it waits for its group
 abbrev pub is_members : Awaited → Bool

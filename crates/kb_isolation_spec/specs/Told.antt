@@ -1,14 +1,14 @@
 -- What a machine says event by event, where its output is taken after each.
 use Rattle.std.specs.Prelude.{◌≡◌, ℕ, ◌<◌, List, [], ◌∷◌, map, not, ◌&&◌, length, Bool, ⊤}
 use Rattle.std.specs.List.{AllByRecursion}
-use Rattle.kb_isolation_spec.specs.Machine.{Happening, Line, View, Sent, each, stepped, those_sent, find_line}
+use Rattle.kb_isolation_spec.specs.Machine.{Happening, Line, View, Sent, each_line, stepped, those_sent, find_line}
 use Rattle.kb_isolation_spec.specs.Owners.{concerns}
 use Rattle.kb_isolation_spec.specs.Broker.{BrokerState, view_of, owned_by, only, IsUnowned}
 use Rattle.kb_isolation_spec.specs.Calls.{without_output, shut_in}
 
 -- the output of every connection was taken
 abbrev pub quieted_lines : List Line → List Line
-quieted_lines lines = each (λ k s. without_output s) lines
+quieted_lines lines = each_line (λ k s. without_output s) lines
 
 abbrev pub quieted : View → View
 quieted w = record w { lines = quieted_lines w.lines }

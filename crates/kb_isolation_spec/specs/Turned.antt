@@ -1,7 +1,7 @@
 -- The broker within an event: what stands between what happened and the end of the turns that it led to.
 use Rattle.std.specs.Prelude.{◌≡◌, ◌≢◌, ◌==◌, ℕ, List, ◌∷◌, map, Bool, true, false, not, ◌&&◌, Option, Some, None, ⊤, ◌⊎◌}
 use Rattle.std.specs.List.{AllByRecursion}
-use Rattle.kb_isolation_spec.specs.Tenant.{Wait, is_past}
+use Rattle.kb_isolation_spec.specs.Tenant.{Wait, is_overdue}
 use Rattle.kb_isolation_spec.specs.Session.{Session, can, is_free}
 use Rattle.kb_isolation_spec.specs.Machine.{Happening, Comes, Line, all_woken, turns, stepped, find_line}
 use Rattle.kb_isolation_spec.specs.Owners.{whose}
@@ -9,7 +9,7 @@ use Rattle.kb_tenant_state.specs.Counts.{IsCalm}
 use Rattle.kb_isolation_spec.specs.declared.whom.Whom.{Whom}
 use Rattle.kb_isolation_spec.specs.declared.whom.Whom.TheVariants as whoms
 use Rattle.kb_isolation_spec.specs.Stranded.{NoneStranded}
-use Rattle.kb_isolation_spec.specs.Broker.{BrokerState, IsSound, AreUnready, AnyWait, Grows, IsCalmFor, Mine, view_of, kept_of, refusals_of}
+use Rattle.kb_isolation_spec.specs.Broker.{BrokerState, IsSound, AreUnready, AnyWait, Grows, IsCalmFor, Mine, view_of, kept_of_tenant, refusals_of}
 use Rattle.kb_isolation_spec.specs.Broker.{bound_to}
 
 -- 1. Whose event it is
@@ -124,7 +124,7 @@ pub record Waked (whom : Whom) (old new : BrokerState) : Type 0 where
   pub unbound : new.unbound_refusals ≡ old.unbound_refusals
   pub untouched : AreUntouched old new
   pub counts : (t : ℕ) → (Concerns whom t → ⊥) → refusals_of new t ≡ refusals_of old t
-  pub kept : (t : ℕ) → kept_of new t ≡ kept_of old t
+  pub kept : (t : ℕ) → kept_of_tenant new t ≡ kept_of_tenant old t
   pub held : NoneStranded old → NoneStranded new
   pub still : (scope : Scope) → ((t : ℕ) → Concerns whom t → HasTenant scope old t) → AreStill scope old → AreStill scope new
   pub mine : (t : ℕ) (mine : ℕ → Bool) (es : List Happening) → Mine t mine es old → Mine t mine es new
@@ -136,7 +136,7 @@ pub record Waked (whom : Whom) (old new : BrokerState) : Type 0 where
 -- whether a wait is looked at
 abbrev pub is_looked_for : Whom → ℕ → ℕ → Wait → Bool
 is_looked_for (whoms.Tenant u) clock t w = t == u
-is_looked_for whoms.Due clock t w = is_past clock w.awaited
+is_looked_for whoms.Due clock t w = is_overdue clock w.awaited
 is_looked_for whoms.All clock t w = true
 
 abbrev pub IsLookedFor : Whom → ℕ → ℕ → Wait → Type 0

@@ -22,12 +22,14 @@ ghost use Rattle.kb_isolation_spec.specs.Versions.{base_of};
 ghost use Rattle.kb_coordinator.specs.Calls.{left};
 ghost use Rattle.kb_tenant_api.specs.Hosted.{Kept, passed};
 ghost use Rattle.kb_isolation_spec.specs.Greeting.{Setup, failed, for_tenant, greeted, greeted_by, login, node_of};
-ghost use Rattle.kb_isolation_spec.specs.Machine.{View, Line, Happening, Opens, Comes, Closes, Moment, Sent, again, all_woken, each, on};
+ghost use Rattle.kb_isolation_spec.specs.Machine.{View, Line, Happening, Opens, Comes, Closes, Moment, Sent, again, all_woken, each_line};
+ghost use Rattle.kb_isolation_spec.specs.Machine.{on};
 ghost use Rattle.kb_isolation_spec.specs.Machine.{first_able, turn, turns, work, those, those_sent, find_line, after_turn, kept_fed, step};
 ghost use Rattle.kb_isolation_spec.specs.Machine.{stepped, leaving, run, by_number, woken};
 ghost use Rattle.kb_isolation_spec.specs.Owners.{whose, concerns, purge};
-ghost use Rattle.kb_isolation_spec.specs.Broker.{BrokerState, IsCalmFor, IsReady, IsRun, IsUnowned, Mine, Rising, alone_unowned, owned_by};
-ghost use Rattle.kb_isolation_spec.specs.Broker.{kept_of, view_of};
+ghost use Rattle.kb_isolation_spec.specs.Broker.{BrokerState, IsCalmFor, IsReady, IsEventRun, IsUnowned, Mine, Rising, alone_unowned};
+ghost use Rattle.kb_isolation_spec.specs.Broker.{owned_by};
+ghost use Rattle.kb_isolation_spec.specs.Broker.{kept_of_tenant, view_of};
 ghost use Rattle.kb_isolation_spec.specs.Greetings.{greeted_alone};
 ghost use Rattle.kb_isolation_spec.specs.Isolation.{IsIsolated, StartsAlike, AreAlike, own_events, own_sent};
 ghost use Rattle.kb_isolation_spec.specs.Left.{last_world, LeavesWorlds};
@@ -69,7 +71,7 @@ pub fn alone_is_the_same()
 pub fn own_events_stay_own()
     ensures owners { (t n : ℕ) (es : List Happening) (b : BrokerState) → owned_by t (own_events t es b) b n ≡ owned_by t es b n }
     ensures events { (t : ℕ) (es : List Happening) (b : BrokerState) → own_events t (own_events t es b) b ≡ own_events t es b }
-    ensures in_order { (t last : ℕ) (es : List Happening) (b : BrokerState) → IsRun last es → IsRun last (own_events t es b) }
+    ensures in_order { (t last : ℕ) (es : List Happening) (b : BrokerState) → IsEventRun last es → IsEventRun last (own_events t es b) }
 {}
 
 /// Among a tenant's own events is none of a connection that is not its own.
@@ -92,7 +94,7 @@ pub fn runs_go_on()
 
 /// A connection that is never bound gets what the greeting answers to its own pieces, and changes no world.
 pub fn strangers_are_greeted()
-    ensures { (n : ℕ) (es : List Happening) (b : BrokerState) → IsReady b → IsRun b.last es → IsUnowned n es b
+    ensures { (n : ℕ) (es : List Happening) (b : BrokerState) → IsReady b → IsEventRun b.last es → IsUnowned n es b
         → by_number (alone_unowned n es b) ≡ greeted_alone n es b }
 {}
 
@@ -129,7 +131,7 @@ pub fn batches_are_of_each_turn()
     ensures piece { (n : ℕ) (piece : List ℕ) (w : View)
         → let fed_world : View = record w {
           kept = kept_fed piece w.clock n (find_line n w.lines) w.kept;
-          lines = each (on n (fed piece)) w.lines;
+          lines = each_line (on n (fed piece)) w.lines;
         } in
         (step (Comes n piece) w ≡ turns fed_world) × (EventGivesBatches (Comes n piece) w ↔ AllTurnsGiveBatches fed_world) }
     ensures moment { (now : ℕ) (w : View)
@@ -211,10 +213,10 @@ pub fn throttle_times_stand_in_front()
 /// nobody connected, or where it was so before. So it is on the broker of all tenants, where nothing is refused to the tenant or to a
 /// connection that is not bound.
 pub fn bound_connections_have_logged_in()
-    ensures machine { (last : ℕ) (es : List Happening) (w : View) → Rising 0 last w.lines → IsRun last es
+    ensures machine { (last : ℕ) (es : List Happening) (w : View) → Rising 0 last w.lines → IsEventRun last es
         → HaveLoggedIn w.setup.users w.lines → HaveLoggedIn w.setup.users (last_world es w).lines }
     ensures broker { (t : ℕ) (mine : ℕ → Bool) (es later : List Happening) (a b : BrokerState) (got : List Sent)
-        → a.lines ≡ [] → IsRun a.last es → LeavesWorlds es a b got → Mine t mine (es ++ later) a → IsCalmFor t a b
+        → a.lines ≡ [] → IsEventRun a.last es → LeavesWorlds es a b got → Mine t mine (es ++ later) a → IsCalmFor t a b
         → HaveLoggedIn a.setup.users (those mine b.lines) }
 {}
 
@@ -278,10 +280,10 @@ pub fn limits_are_kept()
         → AreLimitsKept (node_of w.setup t).limits w.kept.world (turn w).kept.world }
     ensures run { (t last : ℕ) (es : List Happening) (w : View) → IsMachineOf t last es w → HasOrderedCommits w.kept.world
         → StaysWithin (node_of w.setup t).limits w.kept.world es w }
-    ensures own { (t : ℕ) (mine : ℕ → Bool) (es : List Happening) (b : BrokerState) → IsReady b → IsRun b.last es → Mine t mine es b
-        → HasOrderedCommits (kept_of b t).world
-        → StaysWithin (node_of b.setup t).limits (kept_of b t).world (purge mine es) (view_of t mine b) }
+    ensures own { (t : ℕ) (mine : ℕ → Bool) (es : List Happening) (b : BrokerState) → IsReady b → IsEventRun b.last es → Mine t mine es b
+        → HasOrderedCommits (kept_of_tenant b t).world
+        → StaysWithin (node_of b.setup t).limits (kept_of_tenant b t).world (purge mine es) (view_of t mine b) }
     ensures left { (t : ℕ) (es : List Happening) (old new : BrokerState) (got : List Sent) → LeavesWorlds es old new got → IsReady old
-        → IsRun old.last es → IsCalmFor t old new → HasOrderedCommits (kept_of old t).world
-        → AreLimitsKept (node_of old.setup t).limits (kept_of old t).world (kept_of new t).world }
+        → IsEventRun old.last es → IsCalmFor t old new → HasOrderedCommits (kept_of_tenant old t).world
+        → AreLimitsKept (node_of old.setup t).limits (kept_of_tenant old t).world (kept_of_tenant new t).world }
 {}

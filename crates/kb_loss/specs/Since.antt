@@ -8,7 +8,7 @@ use Rattle.kb_segment.specs.Header.{Header, header_in}
 use Rattle.kb_segment_log.specs.SegmentLog.{bytes_at}
 use Rattle.kb_segment_log.specs.Chain.{Chain, base_at, numbers_in}
 use Rattle.kb_opening.specs.Owners.{says}
-use Rattle.kb_durable.specs.Waiting.{has, without}
+use Rattle.kb_durable.specs.Waiting.{has, without_keys}
 use Rattle.kb_loss.specs.Chains.{first_at}
 
 -- All that a loss may have left since a moment has it.
@@ -45,7 +45,7 @@ pub record AreLeft (files : Files) (t : Touched) (waiting : List ℕ) (found : F
   pub whole : Files
   pub still : AreStill files t whole
   pub count : ℕ
-  pub is : found ≡ without (take count waiting) whole
+  pub is : found ≡ without_keys (take count waiting) whole
 
 -- The files of a commit are still there; or a sync removes, and of the files that it made last first ones of those that wait are gone.
 abbrev pub StayOrGo : Files → Touched → Files → List ℕ → Files → Type 0

@@ -16,7 +16,7 @@ use Rattle.std.specs.Ordering.{is_eq, ordering_reverse}
 use Rattle.std.specs.declared.cmp.Ordering.TheVariants.{Less, Equal, Greater}
 use Rattle.kb_settings.specs.Names.{byte_order}
 use Rattle.kb_topics.specs.Known.{CommittedOffset, PartitionState}
-use Rattle.kb_metrics.specs.Slots.{AreKept, AreOffsets, IsKept, is_at, is_name}
+use Rattle.kb_metrics.specs.Slots.{AreCommitted, AreOffsets, IsKept, is_at, is_name}
 use Rattle.kb_metrics.specs.declared.lag.Slot.{Slot}
 
 abbrev Rises : List (List ℕ) → Type 0
@@ -91,7 +91,7 @@ are_offsets gs p os rest rises (front, whole, same, are) place d within lt =
     ∙ ap Some (sym (ap (λ os. get_or os place (pos 0)) are ∙ get_or-map (λ (c : List ℕ × CommittedOffset). c.1.offset) front place e))
 
 -- what is kept of all groups is kept of the one at a place
-pub kept_at : (groups : List (Bor (List ℕ))) (slots : List Slot) (place : ℕ) (d : Bor (List ℕ)) → All (AreKept (map (λ g. g.now) groups)) slots
+pub kept_at : (groups : List (Bor (List ℕ))) (slots : List Slot) (place : ℕ) (d : Bor (List ℕ)) → All (AreCommitted (map (λ g. g.now) groups)) slots
     → place < length groups → All (IsKept place (get_or groups place d).now) slots
 kept_at groups slots place d all lt k s within =
     let there : place < length (map (λ (g : Bor (List ℕ)). g.now) groups) = omega (arith, lt, length-map groups (λ (g : Bor (List ℕ)). g.now)) in

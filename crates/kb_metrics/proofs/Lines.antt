@@ -8,7 +8,7 @@ use Rattle.std.proofs.lemmas.List.Folds.{list_all-append}
 use Rattle.std.specs.Fmt.{digits, digits_onto, digit_glyph, signed_decimal}
 use Rattle.std.specs.List.{after_first, flat_map, list_all, onto_first, prefix_len, slice_split, starts_with}
 use Rattle.std.specs.Cmp.Lexicographic.{same_text}
-use Rattle.kb_metrics.specs.Lines.{is_brace, is_line_feed, is_line_of, joined, lines_of}
+use Rattle.kb_metrics.specs.Lines.{is_brace, is_line_feed, is_line_of, text_of_lines, lines_of}
 use Rattle.kb_metrics.specs.Families.{tenant_label}
 use Rattle.kb_metrics.specs.Text.{behind_text, escape, escaped, front_text, label_text, more_text, value_read}
 use Rattle.kb_metrics.proofs.Reading.{read_back}
@@ -196,20 +196,20 @@ more_inner l h = label_inner l.0 l.1 h
 
 pub record Says (own text : List ℕ) : Type 0 where
   pub lines : List (List ℕ)
-  pub whole : joined lines ≡ text
+  pub whole : text_of_lines lines ≡ text
   pub mine : (name rest : List ℕ) → bytes_eq own name ≡ true → lines_of name (text ++ rest) ≡ lines ++ lines_of name rest
   pub others : (name rest : List ℕ) → bytes_eq own name ≡ false → lines_of name (text ++ rest) ≡ lines_of name rest
 
 pub says_nothing : {own : List ℕ} → Says own []
 says_nothing = record { lines = []; whole = refl; mine = λ name rest e. refl; others = λ name rest e. refl }
 
-pub joined_both : (xs ys : List (List ℕ)) → joined (xs ++ ys) ≡ joined xs ++ joined ys
+pub joined_both : (xs ys : List (List ℕ)) → text_of_lines (xs ++ ys) ≡ text_of_lines xs ++ text_of_lines ys
 joined_both xs ys = flat_map-append (λ line. line ++ 10 ∷ []) xs ys
 
 pub says_both : {own a b : List ℕ} → Says own a → Says own b → Says own (a ++ b)
 says_both {own} {a} {b} p q = record {
   lines = p.lines ++ q.lines;
-  whole = joined_both p.lines q.lines ∙ ap (λ t. t ++ joined q.lines) p.whole ∙ ap (λ t. a ++ t) q.whole;
+  whole = joined_both p.lines q.lines ∙ ap (λ t. t ++ text_of_lines q.lines) p.whole ∙ ap (λ t. a ++ t) q.whole;
   mine = λ name rest e. ap (lines_of name) (append_assoc a b rest) ∙ p.mine name (b ++ rest) e ∙ ap (λ ls. p.lines ++ ls) (q.mine name rest e)
       ∙ sym (append_assoc p.lines q.lines (lines_of name rest));
   others = λ name rest e. ap (lines_of name) (append_assoc a b rest) ∙ p.others name (b ++ rest) e ∙ q.others name rest e;

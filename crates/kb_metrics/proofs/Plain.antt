@@ -1,22 +1,22 @@
 -- No byte of an escaped name begins or ends a tag, or a value in quotes. What has no such byte stands for itself.
 use Rattle.std.proofs.Common.{◌≡◌, ◌∙◌, ℕ, List, [], ◌∷◌, ◌++◌, ◌==◌, ◌||◌, ◌&&◌, Bool, true, false, refl, ap, arith, cond}
 use Rattle.std.specs.List.{AllByRecursion}
-use Rattle.kb_metrics.specs.Markup.{IsPlain, entity, is_bare, is_bare_byte, marked}
+use Rattle.kb_metrics.specs.Markup.{IsNoMarkup, entity, is_bare, is_bare_byte, marked}
 use Rattle.kb_metrics.specs.Text.{escape, escaped, is_plain, is_plain_byte}
 
-both : (a b : List ℕ) → AllByRecursion IsPlain a → AllByRecursion IsPlain b → AllByRecursion IsPlain (a ++ b)
+both : (a b : List ℕ) → AllByRecursion IsNoMarkup a → AllByRecursion IsNoMarkup b → AllByRecursion IsNoMarkup (a ++ b)
 both [] b h k = k
 both (x ∷ a) b h k = (h.0, both a b h.1 k)
 
-either : (c : Bool) (x y : List ℕ) → AllByRecursion IsPlain x → (c ≡ false → AllByRecursion IsPlain y) → AllByRecursion IsPlain (cond c x y)
+either : (c : Bool) (x y : List ℕ) → AllByRecursion IsNoMarkup x → (c ≡ false → AllByRecursion IsNoMarkup y) → AllByRecursion IsNoMarkup (cond c x y)
 either true x y h k = h
 either false x y h k = k refl
 
-other : (b : ℕ) → (b == 60) ≡ false → (b == 62) ≡ false → (b == 34) ≡ false → (b == 39) ≡ false → IsPlain b
+other : (b : ℕ) → (b == 60) ≡ false → (b == 62) ≡ false → (b == 34) ≡ false → (b == 39) ≡ false → IsNoMarkup b
 other b n60 n62 n34 n39 =
     ap (λ c. c || (b == 62 || (b == 34 || b == 39))) n60 ∙ ap (λ c. c || (b == 34 || b == 39)) n62 ∙ ap (λ c. c || b == 39) n34 ∙ n39
 
-entity_plain : (b : ℕ) → AllByRecursion IsPlain (entity b)
+entity_plain : (b : ℕ) → AllByRecursion IsNoMarkup (entity b)
 entity_plain b =
     either (b == 38) _ _ (refl, (refl, (refl, (refl, (refl, tt))))) (λ _.
     either (b == 60) _ _ (refl, (refl, (refl, (refl, tt)))) (λ n60.
@@ -24,7 +24,7 @@ entity_plain b =
     either (b == 34) _ _ (refl, (refl, (refl, (refl, (refl, (refl, tt)))))) (λ n34.
     either (b == 39) _ _ (refl, (refl, (refl, (refl, (refl, tt))))) (λ n39. (other b n60 n62 n34 n39, tt))))))
 
-pub marked_plain : (name : List ℕ) → AllByRecursion IsPlain (marked name)
+pub marked_plain : (name : List ℕ) → AllByRecursion IsNoMarkup (marked name)
 marked_plain [] = tt
 marked_plain (b ∷ name) = both (entity b) (marked name) (entity_plain b) (marked_plain name)
 

@@ -3,8 +3,8 @@ use Rattle.std.proofs.Common.{◌≡◌, ℕ, List, [], ◌∷◌, ◌++◌, ◌
 use Rattle.std.proofs.Common.{codes, decimal, length, map, Option, Some, None}
 use Rattle.std.specs.List.{flat_map, range_with_len}
 use Rattle.kb_metrics.specs.Causes.{cause_text, each_cause}
-use Rattle.kb_metrics.specs.Families.{api_name, api_text, counted_text, front_of, head_of, known_text}
-use Rattle.kb_metrics.specs.Families.{lag_text, members_text, number_text, placed, requests_text, said_of}
+use Rattle.kb_metrics.specs.Families.{api_name, api_text, counted_text, sample_front, head_of, known_text}
+use Rattle.kb_metrics.specs.Families.{lag_text, members_text, number_text, with_place, requests_text, said_of}
 use Rattle.kb_metrics.specs.Limits.{each_limit, limit_text, most_text}
 use Rattle.kb_metrics.specs.Overs.{each_over, over_text}
 use Rattle.kb_metrics.specs.Rows.{Group, Lag, Tenant}
@@ -80,7 +80,7 @@ silent_family family = silent_head (head_of family) (name_quiet family) (help_qu
 -- ---- samples
 
 sample : (family : Family) (own : List ℕ) (more : List (List ℕ × List ℕ)) (n : ℕ) → inner (flat_map more_text more) ≡ true
-    → Says own (behind_text (front_of family own) more (decimal n))
+    → Says own (behind_text (sample_front family own) more (decimal n))
 sample family own more n h =
     let name = quiet_is (head_of family).name (name_quiet family) in
     says_sample own (head_of family).name more (decimal n) name.1 name.0 h (decimal_inner n)
@@ -95,11 +95,11 @@ known : (family : Family) (own : List ℕ) (n : Option ℕ) → Says own (known_
 known family own None = says_nothing
 known family own (Some n) = number family own n
 
-limit : (own what : List ℕ) (most : Option ℕ) → Says own (most_text (front_of families.Limit own) what most)
+limit : (own what : List ℕ) (most : Option ℕ) → Says own (most_text (sample_front families.Limit own) what most)
 limit own what None = says_nothing
 limit own what (Some most) = sample families.Limit own ((codes "what", what) ∷ []) most (one_label (codes "what") what refl)
 
-limits : (own : List ℕ) (l : Limits) → Says own (flat_map (limit_text (front_of families.Limit own)) (each_limit l))
+limits : (own : List ℕ) (l : Limits) → Says own (flat_map (limit_text (sample_front families.Limit own)) (each_limit l))
 unfolding each_limit
 limits own l =
     says_both (limit own (codes "topics") l.topics) (says_both (limit own (codes "partitions") l.partitions)
@@ -107,28 +107,28 @@ limits own l =
     (says_both (limit own (codes "fetch_bytes") l.fetch_bytes) (says_both (limit own (codes "groups") l.groups)
     (says_both (limit own (codes "group_bytes") l.group_bytes) says_nothing))))))
 
-members : (own : List ℕ) (g : Group) → Says own (members_text (front_of families.Members own) g)
+members : (own : List ℕ) (g : Group) → Says own (members_text (sample_front families.Members own) g)
 members own g = sample families.Members own ((codes "group", g.id) ∷ []) g.members (one_label (codes "group") g.id refl)
 
-lag : (own : List ℕ) (l : Lag) → Says own (lag_text (front_of families.Lag own) l)
+lag : (own : List ℕ) (l : Lag) → Says own (lag_text (sample_front families.Lag own) l)
 lag own l = sample families.Lag own ((codes "group", l.group) ∷ (codes "topic", l.topic) ∷ []) l.value
     (onto (more_text (codes "group", l.group)) _ (more_inner (codes "group", l.group) refl) (one_label (codes "topic") l.topic refl))
 
-counted : (own : List ℕ) (api : Option (List ℕ)) (n : ℕ) → Says own (counted_text (front_of families.Requests own) api n)
+counted : (own : List ℕ) (api : Option (List ℕ)) (n : ℕ) → Says own (counted_text (sample_front families.Requests own) api n)
 counted own None n = says_nothing
 counted own (Some api) n = go (n == 0)
   where
-    go : (none : Bool) → Says own (cond none [] (behind_text (front_of families.Requests own) ((codes "api", api) ∷ []) (decimal n)))
+    go : (none : Bool) → Says own (cond none [] (behind_text (sample_front families.Requests own) ((codes "api", api) ∷ []) (decimal n)))
     go true = says_nothing
     go false = sample families.Requests own ((codes "api", api) ∷ []) n (one_label (codes "api") api refl)
 
-requests : (own ns : List ℕ) → Says own (requests_text (front_of families.Requests own) ns)
-requests own ns = says_each (api_text (front_of families.Requests own)) (λ c. counted own (api_name c.0) c.1) (map (placed ns) (range_with_len 0 (length ns)))
+requests : (own ns : List ℕ) → Says own (requests_text (sample_front families.Requests own) ns)
+requests own ns = says_each (api_text (sample_front families.Requests own)) (λ c. counted own (api_name c.0) c.1) (map (with_place ns) (range_with_len 0 (length ns)))
 
-cause : (own : List ℕ) (c : List ℕ × ℕ) → Says own (cause_text (front_of families.Refusals own) c)
+cause : (own : List ℕ) (c : List ℕ × ℕ) → Says own (cause_text (sample_front families.Refusals own) c)
 cause own c = sample families.Refusals own ((codes "cause", c.0) ∷ []) c.1 (one_label (codes "cause") c.0 refl)
 
-over : (own : List ℕ) (o : List ℕ × ℕ) → Says own (over_text (front_of families.OverLimit own) o)
+over : (own : List ℕ) (o : List ℕ × ℕ) → Says own (over_text (sample_front families.OverLimit own) o)
 over own o = sample families.OverLimit own ((codes "what", o.0) ∷ []) o.1 (one_label (codes "what") o.0 refl)
 
 pub said : (family : Family) (t : Tenant) → Says t.name (said_of family t)
@@ -139,13 +139,13 @@ said families.Partitions t = number families.Partitions t.name t.partitions
 said families.StoredBytes t = known families.StoredBytes t.name t.stored
 said families.CommittedOffsets t = number families.CommittedOffsets t.name t.committed_offsets
 said families.Limit t = limits t.name t.limits
-said families.Members t = says_each (members_text (front_of families.Members t.name)) (members t.name) t.groups
-said families.Lag t = says_each (lag_text (front_of families.Lag t.name)) (lag t.name) t.lags
+said families.Members t = says_each (members_text (sample_front families.Members t.name)) (members t.name) t.groups
+said families.Lag t = says_each (lag_text (sample_front families.Lag t.name)) (lag t.name) t.lags
 said families.Requests t = requests t.name t.requests
 said families.RequestBytes t = number families.RequestBytes t.name t.request_bytes
 said families.ResponseBytes t = number families.ResponseBytes t.name t.response_bytes
-said families.Refusals t = says_each (cause_text (front_of families.Refusals t.name)) (cause t.name) (each_cause t.refusals t.store_refusals)
-said families.OverLimit t = says_each (over_text (front_of families.OverLimit t.name)) (over t.name) (each_over t.over)
+said families.Refusals t = says_each (cause_text (sample_front families.Refusals t.name)) (cause t.name) (each_cause t.refusals t.store_refusals)
+said families.OverLimit t = says_each (over_text (sample_front families.OverLimit t.name)) (over t.name) (each_over t.over)
 said families.Start t = says_nothing
 said families.End t = says_nothing
 said families.Committed t = says_nothing

@@ -3,8 +3,8 @@ use Rattle.std.proofs.Common.{◌≡◌, ◌∙◌, ℕ, List, [], ◌∷◌, �
 use Rattle.std.proofs.Common.{bytes_eq, filter, map}
 use Rattle.std.specs.List.{flat_map}
 use Rattle.kb_metrics.specs.Families.{all_families, family_text, head_of, said_of}
-use Rattle.kb_metrics.specs.Gauges.{Observed, tenant_of, tenants_text}
-use Rattle.kb_metrics.specs.Lines.{joined, lines_of, metrics_text, said_of_all}
+use Rattle.kb_metrics.specs.Gauges.{Observed, shown_tenant, tenants_text}
+use Rattle.kb_metrics.specs.Lines.{text_of_lines, lines_of, metrics_text, said_of_all}
 use Rattle.kb_metrics.specs.Lines as spec
 use Rattle.kb_metrics.specs.Rows.{Tenant}
 use Rattle.kb_metrics.specs.Server.{process_text, server_text}
@@ -38,18 +38,18 @@ module _ (f : Tenant → List ℕ) (says : (t : Tenant) → Says t.name (f t)) (
       go false own k = (says t).others name (flat_map f ts ++ a) own ∙ k
 
   -- the lines are what is said of the tenants of that name
-  exact_rows : (ts : List Tenant) (rest : List ℕ) → joined (lines_of name (flat_map f ts ++ rest)) ≡ flat_map f (named name ts) ++ joined (lines_of name rest)
+  exact_rows : (ts : List Tenant) (rest : List ℕ) → text_of_lines (lines_of name (flat_map f ts ++ rest)) ≡ flat_map f (named name ts) ++ text_of_lines (lines_of name rest)
   unfolding named
   exact_rows [] rest = refl
   exact_rows (t ∷ ts) rest =
-      ap (λ x. joined (lines_of name x)) (append_assoc (f t) (flat_map f ts) rest) ∙ go (bytes_eq t.name name) refl (exact_rows ts rest)
+      ap (λ x. text_of_lines (lines_of name x)) (append_assoc (f t) (flat_map f ts) rest) ∙ go (bytes_eq t.name name) refl (exact_rows ts rest)
     where
-      go : (c : Bool) → bytes_eq t.name name ≡ c → joined (lines_of name (flat_map f ts ++ rest)) ≡ flat_map f (named name ts) ++ joined (lines_of name rest)
-          → joined (lines_of name (f t ++ (flat_map f ts ++ rest))) ≡ flat_map f (cond c (t ∷ named name ts) (named name ts)) ++ joined (lines_of name rest)
-      go true own k = ap joined ((says t).mine name (flat_map f ts ++ rest) own) ∙ joined_both (says t).lines (lines_of name (flat_map f ts ++ rest))
-          ∙ ap (λ x. x ++ joined (lines_of name (flat_map f ts ++ rest))) (says t).whole ∙ ap (λ x. f t ++ x) k
-          ∙ sym (append_assoc (f t) (flat_map f (named name ts)) (joined (lines_of name rest)))
-      go false own k = ap joined ((says t).others name (flat_map f ts ++ rest) own) ∙ k
+      go : (c : Bool) → bytes_eq t.name name ≡ c → text_of_lines (lines_of name (flat_map f ts ++ rest)) ≡ flat_map f (named name ts) ++ text_of_lines (lines_of name rest)
+          → text_of_lines (lines_of name (f t ++ (flat_map f ts ++ rest))) ≡ flat_map f (cond c (t ∷ named name ts) (named name ts)) ++ text_of_lines (lines_of name rest)
+      go true own k = ap text_of_lines ((says t).mine name (flat_map f ts ++ rest) own) ∙ joined_both (says t).lines (lines_of name (flat_map f ts ++ rest))
+          ∙ ap (λ x. x ++ text_of_lines (lines_of name (flat_map f ts ++ rest))) (says t).whole ∙ ap (λ x. f t ++ x) k
+          ∙ sym (append_assoc (f t) (flat_map f (named name ts)) (text_of_lines (lines_of name rest)))
+      go false own k = ap text_of_lines ((says t).others name (flat_map f ts ++ rest) own) ∙ k
 
 -- ---- families
 
@@ -70,26 +70,26 @@ same_families name ts (f ∷ fs) a b e =
     ∙ sym (behind_head name f (flat_map (said_of f) (named name ts)) (flat_map (family_text (named name ts)) fs) b)
 
 exact_families : (name : List ℕ) (ts : List Tenant) (fs : List Family) (rest : List ℕ)
-    → joined (lines_of name (flat_map (family_text ts) fs ++ rest))
-    ≡ flat_map (λ f. flat_map (said_of f) (named name ts)) fs ++ joined (lines_of name rest)
+    → text_of_lines (lines_of name (flat_map (family_text ts) fs ++ rest))
+    ≡ flat_map (λ f. flat_map (said_of f) (named name ts)) fs ++ text_of_lines (lines_of name rest)
 exact_families name ts [] rest = refl
 exact_families name ts (f ∷ fs) rest =
-    ap joined (behind_head name f (flat_map (said_of f) ts) (flat_map (family_text ts) fs) rest)
+    ap text_of_lines (behind_head name f (flat_map (said_of f) ts) (flat_map (family_text ts) fs) rest)
     ∙ exact_rows (said_of f) (said f) name ts (flat_map (family_text ts) fs ++ rest)
     ∙ ap (λ x. flat_map (said_of f) (named name ts) ++ x) (exact_families name ts fs rest)
-    ∙ sym (append_assoc (flat_map (said_of f) (named name ts)) (flat_map (λ g. flat_map (said_of g) (named name ts)) fs) (joined (lines_of name rest)))
+    ∙ sym (append_assoc (flat_map (said_of f) (named name ts)) (flat_map (λ g. flat_map (said_of g) (named name ts)) fs) (text_of_lines (lines_of name rest)))
 
 -- ---- the page
 
-seen_named : (name : List ℕ) (os : List Observed) → named name (map tenant_of os) ≡ map tenant_of (spec.named name os)
+seen_named : (name : List ℕ) (os : List Observed) → named name (map shown_tenant os) ≡ map shown_tenant (spec.observed_named name os)
 unfolding named
 seen_named name [] = refl
 seen_named name (o ∷ os) = go (bytes_eq o.name name) (seen_named name os)
   where
-    go : (c : Bool) → filter (λ (t : Tenant). bytes_eq t.name name) (map tenant_of os) ≡ map tenant_of (spec.named name os)
-        → cond c (tenant_of o ∷ filter (λ (t : Tenant). bytes_eq t.name name) (map tenant_of os)) (filter (λ (t : Tenant). bytes_eq t.name name) (map tenant_of os))
-        ≡ map tenant_of (cond c (o ∷ spec.named name os) (spec.named name os))
-    go true e = ap (λ ts. tenant_of o ∷ ts) e
+    go : (c : Bool) → filter (λ (t : Tenant). bytes_eq t.name name) (map shown_tenant os) ≡ map shown_tenant (spec.observed_named name os)
+        → cond c (shown_tenant o ∷ filter (λ (t : Tenant). bytes_eq t.name name) (map shown_tenant os)) (filter (λ (t : Tenant). bytes_eq t.name name) (map shown_tenant os))
+        ≡ map shown_tenant (cond c (o ∷ spec.observed_named name os) (spec.observed_named name os))
+    go true e = ap (λ ts. shown_tenant o ∷ ts) e
     go false e = e
 
 -- what stands behind the tenants' part is nobody's
@@ -97,28 +97,28 @@ behind_tenants : (name : List ℕ) (s : ServerGauges) (p : ProcessGauges) → li
 behind_tenants name s p =
     ap (lines_of name) (sym (append-nil (server_text s ++ process_text p))) ∙ (silent_both (server s) (process p)).silent name []
 
-nothing_left : (name : List ℕ) → joined (lines_of name []) ≡ []
+nothing_left : (name : List ℕ) → text_of_lines (lines_of name []) ≡ []
 unfolding lines_of
 nothing_left name = refl
 
 pub exact : (name : List ℕ) (os : List Observed) (s : ServerGauges) (p : ProcessGauges)
-    → joined (lines_of name (metrics_text os s p)) ≡ said_of_all (map tenant_of (spec.named name os))
+    → text_of_lines (lines_of name (metrics_text os s p)) ≡ said_of_all (map shown_tenant (spec.observed_named name os))
 exact name os s p =
-    ap (λ x. joined (lines_of name x)) (append_assoc (tenants_text os) (server_text s) (process_text p))
-    ∙ exact_families name (map tenant_of os) all_families (server_text s ++ process_text p)
-    ∙ ap (λ x. said_of_all (named name (map tenant_of os)) ++ x) (ap joined (behind_tenants name s p) ∙ nothing_left name)
-    ∙ append-nil (said_of_all (named name (map tenant_of os)))
+    ap (λ x. text_of_lines (lines_of name x)) (append_assoc (tenants_text os) (server_text s) (process_text p))
+    ∙ exact_families name (map shown_tenant os) all_families (server_text s ++ process_text p)
+    ∙ ap (λ x. said_of_all (named name (map shown_tenant os)) ++ x) (ap text_of_lines (behind_tenants name s p) ∙ nothing_left name)
+    ∙ append-nil (said_of_all (named name (map shown_tenant os)))
     ∙ ap said_of_all (seen_named name os)
 
 -- the lines are those of the tenants of that name, with nothing behind them
 alone : (name : List ℕ) (os : List Observed) (s : ServerGauges) (p : ProcessGauges)
-    → lines_of name (metrics_text os s p) ≡ lines_of name (flat_map (family_text (map tenant_of (spec.named name os))) all_families ++ [])
+    → lines_of name (metrics_text os s p) ≡ lines_of name (flat_map (family_text (map shown_tenant (spec.observed_named name os))) all_families ++ [])
 alone name os s p =
     ap (lines_of name) (append_assoc (tenants_text os) (server_text s) (process_text p))
-    ∙ same_families name (map tenant_of os) all_families (server_text s ++ process_text p) [] (behind_tenants name s p)
+    ∙ same_families name (map shown_tenant os) all_families (server_text s ++ process_text p) [] (behind_tenants name s p)
     ∙ ap (λ ts. lines_of name (flat_map (family_text ts) all_families ++ [])) (seen_named name os)
 
-pub alike : (name : List ℕ) (os others : List Observed) (s more : ServerGauges) (p q : ProcessGauges) → spec.named name os ≡ spec.named name others
+pub alike : (name : List ℕ) (os others : List Observed) (s more : ServerGauges) (p q : ProcessGauges) → spec.observed_named name os ≡ spec.observed_named name others
     → lines_of name (metrics_text os s p) ≡ lines_of name (metrics_text others more q)
 alike name os others s more p q e =
-    alone name os s p ∙ ap (λ xs. lines_of name (flat_map (family_text (map tenant_of xs)) all_families ++ [])) e ∙ sym (alone name others more q)
+    alone name os s p ∙ ap (λ xs. lines_of name (flat_map (family_text (map shown_tenant xs)) all_families ++ [])) e ∙ sym (alone name others more q)

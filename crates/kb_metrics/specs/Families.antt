@@ -53,8 +53,8 @@ abbrev pub tenant_label : List ℕ → List ℕ × List ℕ
 tenant_label name = (codes "tenant", name)
 
 -- what stands in front of each sample of a family: its name, and the label of its tenant
-abbrev pub front_of : Family → List ℕ → List ℕ
-front_of family tenant = front_text (head_of family).name (tenant_label tenant)
+abbrev pub sample_front : Family → List ℕ → List ℕ
+sample_front family tenant = front_text (head_of family).name (tenant_label tenant)
 
 -- 3. What is said of a tenant
 
@@ -83,11 +83,11 @@ abbrev pub api_text : List ℕ → ℕ × ℕ → List ℕ
 api_text front c = counted_text front (api_name c.0) c.1
 
 -- each number with its place
-abbrev pub placed : List ℕ → ℕ → ℕ × ℕ
-placed ns place = (place, slice_index_or ns place 0)
+abbrev pub with_place : List ℕ → ℕ → ℕ × ℕ
+with_place ns place = (place, slice_index_or ns place 0)
 
 abbrev pub requests_text : List ℕ → List ℕ → List ℕ
-requests_text front ns = flat_map (api_text front) (map (placed ns) (range_with_len 0 (length ns)))
+requests_text front ns = flat_map (api_text front) (map (with_place ns) (range_with_len 0 (length ns)))
 
 -- what a family says of a tenant
 abbrev pub said_of : Family → Tenant → List ℕ
@@ -97,14 +97,14 @@ said_of families.Topics t = number_text families.Topics t.name t.topics
 said_of families.Partitions t = number_text families.Partitions t.name t.partitions
 said_of families.StoredBytes t = known_text families.StoredBytes t.name t.stored
 said_of families.CommittedOffsets t = number_text families.CommittedOffsets t.name t.committed_offsets
-said_of families.Limit t = flat_map (limit_text (front_of families.Limit t.name)) (each_limit t.limits)
-said_of families.Members t = flat_map (members_text (front_of families.Members t.name)) t.groups
-said_of families.Lag t = flat_map (lag_text (front_of families.Lag t.name)) t.lags
-said_of families.Requests t = requests_text (front_of families.Requests t.name) t.requests
+said_of families.Limit t = flat_map (limit_text (sample_front families.Limit t.name)) (each_limit t.limits)
+said_of families.Members t = flat_map (members_text (sample_front families.Members t.name)) t.groups
+said_of families.Lag t = flat_map (lag_text (sample_front families.Lag t.name)) t.lags
+said_of families.Requests t = requests_text (sample_front families.Requests t.name) t.requests
 said_of families.RequestBytes t = number_text families.RequestBytes t.name t.request_bytes
 said_of families.ResponseBytes t = number_text families.ResponseBytes t.name t.response_bytes
-said_of families.Refusals t = flat_map (cause_text (front_of families.Refusals t.name)) (each_cause t.refusals t.store_refusals)
-said_of families.OverLimit t = flat_map (over_text (front_of families.OverLimit t.name)) (each_over t.over)
+said_of families.Refusals t = flat_map (cause_text (sample_front families.Refusals t.name)) (each_cause t.refusals t.store_refusals)
+said_of families.OverLimit t = flat_map (over_text (sample_front families.OverLimit t.name)) (each_over t.over)
 said_of _ t = []
 
 abbrev pub family_text : List Tenant → Family → List ℕ
@@ -138,10 +138,10 @@ abbrev pub commit_text : List ℕ → Commit → List ℕ
 commit_text front c = behind_text front ((codes "group", c.group) ∷ partition_label c.topic c.number) (signed_decimal c.offset)
 
 unfoldable pub starts_text : List ℕ → List Partition → List ℕ
-starts_text tenant ps = rows_text (head_of families.Start) (start_text (front_of families.Start tenant)) ps
+starts_text tenant ps = rows_text (head_of families.Start) (start_text (sample_front families.Start tenant)) ps
 
 unfoldable pub ends_text : List ℕ → List Partition → List ℕ
-ends_text tenant ps = rows_text (head_of families.End) (end_text (front_of families.End tenant)) ps
+ends_text tenant ps = rows_text (head_of families.End) (end_text (sample_front families.End tenant)) ps
 
 -- where the partitions start and end
 abbrev pub offsets_text : List ℕ → List Partition → List ℕ
@@ -149,4 +149,4 @@ offsets_text tenant ps = starts_text tenant ps ++ ends_text tenant ps
 
 -- what groups committed to them
 abbrev pub committed_text : List ℕ → List Commit → List ℕ
-committed_text tenant cs = rows_text (head_of families.Committed) (commit_text (front_of families.Committed tenant)) cs
+committed_text tenant cs = rows_text (head_of families.Committed) (commit_text (sample_front families.Committed tenant)) cs

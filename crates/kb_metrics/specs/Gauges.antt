@@ -114,8 +114,8 @@ group_of e = record { id = e.id; members = length e.group.members; generation = 
 
 -- What pages show of a tenant. By its form it is a function of what that tenant keeps, of its own limits and of what is counted of its own
 -- connections: nothing of another tenant is in it.
-abbrev pub tenant_of : Observed → Tenant
-tenant_of o = record {
+abbrev pub shown_tenant : Observed → Tenant
+shown_tenant o = record {
   name = o.name;
   connections = o.connections;
   waiting = o.waiting;
@@ -136,7 +136,7 @@ tenant_of o = record {
 
 -- all that is said of tenants
 abbrev pub tenants_text : List Observed → List ℕ
-tenants_text os = families_text (map tenant_of os)
+tenants_text os = families_text (map shown_tenant os)
 
 -- all that is said of a tenant's partitions
 abbrev pub partitions_text : Observed → List ℕ

@@ -30,12 +30,12 @@ unfoldable pub lines_of : List ℕ → List ℕ → List (List ℕ)
 lines_of name text = filter (is_line_of name) (slice_split is_line_feed text)
 
 -- each with its line feed
-abbrev pub joined : List (List ℕ) → List ℕ
-joined lines = flat_map (λ line. line ++ 10 ∷ []) lines
+abbrev pub text_of_lines : List (List ℕ) → List ℕ
+text_of_lines lines = flat_map (λ line. line ++ 10 ∷ []) lines
 
 -- those of a name
-abbrev pub named : List ℕ → List Observed → List Observed
-named name os = filter (λ o. bytes_eq o.name name) os
+abbrev pub observed_named : List ℕ → List Observed → List Observed
+observed_named name os = filter (λ o. bytes_eq o.name name) os
 
 -- what the families say of tenants, a family after another, without what stands in front of each family
 abbrev pub said_of_all : List Tenant → List ℕ

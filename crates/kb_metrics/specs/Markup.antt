@@ -32,8 +32,8 @@ is_bare name = list_all is_bare_byte name
 abbrev pub is_markup : ℕ → Bool
 is_markup b = b == 60 || (b == 62 || (b == 34 || b == 39))
 
-abbrev pub IsPlain : ℕ → Type 0
-IsPlain b = is_markup b ≡ false
+abbrev pub IsNoMarkup : ℕ → Type 0
+IsNoMarkup b = is_markup b ≡ false
 
 -- a byte that stands for itself in a query (RFC 3986, "Unreserved Characters")
 abbrev pub is_unreserved : ℕ → Bool

@@ -16,8 +16,8 @@ abbrev pub gone : ℕ → List ℕ → ℕ
 gone seconds xs = min seconds (length xs)
 
 -- so many seconds begin, in which nothing came yet: as many of the oldest go
-abbrev pub begun : ℕ → List ℕ → List ℕ
-begun seconds xs = drop (gone seconds xs) xs ++ replicate (gone seconds xs) 0
+abbrev pub advanced : ℕ → List ℕ → List ℕ
+advanced seconds xs = drop (gone seconds xs) xs ++ replicate (gone seconds xs) 0
 
 -- more in the newest second, as far as 64 bits go
 abbrev pub added : ℕ → List ℕ → List ℕ
@@ -27,10 +27,10 @@ added more xs = slice_set xs 119 (min (slice_index_or xs 119 0 + more) (2 ^ 64 -
 -- without a note nothing came. A clock that goes back begins no second.
 abbrev pub noted_after : Option Noted → Noted → List ℕ → List ℕ
 noted_after None now xs = xs
-noted_after (Some last) now xs = added (now.total - last.total) (begun (now.second - last.second) xs)
+noted_after (Some last) now xs = added (now.total - last.total) (advanced (now.second - last.second) xs)
 
-abbrev pub noted : Noted → Series → Series
-noted now s = record { samples = noted_after s.noted now s.samples; noted = Some now }
+abbrev pub noted_series : Noted → Series → Series
+noted_series now s = record { samples = noted_after s.noted now s.samples; noted = Some now }
 
 -- the samples of the last minute, so many seconds behind the last note
 abbrev pub minute_after : ℕ → List ℕ → List ℕ
@@ -54,6 +54,6 @@ no_history = record { requests = none_noted; responses = none_noted }
 
 abbrev pub noted_both : ℕ → ℕ → ℕ → History → History
 noted_both second request_bytes response_bytes h = record {
-  requests = noted (record { second = second; total = request_bytes }) h.requests;
-  responses = noted (record { second = second; total = response_bytes }) h.responses;
+  requests = noted_series (record { second = second; total = request_bytes }) h.requests;
+  responses = noted_series (record { second = second; total = response_bytes }) h.responses;
 }

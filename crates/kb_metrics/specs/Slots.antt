@@ -37,8 +37,8 @@ AreOffsets groups p os = (place : ℕ) (d : List ℕ) → place < length groups 
     → offset_of (slice_index_or groups place d) p ≡ Some (slice_index_or os place (pos 0))
 
 -- what is kept of these groups is what they committed
-abbrev pub AreKept : List (List ℕ) → Slot → Type 0
-AreKept groups s = AreOffsets groups (option_copied s.partition) s.offsets.items
+abbrev pub AreCommitted : List (List ℕ) → Slot → Type 0
+AreCommitted groups s = AreOffsets groups (option_copied s.partition) s.offsets.items
 
 -- what is kept of the group at a place, if anything is, is what it committed
 abbrev pub IsKept : ℕ → List ℕ → Slot → Type 0

@@ -4,7 +4,7 @@ ghost use Rattle.std.specs.Prelude.{◌≡◌, ◌++◌, IfOk, OnOk, Some, map, 
 ghost use Rattle.std.specs.List.{flat_map};
 ghost use Rattle.kb_metrics.specs.Causes.{cause_text, each_cause};
 ghost use Rattle.kb_metrics.specs.Families.{all_families, api_name, api_text, commit_text, committed_text, counted_text};
-ghost use Rattle.kb_metrics.specs.Families.{end_text, ends_text, families_text, family_text, front_of, head_of};
+ghost use Rattle.kb_metrics.specs.Families.{end_text, ends_text, families_text, family_text, sample_front, head_of};
 ghost use Rattle.kb_metrics.specs.Families.{known_text, lag_text, members_text, number_text, offset_text, offsets_text, requests_text};
 ghost use Rattle.kb_metrics.specs.Families.{said_of, start_text, starts_text, tenant_label};
 ghost use Rattle.kb_metrics.specs.Limits.{each_limit, limit_text};
@@ -201,7 +201,7 @@ fn push_tenants(
 
 /// What stands in front of each sample of a family: its name, and the label of its tenant.
 fn front(out: &Vec<u8>, family: Family, tenant: &str) -> Result<Vec<u8>, AllocError>
-    ensures { IfOk result (λ front. front.items ≡ front_of family tenant.now) }
+    ensures { IfOk result (λ front. front.items ≡ sample_front family tenant.now) }
 {
     let mut front = Vec::new(*out.allocator());
     push_front(&mut front, family.head().name, tenant_label(tenant))?;
@@ -290,7 +290,7 @@ fn push_limits(
     limits: &Limits,
 ) -> Result<(), AllocError>
     ensures { OnOk result (out.new.items
-        ≡ out.old.items ++ flat_map (limit_text (front_of family tenant.now)) (each_limit limits.now)) }
+        ≡ out.old.items ++ flat_map (limit_text (sample_front family tenant.now)) (each_limit limits.now)) }
 {
     let front = front(out, family, tenant)?;
     push_rows(out, front.as_slice(), &limit_rows(limits))
@@ -305,7 +305,7 @@ fn push_causes(
     store: u64,
 ) -> Result<(), AllocError>
     ensures { OnOk result (out.new.items
-        ≡ out.old.items ++ flat_map (cause_text (front_of family tenant.now)) (each_cause all store)) }
+        ≡ out.old.items ++ flat_map (cause_text (sample_front family tenant.now)) (each_cause all store)) }
 {
     let front = front(out, family, tenant)?;
     push_rows(out, front.as_slice(), &cause_rows(all, store))
@@ -319,7 +319,7 @@ fn push_overs(
     over: OverLimit,
 ) -> Result<(), AllocError>
     ensures { OnOk result (out.new.items
-        ≡ out.old.items ++ flat_map (over_text (front_of family tenant.now)) (each_over over)) }
+        ≡ out.old.items ++ flat_map (over_text (sample_front family tenant.now)) (each_over over)) }
 {
     let front = front(out, family, tenant)?;
     push_rows(out, front.as_slice(), &over_rows(over))
@@ -333,7 +333,7 @@ fn push_members(
     groups: &[GroupRow<'_>],
 ) -> Result<(), AllocError>
     ensures { OnOk result (out.new.items
-        ≡ out.old.items ++ flat_map (members_text (front_of family tenant.now)) (map group_row groups.now)) }
+        ≡ out.old.items ++ flat_map (members_text (sample_front family tenant.now)) (map group_row groups.now)) }
 {
     let front = front(out, family, tenant)?;
     push_rows(out, front.as_slice(), groups)
@@ -366,7 +366,7 @@ fn push_lags(
     lags: &[LagRow<'_>],
 ) -> Result<(), AllocError>
     ensures { OnOk result (out.new.items
-        ≡ out.old.items ++ flat_map (lag_text (front_of family tenant.now)) (map lag_row lags.now)) }
+        ≡ out.old.items ++ flat_map (lag_text (sample_front family tenant.now)) (map lag_row lags.now)) }
 {
     let front = front(out, family, tenant)?;
     push_rows(out, front.as_slice(), lags)
@@ -404,7 +404,7 @@ fn push_requests(
     tenant: &str,
     requests: &[u64],
 ) -> Result<(), AllocError>
-    ensures { OnOk result (out.new.items ≡ out.old.items ++ requests_text (front_of family tenant.now) requests.now) }
+    ensures { OnOk result (out.new.items ≡ out.old.items ++ requests_text (sample_front family tenant.now) requests.now) }
 {
     let front = front(out, family, tenant)?;
     push_each_api(out, &front, requests)

@@ -8,9 +8,9 @@ ghost use Rattle.kb_tenant_state.specs.Parts.{world_of};
 ghost use Rattle.kb_tenant_state.specs.Stored.{offsets_in, offsets_to, up_to_end};
 ghost use Rattle.kb_metrics.specs.Gauges.{between, commit_of, commits, commits_in};
 ghost use Rattle.kb_metrics.specs.Gauges.{group_of, lags, partition_count, partition_of, partitions};
-ghost use Rattle.kb_metrics.specs.Gauges.{tenant_of, topic_commits, topic_lags, topic_partitions};
+ghost use Rattle.kb_metrics.specs.Gauges.{shown_tenant, topic_commits, topic_lags, topic_partitions};
 ghost use Rattle.kb_metrics.specs.Rows.{commit_row, group_row, lag_row, partition_row, tenant_row};
-ghost use Rattle.kb_metrics.specs.Slots.{AreKept, IsKept, lag_row_among, slot_of};
+ghost use Rattle.kb_metrics.specs.Slots.{AreCommitted, IsKept, lag_row_among, slot_of};
 ghost use Rattle.kb_metrics.specs.View.{observed};
 
 use crate::gauges::TenantGauges;
@@ -27,7 +27,8 @@ pub(crate) fn tenant_rows<'a, L: PartitionLog>(
     alloc: Global,
     tenants: &[TenantGauges<'a, L>],
 ) -> Result<Vec<TenantRow<'a>>, AllocError>
-    ensures { IfOk result (λ rows. (files : Files) → map tenant_row rows.items ≡ map tenant_of (map (observed L.log files) tenants.now)) }
+    ensures { IfOk result (λ rows. (files : Files) → map tenant_row rows.items
+        ≡ map shown_tenant (map (observed L.log files) tenants.now)) }
 {
     let mut rows = Vec::with_capacity(alloc, tenants.len())?;
     for tenant in tenants {
@@ -41,7 +42,7 @@ pub(crate) fn tenant_row<'a, L: PartitionLog>(
     alloc: Global,
     tenant: &TenantGauges<'a, L>,
 ) -> Result<TenantRow<'a>, AllocError>
-    ensures { IfOk result (λ row. (files : Files) → tenant_row row ≡ tenant_of (observed L.log files tenant.now)) }
+    ensures { IfOk result (λ row. (files : Files) → tenant_row row ≡ shown_tenant (observed L.log files tenant.now)) }
 {
     let parts = tenant.parts;
     Ok(TenantRow {
@@ -160,7 +161,7 @@ fn push_lags<'a>(
     groups: &[&'a str],
     topic: &'a str,
 ) -> Result<(), AllocError>
-    requires { All (AreKept (map (λ group. group.now) groups.now)) slots.now }
+    requires { All (AreCommitted (map (λ group. group.now) groups.now)) slots.now }
     ensures { OnOk result (map lag_row rows.new.items ≡ map lag_row rows.old.items
         ++ map (lag_row_among (map slot_of slots.now) topic.now) (map (λ group. group.now) groups.now)) }
 {

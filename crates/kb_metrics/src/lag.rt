@@ -11,7 +11,7 @@ ghost use Rattle.kb_settings.specs.Names.{byte_order, in_order};
 ghost use Rattle.kb_store.specs.Disk.{Files};
 ghost use Rattle.kb_tenant_state.specs.Parts.{world_of};
 ghost use Rattle.kb_metrics.specs.Gauges.{groups_at, groups_in};
-ghost use Rattle.kb_metrics.specs.Slots.{AreKept, AreOffsets, HaveSame, IsKept, is_at, lag_among, lag_in};
+ghost use Rattle.kb_metrics.specs.Slots.{AreCommitted, AreOffsets, HaveSame, IsKept, is_at, lag_among, lag_in};
 ghost use Rattle.kb_metrics.specs.Slots.{offset_of, slot_at, slot_of};
 
 use kb_log::PartitionLog;
@@ -40,7 +40,7 @@ pub fn slots<'a, L: PartitionLog>(
     requires { IsStrictlySortedBy byte_order (map (λ group. group.now) groups.now) }
     ensures seen { IfOk result (λ slots. (files : Files)
         → map slot_of slots.items ≡ map (slot_at (world_of L.log parts.now files) instance) (range_with_len 0 count)) }
-    ensures kept { IfOk result (λ slots. All (AreKept (map (λ group. group.now) groups.now)) slots.items) }
+    ensures kept { IfOk result (λ slots. All (AreCommitted (map (λ group. group.now) groups.now)) slots.items) }
 {
     let topic = parts.topic(instance);
     let mut slots = Vec::with_capacity(alloc, count)?;

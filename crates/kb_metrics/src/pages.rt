@@ -2,7 +2,7 @@
 
 ghost use Rattle.std.specs.Prelude.{◌≡◌, ◌++◌, map, OnOk};
 ghost use Rattle.kb_store.specs.Disk.{Files};
-ghost use Rattle.kb_metrics.specs.Gauges.{partitions, tenant_of};
+ghost use Rattle.kb_metrics.specs.Gauges.{partitions, shown_tenant};
 ghost use Rattle.kb_metrics.specs.Status.{status_text, tenant_page};
 ghost use Rattle.kb_metrics.specs.View.{observed};
 
@@ -27,7 +27,7 @@ pub fn push_status<L: PartitionLog>(
     rates: &[Rates],
 ) -> Result<(), AllocError>
     ensures { OnOk result ((files : Files) → out.new.items
-        ≡ out.old.items ++ status_text server.now process.now (map tenant_of (map (observed L.log files) tenants.now)) rates.now) }
+        ≡ out.old.items ++ status_text server.now process.now (map shown_tenant (map (observed L.log files) tenants.now)) rates.now) }
 {
     let rows = tenant_rows(alloc, tenants)?;
     push_status_page(out, server, process, &rows, rates)
@@ -42,7 +42,7 @@ pub fn push_tenant_status<L: PartitionLog>(
     tenant: &TenantGauges<'_, L>,
 ) -> Result<(), AllocError>
     ensures { OnOk result ((files : Files) → out.new.items ≡ out.old.items
-        ++ tenant_page (tenant_of (observed L.log files tenant.now)) (partitions (observed L.log files tenant.now).world)) }
+        ++ tenant_page (shown_tenant (observed L.log files tenant.now)) (partitions (observed L.log files tenant.now).world)) }
 {
     let row = tenant_row(alloc, tenant)?;
     let partitions = partition_rows(alloc, tenant.parts)?;

@@ -2,7 +2,7 @@
 
 ghost use Rattle.std.specs.Prelude.{◌≡◌, ◌^◌, ◌-◌, length, min, replicate, IfOk};
 ghost use Rattle.std.specs.List.{sum_by};
-ghost use Rattle.kb_metrics.specs.Rates.{added, begun, in_minute, no_history, noted, noted_both, none_noted};
+ghost use Rattle.kb_metrics.specs.Rates.{added, advanced, in_minute, no_history, noted_series, noted_both, none_noted};
 
 use std::alloc::{AllocError, Global};
 use std::marker::Model;
@@ -48,7 +48,7 @@ impl PerSecond {
 
     /// How much there is up to now, since any start. What is more than at the last note is of this second. It takes no memory.
     pub fn note(&mut self, second: u64, total: u64)
-        ensures { self.new ≡ noted (record { second = second; total = total }) self.old }
+        ensures { self.new ≡ noted_series (record { second = second; total = total }) self.old }
     {
         if let Some(last) = self.noted {
             begin(&mut self.samples, second.saturating_sub(last.second));
@@ -138,7 +138,7 @@ fn no_samples(alloc: Global) -> Result<Vec<u64>, AllocError>
 
 /// So many seconds begin, in which nothing came yet.
 fn begin(samples: &mut [u64], seconds: u64)
-    ensures { samples.new ≡ begun seconds samples.old }
+    ensures { samples.new ≡ advanced seconds samples.old }
 {
     let gone = seconds.min(samples.len() as u64) as usize;
     samples.rotate_left(gone);

@@ -32,7 +32,7 @@ use Rattle.kb_topics.specs.Reading.{Reading, in_use, read_all, starting_at}
 use Rattle.kb_replay.specs.Shown.{HasRead, IsStopped}
 use Rattle.kb_opening.specs.Catalog.{IsGreatest, IsWhole}
 use Rattle.kb_opening.specs.Owners.{owner_cmp}
-use Rattle.kb_opening.specs.Directory.{all_files, files_at, items_of, NoneBetween, Takes}
+use Rattle.kb_opening.specs.Directory.{all_files, files_at, items_of, NoneBetween, TakesOut}
 use Rattle.kb_opening.specs.Opened.{ComesToKnown, EndsWith, IsLongest, NoneAbove}
 use Rattle.kb_opening.specs.Tenant.{owners_in, AreListed, IsOfOlder, TakesOlder, TakesSome}
 use Rattle.kb_opening.specs.declared.directory.Directory.{Directory}
@@ -186,7 +186,7 @@ cleared_to t generation from most next first now had has le none c = record {
 }
 
 module _ (t generation from older most next : ℕ) (first mid now : Disk) (had has left : Directory) (files : List ℕ)
-    (is : most + 1 ≡ from) (up_to : older ≤ most) (between : NoneBetween has t older most) (takes : Takes (Catalog t older) has files left)
+    (is : most + 1 ≡ from) (up_to : older ≤ most) (between : NoneBetween has t older most) (takes : TakesOut (Catalog t older) has files left)
     (c : IsCleared t generation from first had mid has next) (others : Clears (Contains files) mid now) where
   mine_first : files ≡ files_at (Catalog t older) had
   mine_first = takes.files ∙ c.below older (omega (arith, is, up_to))

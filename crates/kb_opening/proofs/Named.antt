@@ -17,7 +17,7 @@ use Rattle.std.proofs.lemmas.Option.{none-some}
 use Rattle.std.proofs.lemmas.List.{get_or_default}
 use Rattle.std.proofs.lemmas.Map.Keys.{Less-from_sorted}
 use Rattle.std.proofs.lemmas.List.Sorted.{searchable_from_sorted}
-use Rattle.kb_opening.specs.Owners.{place_of}
+use Rattle.kb_opening.specs.Owners.{place_among}
 
 -- ---- two names
 
@@ -41,20 +41,20 @@ flipped x y o h = nat_list_cmp_total.antisymm y x ∙ ap ordering_reverse h
 
 -- ---- the place
 
-pub place_at : (names : List (List ℕ)) (i : ℕ) (d : List ℕ) → Rises names → i < length names → place_of (get_or names i d) names ≡ Some i
+pub place_at : (names : List (List ℕ)) (i : ℕ) (d : List ℕ) → Rises names → i < length names → place_among (get_or names i d) names ≡ Some i
 unfolding IsStrictlySortedBy
 place_at [] i d rises lt = absurd (omega arith)
-place_at (n ∷ ns) zero d rises lt = ap (λ b. cond b (Some 0) (option_map (λ i. 1 + i) (place_of n ns))) (nat_list_eq_equiv.refl n)
+place_at (n ∷ ns) zero d rises lt = ap (λ b. cond b (Some 0) (option_map (λ i. 1 + i) (place_among n ns))) (nat_list_eq_equiv.refl n)
 place_at (n ∷ ns) (suc j) d rises lt =
     let less : name_cmp n (get_or ns j d) ≡ Less = Less-from_sorted name_cmp (n ∷ ns) 0 (suc j) d rises (omega arith) lt in
-    ap (λ b. cond b (Some 0) (option_map (λ i. 1 + i) (place_of (get_or ns j d) ns))) (apart (get_or ns j d) n Greater (flipped n (get_or ns j d) Less less) refl)
+    ap (λ b. cond b (Some 0) (option_map (λ i. 1 + i) (place_among (get_or ns j d) ns))) (apart (get_or ns j d) n Greater (flipped n (get_or ns j d) Less less) refl)
     ∙ ap (option_map (λ i. 1 + i)) (place_at ns j d rises.1 (omega arith))
     ∙ ap Some (omega arith)
 
-pub no_place : (name : List ℕ) (names : List (List ℕ)) → ((k : ℕ) (d : List ℕ) → k < length names → bytes_eq name (get_or names k d) ≡ false) → place_of name names ≡ None
+pub no_place : (name : List ℕ) (names : List (List ℕ)) → ((k : ℕ) (d : List ℕ) → k < length names → bytes_eq name (get_or names k d) ≡ false) → place_among name names ≡ None
 no_place name [] apart = refl
 no_place name (n ∷ ns) apart =
-    ap (λ b. cond b (Some 0) (option_map (λ i. 1 + i) (place_of name ns))) (apart 0 n (omega arith))
+    ap (λ b. cond b (Some 0) (option_map (λ i. 1 + i) (place_among name ns))) (apart 0 n (omega arith))
     ∙ ap (option_map (λ i. 1 + i)) (no_place name ns (λ k d lt. apart (suc k) d (omega arith)))
 
 -- ---- a search by halving
@@ -70,14 +70,14 @@ searchable f xs rises k d _ lt =
 
 -- what a search finds
 pub searched_place : {X : Type 0} (f : X → List ℕ) (xs : List X) (name : List ℕ) (r : Result ℕ ℕ) → IsBinarySearchResult (λ x. name_cmp (f x) name) xs r → IsSearchInRange r (length xs) → Rises (map f xs)
-    → result_ok r ≡ place_of name (map f xs)
+    → result_ok r ≡ place_among name (map f xs)
 searched_place f [] name (Ok i) found within rises = absurd (omega arith)
 searched_place f [] name (Err i) found within rises = refl
 searched_place f (x ∷ xs) name (Ok i) found within rises =
     let here : get_or (map f (x ∷ xs)) i (f x) ≡ f (get_or (x ∷ xs) i x) = get_or-map f (x ∷ xs) i x in
     let len : length (map f (x ∷ xs)) ≡ length (x ∷ xs) = length-map (x ∷ xs) f in
     let is : get_or (map f (x ∷ xs)) i (f x) ≡ name = here ∙ tied _ _ (found x) in
-    sym (ap (λ q. place_of q (map f (x ∷ xs))) (sym is) ∙ place_at (map f (x ∷ xs)) i (f x) rises (omega arith))
+    sym (ap (λ q. place_among q (map f (x ∷ xs))) (sym is) ∙ place_at (map f (x ∷ xs)) i (f x) rises (omega arith))
 searched_place f (x ∷ xs) name (Err i) found within rises =
     let parted = found (searchable_from_sorted nat_list_cmp_total f (x ∷ xs) name (searchable f (x ∷ xs) rises)) in
     let len : length (map f (x ∷ xs)) ≡ length (x ∷ xs) = length-map (x ∷ xs) f in
@@ -110,27 +110,27 @@ below_each n (m ∷ ms) zero name all at = apart n name Less (ap (λ o. name_cmp
 below_each n (m ∷ ms) (suc t) name all at = below_each n ms t name all.1 at
 
 -- a name is at the place of another only where they are the same
-pub at_place : (names : List (List ℕ)) (t : ℕ) (name q : List ℕ) → Rises names → slice_get names t ≡ Some name → is_place t (place_of q names) ≡ bytes_eq q name
+pub at_place : (names : List (List ℕ)) (t : ℕ) (name q : List ℕ) → Rises names → slice_get names t ≡ Some name → is_place t (place_among q names) ≡ bytes_eq q name
 unfolding IsStrictlySortedBy
 at_place [] t name q rises at = absurd (none-some name at)
 at_place (n ∷ ns) zero name q rises at =
-    elim (bytes_eq q n) as (λ b. bytes_eq q n ≡ b → is_place 0 (cond b (Some 0) (option_map (λ i. 1 + i) (place_of q ns))) ≡ bytes_eq q name) [
+    elim (bytes_eq q n) as (λ b. bytes_eq q n ≡ b → is_place 0 (cond b (Some 0) (option_map (λ i. 1 + i) (place_among q ns))) ≡ bytes_eq q name) [
       | true ↦ λ e. sym (ap (λ o. bytes_eq q (unwrap_or o name)) (sym at) ∙ e)
-      | false ↦ λ e. not_first (place_of q ns) ∙ sym (ap (λ o. bytes_eq q (unwrap_or o name)) (sym at) ∙ e)
+      | false ↦ λ e. not_first (place_among q ns) ∙ sym (ap (λ o. bytes_eq q (unwrap_or o name)) (sym at) ∙ e)
     ] refl
 at_place (n ∷ ns) (suc t) name q rises at =
-    elim (bytes_eq q n) as (λ b. bytes_eq q n ≡ b → is_place (suc t) (cond b (Some 0) (option_map (λ i. 1 + i) (place_of q ns))) ≡ bytes_eq q name) [
+    elim (bytes_eq q n) as (λ b. bytes_eq q n ≡ b → is_place (suc t) (cond b (Some 0) (option_map (λ i. 1 + i) (place_among q ns))) ≡ bytes_eq q name) [
       | true ↦ λ e. ne_eqb 0 (suc t) (λ z. omega (arith, z)) ∙ sym (ap (λ m. bytes_eq m name) (same_name q n e) ∙ below_each n ns t name rises.0 at)
-      | false ↦ λ e. next_place t (place_of q ns) ∙ at_place ns t name q rises.1 at
+      | false ↦ λ e. next_place t (place_among q ns) ∙ at_place ns t name q rises.1 at
     ] refl
 
 -- a name has a place where it is one of them
-pub has_place : (names : List (List ℕ)) (q : List ℕ) → is_some (place_of q names) ≡ list_any (bytes_eq q) names
+pub has_place : (names : List (List ℕ)) (q : List ℕ) → is_some (place_among q names) ≡ list_any (bytes_eq q) names
 has_place [] q = refl
 has_place (n ∷ ns) q =
-    elim (bytes_eq q n) as (λ b. is_some (cond b (Some 0) (option_map (λ i. 1 + i) (place_of q ns))) ≡ (b || list_any (bytes_eq q) ns)) [
+    elim (bytes_eq q n) as (λ b. is_some (cond b (Some 0) (option_map (λ i. 1 + i) (place_among q ns))) ≡ (b || list_any (bytes_eq q) ns)) [
       | true ↦ refl
-      | false ↦ mapped (place_of q ns) ∙ has_place ns q
+      | false ↦ mapped (place_among q ns) ∙ has_place ns q
     ]
   where
     mapped : (o : Option ℕ) → is_some (option_map (λ i. 1 + i) o) ≡ is_some o

@@ -16,8 +16,8 @@ use Rattle.kb_wire.specs.declared.fault.WireFault.TheVariants.{Bad}
 use Rattle.kb_segment.specs.Header.{fields, generation_read}
 use Rattle.kb_segment.specs.Header.{Header, is_legal, is_partition, is_meta, is_tenant, is_not_negative, is_readable, is_sealed, said_size, header_with, header_in, header_of, said_read}
 use Rattle.kb_segment_log.specs.SegmentLog.{bytes_at}
-use Rattle.kb_opening.specs.Owners.{is_of_catalog, is_of_partition, is_of_one, passes, place_of, owner_by, same_owner, is_owner}
-use Rattle.kb_opening.specs.Directory.{files_at, only, Adds, IsDirectory}
+use Rattle.kb_opening.specs.Owners.{is_of_catalog, is_of_partition, is_of_one, passes, place_among, owner_by, same_owner, is_owner}
+use Rattle.kb_opening.specs.Directory.{files_at, only, Assigns, IsDirectory}
 use Rattle.kb_opening.specs.declared.directory.Directory.{Directory}
 use Rattle.kb_opening.specs.declared.owner.Owner.{Owner}
 use Rattle.kb_opening.specs.declared.owner.Owner.TheVariants.{Catalog, Partition}
@@ -197,14 +197,14 @@ catalog_by : (names : List (List ℕ)) (t g : ℕ) (name : List ℕ) → Rises n
     → is_owner (Catalog t g) (owner_by names found) ≡ passes (is_of_catalog name g) found
 catalog_by names t g name rises at None legal = refl
 catalog_by names t g name rises at (Some h) legal =
-    catalog_test (is_natural 0 h.kind) (is_natural 1 h.kind) (is_natural g h.generation) (bytes_eq h.tenant name) (natural h.instance) (natural h.partition) (natural h.generation) t g (place_of h.tenant names)
+    catalog_test (is_natural 0 h.kind) (is_natural 1 h.kind) (is_natural g h.generation) (bytes_eq h.tenant name) (natural h.instance) (natural h.partition) (natural h.generation) t g (place_among h.tenant names)
     (at_place names t name h.tenant rises at) (kinds_differ h.kind) (other_kind h (legal h refl)) (λ k. natural_test h.generation g (generation_told h (legal h refl) k))
 
 partition_by : (names : List (List ℕ)) (t i p : ℕ) (name : List ℕ) → Rises names → slice_get names t ≡ Some name → (found : Option Header) → AreLegal found
     → is_owner (Partition t i p) (owner_by names found) ≡ passes (is_of_partition name i p) found
 partition_by names t i p name rises at None legal = refl
 partition_by names t i p name rises at (Some h) legal =
-    partition_test (is_natural 0 h.kind) (is_natural 0 h.generation) (is_natural i h.instance) (is_natural p h.partition) (bytes_eq h.tenant name) (natural h.instance) (natural h.partition) (natural h.generation) t i p (place_of h.tenant names)
+    partition_test (is_natural 0 h.kind) (is_natural 0 h.generation) (is_natural i h.instance) (is_natural p h.partition) (bytes_eq h.tenant name) (natural h.instance) (natural h.partition) (natural h.generation) t i p (place_among h.tenant names)
     (at_place names t name h.tenant rises at)
     (λ k. natural_test h.instance i (numbers_told h (legal h refl) k).0)
     (λ k. natural_test h.partition p (numbers_told h (legal h refl) k).1)
@@ -213,7 +213,7 @@ partition_by names t i p name rises at (Some h) legal =
 stray_by : (names : List (List ℕ)) (found : Option Header) → is_none (owner_by names found) ≡ not (passes (is_of_one names) found)
 stray_by names None = refl
 stray_by names (Some h) =
-    stray_test (is_natural 0 h.kind) (list_any (bytes_eq h.tenant) names) (natural h.instance) (natural h.partition) (natural h.generation) (place_of h.tenant names) (has_place names h.tenant)
+    stray_test (is_natural 0 h.kind) (list_any (bytes_eq h.tenant) names) (natural h.instance) (natural h.partition) (natural h.generation) (place_among h.tenant names) (has_place names h.tenant)
 
 -- ---- the files
 
@@ -230,7 +230,7 @@ one_more : (test : ℕ → Bool) (xs : List ℕ) (i x : ℕ) → i < length xs �
 one_more test xs i x lt is = ap (λ y. filter test (take i xs) ++ cond (test y) (y ∷ []) []) is ∙ sym (filter_more test xs i x lt)
 
 pub owned_more : (files : Files) (names : List (List ℕ)) (xs : List ℕ) (i x : ℕ) (old new : Directory) (o : Option Owner) → i < length xs → x ≡ get_or xs i x
-    → AreOwned files names (take i xs) old → o ≡ owner_in files names x → Adds o x old new → AreOwned files names (take (i + 1) xs) new
+    → AreOwned files names (take i xs) old → o ≡ owner_in files names x → Assigns o x old new → AreOwned files names (take (i + 1) xs) new
 owned_more files names xs i x old new o lt is had same adds = record {
   of_each = λ q. adds.files q ∙ ap (λ us. us ++ only (is_owner q o) x) (had.of_each q)
       ∙ ap (λ r. filter (λ n. is_owner q (owner_in files names n)) (take i xs) ++ only (is_owner q r) x) same

@@ -17,7 +17,7 @@ use Rattle.kb_segment_log.specs.declared.log.SegmentLog.{SegmentLog}
 use Rattle.kb_tenant_state.specs.declared.partition.Partition.{Partition}
 use Rattle.kb_opening.specs.Partition.{Lists, IsAmong, AreGiven}
 use Rattle.kb_opening.specs.Settled.{IsSettledFrom, AreSettledFrom}
-use Rattle.kb_opening.specs.Topics.{numbers_in}
+use Rattle.kb_opening.specs.Topics.{listed_numbers}
 use Rattle.kb_opening.proofs.Openings.{Opening, item_at}
 
 -- ---- files that are gone
@@ -103,9 +103,9 @@ module _ (As : Type 0) (lists : Lists) (starts : List ℕ) (xs : List (Partition
       (item_at xs x y p (subst (λ (zs : List (Partition SegmentLog)). slice_get zs p ≡ Some y) grown there))
 
 -- a number in some lists is of one of them
-pub among_numbers : (lists : Lists) (file : ℕ) → Contains (numbers_in lists) file → IsAmong lists file
+pub among_numbers : (lists : Lists) (file : ℕ) → Contains (listed_numbers lists) file → IsAmong lists file
 among_numbers [] file has = let lt = has.1 in absurd (omega (arith, lt))
 among_numbers (l ∷ ls) file has = ⊎_elim
     (λ here. record { number = 0; list = l; at = refl; has = here })
     (λ later. let o = among_numbers ls file later in record { number = suc o.number; list = o.list; at = o.at; has = o.has })
-    (Contains-append_cases l.items (numbers_in ls) file has)
+    (Contains-append_cases l.items (listed_numbers ls) file has)

@@ -7,7 +7,7 @@ use Rattle.std.proofs.lemmas.List.{get_or_append_left, get_or-append-add}
 use Rattle.std.proofs.lemmas.List.Elements.{All-contains, All-from_recursion, Contains-append_cases, Contains-append_left, Contains-append_right}
 use Rattle.std.proofs.lemmas.List.Sorted.{IsPermutation-sym, All-permutation, Contains-permutation}
 use Rattle.kb_segment_log.proofs.Opened.{distinct_moved}
-use Rattle.kb_opening.specs.Directory.{all_files, Takes}
+use Rattle.kb_opening.specs.Directory.{all_files, TakesOut}
 use Rattle.kb_opening.specs.declared.directory.Directory.{Directory}
 use Rattle.kb_opening.specs.declared.owner.Owner.{Owner}
 
@@ -35,16 +35,16 @@ distinct_parts (x ∷ xs) ys d =
     apart first rest n (suc k, lt, is) yours = rest n (k, omega (arith, lt), is) yours
 
 -- what holds of each file
-pub all_taken : (P : ℕ → Type 0) (owner : Owner) (old new : Directory) (taken : List ℕ) → Takes owner old taken new → All P (all_files old) → All P taken × All P (all_files new)
+pub all_taken : (P : ℕ → Type 0) (owner : Owner) (old new : Directory) (taken : List ℕ) → TakesOut owner old taken new → All P (all_files old) → All P taken × All P (all_files new)
 all_taken P owner old new taken takes all = all_parts P taken (all_files new) (All-permutation P (all_files old) (taken ++ all_files new) takes.all all)
 
-pub taken_or_left : (owner : Owner) (old new : Directory) (taken : List ℕ) → Takes owner old taken new → (file : ℕ) → Contains (all_files old) file ↔ (Contains taken file ⊎ Contains (all_files new) file)
+pub taken_or_left : (owner : Owner) (old new : Directory) (taken : List ℕ) → TakesOut owner old taken new → (file : ℕ) → Contains (all_files old) file ↔ (Contains taken file ⊎ Contains (all_files new) file)
 taken_or_left owner old new taken takes file = (
   λ was. Contains-append_cases taken (all_files new) file (Contains-permutation (all_files old) (taken ++ all_files new) file takes.all was),
   λ is. Contains-permutation (taken ++ all_files new) (all_files old) file (IsPermutation-sym (all_files old) (taken ++ all_files new) takes.all)
       (elim is [ inl here ↦ Contains-append_left taken (all_files new) file here | inr there ↦ Contains-append_right taken (all_files new) file there ]),
 )
 
-pub taken_apart : (owner : Owner) (old new : Directory) (taken : List ℕ) → Takes owner old taken new → IsDistinct nat_eq (all_files old)
+pub taken_apart : (owner : Owner) (old new : Directory) (taken : List ℕ) → TakesOut owner old taken new → IsDistinct nat_eq (all_files old)
     → IsDistinct nat_eq taken × IsDistinct nat_eq (all_files new) × ((file : ℕ) → Contains taken file → Contains (all_files new) file → ⊥)
 taken_apart owner old new taken takes d = distinct_parts taken (all_files new) (distinct_moved (all_files old) (taken ++ all_files new) takes.all d)

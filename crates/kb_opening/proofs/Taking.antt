@@ -12,10 +12,10 @@ use Rattle.std.proofs.lemmas.List.Sorted.{IsPermutation-sym, IsPermutation-trans
 use Rattle.kb_store.specs.Disk.{Disk, IsThere}
 use Rattle.kb_segment_log.proofs.Opened.{distinct_moved}
 use Rattle.kb_opening.specs.Owners.{owner_cmp}
-use Rattle.kb_opening.specs.Directory.{all_files, files_at, owned_in, Takes}
+use Rattle.kb_opening.specs.Directory.{all_files, files_at, owned_in, TakesOut}
 use Rattle.kb_opening.specs.Partition.{Lists, IsAmong, AreGiven}
 use Rattle.kb_opening.specs.Tenant.{AreListed}
-use Rattle.kb_opening.specs.Topics.{numbers_in, TakesTopic}
+use Rattle.kb_opening.specs.Topics.{listed_numbers, TakesTopic}
 use Rattle.kb_opening.specs.declared.directory.Directory.{Directory}
 use Rattle.kb_opening.specs.declared.owner.Owner.{Owner}
 use Rattle.kb_opening.specs.declared.owner.Owner.TheVariants as owners
@@ -40,34 +40,34 @@ listed_at o d file has =
     Contains-append_left (owned_in d.owned.entries) d.strays.items file
     (Contains-permutation _ (owned_in d.owned.entries) file (IsPermutation-sym _ _ (owned_without test d.owned.entries)) (Contains-append_left (files_at o d) _ file has))
 
-pub in_numbers : (lists : Lists) (p : ℕ) (list : Vec ℕ Global) → slice_get lists p ≡ Some list → (file : ℕ) → Contains list.items file → Contains (numbers_in lists) file
+pub in_numbers : (lists : Lists) (p : ℕ) (list : Vec ℕ Global) → slice_get lists p ≡ Some list → (file : ℕ) → Contains list.items file → Contains (listed_numbers lists) file
 in_numbers [] p list at file has = absurd cc
-in_numbers (l ∷ ls) zero list at file has = Contains-append_left l.items (numbers_in ls) file (subst (λ (v : Vec ℕ Global). Contains v.items file) (sym (same_Some l list at)) has)
-in_numbers (l ∷ ls) (suc p) list at file has = Contains-append_right l.items (numbers_in ls) file (in_numbers ls p list at file has)
+in_numbers (l ∷ ls) zero list at file has = Contains-append_left l.items (listed_numbers ls) file (subst (λ (v : Vec ℕ Global). Contains v.items file) (sym (same_Some l list at)) has)
+in_numbers (l ∷ ls) (suc p) list at file has = Contains-append_right l.items (listed_numbers ls) file (in_numbers ls p list at file has)
 
-each_once : (lists : Lists) → IsDistinct nat_eq (numbers_in lists) → (p : ℕ) (list : Vec ℕ Global) → slice_get lists p ≡ Some list → IsDistinct nat_eq list.items
+each_once : (lists : Lists) → IsDistinct nat_eq (listed_numbers lists) → (p : ℕ) (list : Vec ℕ Global) → slice_get lists p ≡ Some list → IsDistinct nat_eq list.items
 each_once [] d p list at = absurd cc
-each_once (l ∷ ls) d zero list at = subst (λ (v : Vec ℕ Global). IsDistinct nat_eq v.items) (same_Some l list at) (distinct_parts l.items (numbers_in ls) d).0
-each_once (l ∷ ls) d (suc p) list at = each_once ls (distinct_parts l.items (numbers_in ls) d).1 p list at
+each_once (l ∷ ls) d zero list at = subst (λ (v : Vec ℕ Global). IsDistinct nat_eq v.items) (same_Some l list at) (distinct_parts l.items (listed_numbers ls) d).0
+each_once (l ∷ ls) d (suc p) list at = each_once ls (distinct_parts l.items (listed_numbers ls) d).1 p list at
 
-lists_apart : (lists : Lists) → IsDistinct nat_eq (numbers_in lists) → (p q : ℕ) (list other : Vec ℕ Global) → slice_get lists p ≡ Some list → slice_get lists q ≡ Some other → (p ≡ q → ⊥)
+lists_apart : (lists : Lists) → IsDistinct nat_eq (listed_numbers lists) → (p q : ℕ) (list other : Vec ℕ Global) → slice_get lists p ≡ Some list → slice_get lists q ≡ Some other → (p ≡ q → ⊥)
     → (file : ℕ) → Contains list.items file → Contains other.items file → ⊥
 lists_apart [] d p q list other at there ne file has also = absurd cc
 lists_apart (l ∷ ls) d zero zero list other at there ne file has also = ne refl
 lists_apart (l ∷ ls) d zero (suc q) list other at there ne file has also =
-    (distinct_parts l.items (numbers_in ls) d).2 file (subst (λ (v : Vec ℕ Global). Contains v.items file) (sym (same_Some l list at)) has) (in_numbers ls q other there file also)
+    (distinct_parts l.items (listed_numbers ls) d).2 file (subst (λ (v : Vec ℕ Global). Contains v.items file) (sym (same_Some l list at)) has) (in_numbers ls q other there file also)
 lists_apart (l ∷ ls) d (suc p) zero list other at there ne file has also =
-    (distinct_parts l.items (numbers_in ls) d).2 file (subst (λ (v : Vec ℕ Global). Contains v.items file) (sym (same_Some l other there)) also) (in_numbers ls p list at file has)
+    (distinct_parts l.items (listed_numbers ls) d).2 file (subst (λ (v : Vec ℕ Global). Contains v.items file) (sym (same_Some l other there)) also) (in_numbers ls p list at file has)
 lists_apart (l ∷ ls) d (suc p) (suc q) list other at there ne file has also =
-    lists_apart ls (distinct_parts l.items (numbers_in ls) d).1 p q list other at there (λ e. ne (ap suc e)) file has also
+    lists_apart ls (distinct_parts l.items (listed_numbers ls) d).1 p q list other at there (λ e. ne (ap suc e)) file has also
 
-numbers_more : (lists : Lists) (taken : Vec ℕ Global) → numbers_in (lists ++ taken ∷ []) ≡ numbers_in lists ++ taken.items
+numbers_more : (lists : Lists) (taken : Vec ℕ Global) → listed_numbers (lists ++ taken ∷ []) ≡ listed_numbers lists ++ taken.items
 numbers_more [] taken = append-nil taken.items
-numbers_more (l ∷ ls) taken = ap (λ ns. l.items ++ ns) (numbers_more ls taken) ∙ sym (append_assoc l.items (numbers_in ls) taken.items)
+numbers_more (l ∷ ls) taken = ap (λ ns. l.items ++ ns) (numbers_more ls taken) ∙ sym (append_assoc l.items (listed_numbers ls) taken.items)
 
 -- ---- one list after another
 
-module _ (t i n : ℕ) (old mid new : Directory) (lists : Lists) (taken : Vec ℕ Global) (so_far : TakesTopic t i n old lists mid) (takes : Takes (owners.Partition t i n) mid taken.items new) where
+module _ (t i n : ℕ) (old mid new : Directory) (lists : Lists) (taken : Vec ℕ Global) (so_far : TakesTopic t i n old lists mid) (takes : TakesOut (owners.Partition t i n) mid taken.items new) where
   count_more : length (lists ++ taken ∷ []) ≡ n + 1
   count_more = let count = so_far.count in omega (arith, count, length-append lists (taken ∷ []))
 
@@ -89,12 +89,12 @@ module _ (t i n : ℕ) (old mid new : Directory) (lists : Lists) (taken : Vec �
   others_more : (o : Owner) → ((p : ℕ) → p < n + 1 → o ≢ owners.Partition t i p) → files_at o new ≡ files_at o old
   others_more o apart = takes.others o (apart n (omega arith)) ∙ so_far.others o (λ p lt. apart p (omega (arith, lt)))
 
-  all_more : IsPermutation (all_files old) (numbers_in (lists ++ taken ∷ []) ++ all_files new)
+  all_more : IsPermutation (all_files old) (listed_numbers (lists ++ taken ∷ []) ++ all_files new)
   all_more =
       IsPermutation-trans _ _ _ so_far.all
-      (IsPermutation-trans _ _ _ (IsPermutation-append_right (numbers_in lists) (all_files mid) (taken.items ++ all_files new) takes.all)
-      (same_files (numbers_in lists ++ (taken.items ++ all_files new)) (numbers_in (lists ++ taken ∷ []) ++ all_files new)
-      (sym (append_assoc (numbers_in lists) taken.items (all_files new)) ∙ ap (λ ns. ns ++ all_files new) (sym (numbers_more lists taken)))))
+      (IsPermutation-trans _ _ _ (IsPermutation-append_right (listed_numbers lists) (all_files mid) (taken.items ++ all_files new) takes.all)
+      (same_files (listed_numbers lists ++ (taken.items ++ all_files new)) (listed_numbers (lists ++ taken ∷ []) ++ all_files new)
+      (sym (append_assoc (listed_numbers lists) taken.items (all_files new)) ∙ ap (λ ns. ns ++ all_files new) (sym (numbers_more lists taken)))))
 
   pub more_taken : (ls : Lists) → ls ≡ lists ++ taken ∷ [] → TakesTopic t i (n + 1) old ls new
   more_taken ls e = subst (λ (vs : Lists). TakesTopic t i (n + 1) old vs new) (sym e) record {
@@ -114,17 +114,17 @@ all_from P xs each = λ k d lt. each _ (All-contains_itself xs k d lt)
 module _ (t i n : ℕ) (old new : Directory) (lists : Lists) (takes : TakesTopic t i n old lists new) where
   -- it stood there before
   pub stood : (file : ℕ) → IsAmong lists file → Contains (all_files old) file
-  stood file o = Contains-permutation (numbers_in lists ++ all_files new) (all_files old) file (IsPermutation-sym (all_files old) (numbers_in lists ++ all_files new) takes.all)
-      (Contains-append_left (numbers_in lists) (all_files new) file (in_numbers lists o.number o.list o.at file o.has))
+  stood file o = Contains-permutation (listed_numbers lists ++ all_files new) (all_files old) file (IsPermutation-sym (all_files old) (listed_numbers lists ++ all_files new) takes.all)
+      (Contains-append_left (listed_numbers lists) (all_files new) file (in_numbers lists o.number o.list o.at file o.has))
 
   -- so did what is left
   pub left_stood : (file : ℕ) → Contains (all_files new) file → Contains (all_files old) file
-  left_stood file has = Contains-permutation (numbers_in lists ++ all_files new) (all_files old) file (IsPermutation-sym (all_files old) (numbers_in lists ++ all_files new) takes.all)
-      (Contains-append_right (numbers_in lists) (all_files new) file has)
+  left_stood file has = Contains-permutation (listed_numbers lists ++ all_files new) (all_files old) file (IsPermutation-sym (all_files old) (listed_numbers lists ++ all_files new) takes.all)
+      (Contains-append_right (listed_numbers lists) (all_files new) file has)
 
   module _ (disk : Disk) (next : ℕ) (listed : AreListed old disk next) where
-    apart : IsDistinct nat_eq (numbers_in lists) × IsDistinct nat_eq (all_files new) × ((file : ℕ) → Contains (numbers_in lists) file → Contains (all_files new) file → ⊥)
-    apart = distinct_parts (numbers_in lists) (all_files new) (distinct_moved (all_files old) (numbers_in lists ++ all_files new) takes.all listed.once)
+    apart : IsDistinct nat_eq (listed_numbers lists) × IsDistinct nat_eq (all_files new) × ((file : ℕ) → Contains (listed_numbers lists) file → Contains (all_files new) file → ⊥)
+    apart = distinct_parts (listed_numbers lists) (all_files new) (distinct_moved (all_files old) (listed_numbers lists ++ all_files new) takes.all listed.once)
 
     -- it is not left
     pub not_left : (file : ℕ) → IsAmong lists file → Contains (all_files new) file → ⊥

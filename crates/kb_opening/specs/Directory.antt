@@ -54,13 +54,13 @@ abbrev pub only : Bool → ℕ → List ℕ
 only b file = if b then file ∷ [] else []
 
 -- A file goes to its owner's, behind those that were read before; where it has none it is a stray.
-pub record Adds (owner : Option Owner) (file : ℕ) (old new : Directory) : Type 0 where
+pub record Assigns (owner : Option Owner) (file : ℕ) (old new : Directory) : Type 0 where
   pub files : (o : Owner) → files_at o new ≡ files_at o old ++ only (is_owner o owner) file
   pub strays : new.strays.items ≡ old.strays.items ++ only (is_none owner) file
   pub all : IsPermutation (file ∷ all_files old) (all_files new)
 
 -- An owner's files were taken out; all others stay.
-pub record Takes (owner : Owner) (old : Directory) (taken : List ℕ) (new : Directory) : Type 0 where
+pub record TakesOut (owner : Owner) (old : Directory) (taken : List ℕ) (new : Directory) : Type 0 where
   pub files : taken ≡ files_at owner old
   pub none : files_at owner new ≡ []
   pub others : (o : Owner) → o ≢ owner → files_at o new ≡ files_at o old

@@ -57,9 +57,9 @@ strays_of files tenants numbers = filter (λ n. not (says files (is_of_one tenan
 -- ---- owners
 
 -- the place of a name among others
-abbrev pub place_of : List ℕ → List (List ℕ) → Option ℕ
-place_of name [] = None
-place_of name (n ∷ names) = if bytes_eq name n then Some 0 else option_map (λ i. 1 + i) (place_of name names)
+abbrev pub place_among : List ℕ → List (List ℕ) → Option ℕ
+place_among name [] = None
+place_among name (n ∷ names) = if bytes_eq name n then Some 0 else option_map (λ i. 1 + i) (place_among name names)
 
 -- the log that a header of a tenant at that place names
 abbrev pub owner_at : Header → ℕ → Owner
@@ -67,7 +67,7 @@ owner_at h tenant =
     if is_natural 0 h.kind then Partition tenant (natural h.instance) (natural h.partition) else Catalog tenant (natural h.generation)
 
 abbrev pub owner_of : List (List ℕ) → Header → Option Owner
-owner_of names h = option_map (owner_at h) (place_of h.tenant names)
+owner_of names h = option_map (owner_at h) (place_among h.tenant names)
 
 -- the same, where there may be no readable header
 abbrev pub owner_by : List (List ℕ) → Option Header → Option Owner

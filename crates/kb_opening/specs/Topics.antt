@@ -31,8 +31,8 @@ use Rattle.kb_opening.specs.declared.owner.Owner.TheVariants as owners
 -- ---- one topic
 
 -- all numbers in some lists
-abbrev pub numbers_in : Lists → List ℕ
-numbers_in lists = concat (map (λ l. l.items) lists)
+abbrev pub listed_numbers : Lists → List ℕ
+listed_numbers lists = concat (map (λ l. l.items) lists)
 
 -- The files of a topic's first partitions were taken out, each partition's in a list of its own.
 pub record TakesTopic (t i n : ℕ) (old : Directory) (lists : Lists) (new : Directory) : Type 0 where
@@ -41,7 +41,7 @@ pub record TakesTopic (t i n : ℕ) (old : Directory) (lists : Lists) (new : Dir
   pub none : (p : ℕ) → p < n → files_at (owners.Partition t i p) new ≡ []
   pub others : (o : Owner) → ((p : ℕ) → p < n → o ≢ owners.Partition t i p) → files_at o new ≡ files_at o old
   pub strays : new.strays.items ≡ old.strays.items
-  pub all : IsPermutation (all_files old) (numbers_in lists ++ all_files new)
+  pub all : IsPermutation (all_files old) (listed_numbers lists ++ all_files new)
 
 -- The partitions of a topic were opened, each from the files that the directory had of it, and were taken in.
 pub record OpensTopic (t : ℕ) (name : List ℕ) (size i : ℕ) (topic : TopicState) (first : Disk) (from : Directory) (old : Entries SegmentLog)

@@ -6,7 +6,7 @@ ghost use Rattle.std.specs.Ordering.{nat_cmp};
 ghost use Rattle.std.specs.Cmp.Lexicographic.{slice_cmp};
 ghost use Rattle.kb_store.specs.Disk.{IsThere, Keeps};
 ghost use Rattle.kb_opening.specs.Owners.{HasFault, owner_by};
-ghost use Rattle.kb_opening.specs.Directory.{all_files, files_at, IsDirectory, IsEmpty, Adds, NoneBetween, Takes};
+ghost use Rattle.kb_opening.specs.Directory.{all_files, files_at, IsDirectory, IsEmpty, Assigns, NoneBetween, TakesOut};
 ghost use Rattle.kb_opening.specs.declared.owner.Owner.{Owner};
 ghost use Rattle.kb_opening.specs.declared.owner.Owner.TheVariants as owners;
 ghost use Rattle.kb_opening.specs.declared.directory.Directory.{Directory};
@@ -101,14 +101,14 @@ impl Directory {
 
     /// Takes the files of a generation of a tenant's catalog out. No memory is taken.
     pub fn take_catalog(&mut self, tenant: usize, generation: u64) -> Vec<u64>
-        ensures { Takes (owners.Catalog tenant generation) self.old result.items self.new }
+        ensures { TakesOut (owners.Catalog tenant generation) self.old result.items self.new }
     {
         self.take(Owner::Catalog { tenant, generation })
     }
 
     /// Takes the files of a partition out: none where it has none. No memory is taken.
     pub fn take_partition(&mut self, tenant: usize, instance: u64, number: u64) -> Vec<u64>
-        ensures { Takes (owners.Partition tenant instance number) self.old result.items self.new }
+        ensures { TakesOut (owners.Partition tenant instance number) self.old result.items self.new }
     {
         self.take(Owner::Partition {
             tenant,
@@ -133,7 +133,7 @@ impl Directory {
 
     /// Takes the files of an owner out.
     fn take(&mut self, owner: Owner) -> Vec<u64>
-        ensures { Takes owner self.old result.items self.new }
+        ensures { TakesOut owner self.old result.items self.new }
     {
         match self.owned.remove(&owner) {
             Some(files) => files,
@@ -149,7 +149,7 @@ impl Directory {
         header: Option<SegmentHeader>,
     ) -> Result<(), AllocError>
         requires { IsStrictlySortedBy (slice_cmp nat_cmp) (map (λ name. name.now) names.now) }
-        ensures { OnOk result (Adds (owner_by (map (λ name. name.now) names.now) header) file self.old self.new) }
+        ensures { OnOk result (Assigns (owner_by (map (λ name. name.now) names.now) header) file self.old self.new) }
     {
         match owner_by(names, header) {
             Some(owner) => self.place(owner, file),
@@ -162,7 +162,7 @@ impl Directory {
 
     /// Adds a file to its owner's.
     fn place(&mut self, owner: Owner, file: u64) -> Result<(), AllocError>
-        ensures { OnOk result (Adds (Some owner) file self.old self.new) }
+        ensures { OnOk result (Assigns (Some owner) file self.old self.new) }
     {
         if let Some(files) = self.owned.get_mut(&owner) {
             files.push(file)?;
@@ -178,9 +178,10 @@ impl Directory {
 /// A file that stood in a directory was taken out with an owner's or stands there still. Where no file stood twice, none does in
 /// either list, nor in both.
 pub fn files_taken()
-    ensures either { (owner : Owner) (old new : Directory) (taken : List ℕ) → Takes owner old taken new
+    ensures either { (owner : Owner) (old new : Directory) (taken : List ℕ) → TakesOut owner old taken new
         → (file : ℕ) → Contains (all_files old) file ↔ (Contains taken file ⊎ Contains (all_files new) file) }
-    ensures apart { (owner : Owner) (old new : Directory) (taken : List ℕ) → Takes owner old taken new → IsDistinct nat_eq (all_files old)
+    ensures apart { (owner : Owner) (old new : Directory) (taken : List ℕ) → TakesOut owner old taken new
+        → IsDistinct nat_eq (all_files old)
         → IsDistinct nat_eq taken × IsDistinct nat_eq (all_files new)
         × ((file : ℕ) → Contains taken file → Contains (all_files new) file → ⊥) }
 {}

@@ -4,7 +4,7 @@ ghost use Rattle.std.specs.List.Sorted.{IsStrictlySortedBy};
 ghost use Rattle.std.specs.Ordering.{nat_cmp};
 ghost use Rattle.std.specs.Cmp.Lexicographic.{slice_cmp};
 ghost use Rattle.kb_batch.specs.Batch.{natural};
-ghost use Rattle.kb_opening.specs.Owners.{owner_by, owner_of, owner_at, place_of};
+ghost use Rattle.kb_opening.specs.Owners.{owner_by, owner_of, owner_at, place_among};
 
 use kb_segment::SegmentHeader;
 
@@ -74,7 +74,7 @@ fn natural(number: i64) -> u64
 /// The place of a name among rising names, by halving.
 fn place_of<'a>(names: &[&'a str], name: &'a str) -> Option<usize>
     requires { IsStrictlySortedBy (slice_cmp nat_cmp) (map (λ name. name.now) names.now) }
-    ensures { result ≡ place_of name.now (map (λ name. name.now) names.now) }
+    ensures { result ≡ place_among name.now (map (λ name. name.now) names.now) }
 {
     names.binary_search(&name).ok()
 }

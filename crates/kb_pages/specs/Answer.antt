@@ -62,12 +62,12 @@ abbrev pub IsReadiness : (List ℕ → Type 0) → Response → Type 0
 IsReadiness are_causes r = ((causes : List ℕ) × are_causes causes × IsReadinessOf causes r) ⊎ IsNoMemory r
 
 -- a page of such a text, in such a form, or that memory was refused for it
-abbrev pub IsWhole : (List ℕ → Response → Type 0) → (List ℕ → Type 0) → Response → Type 0
-IsWhole Form is_text r = ((text : List ℕ) × is_text text × Form text r) ⊎ IsNoMemory r
+abbrev pub IsPageOrNoMemory : (List ℕ → Response → Type 0) → (List ℕ → Type 0) → Response → Type 0
+IsPageOrNoMemory Form is_text r = ((text : List ℕ) × is_text text × Form text r) ⊎ IsNoMemory r
 
 -- the page of a tenant; or that there is no tenant of that name; or that memory was refused
 abbrev pub IsOfTenant : (List ℕ → Response → Type 0) → (List ℕ → Type 0) → Type 0 → Response → Type 0
-IsOfTenant Form is_text unknown r = IsWhole Form is_text r ⊎ (unknown × IsText 404 (codes "no such tenant\n") r)
+IsOfTenant Form is_text unknown r = IsPageOrNoMemory Form is_text r ⊎ (unknown × IsText 404 (codes "no such tenant\n") r)
 
 -- 3. Answers
 
@@ -99,23 +99,23 @@ InForm forms.Status = IsHtml
 abbrev pub IsPage : Told → List ℕ → Page → Response → Type 0
 IsPage t name Health r = IsText 200 (codes "ok\n") r
 IsPage t name Ready r = IsReadiness t.causes r
-IsPage t name Metrics r = IsWhole (IsText 200) t.metrics r
+IsPage t name Metrics r = IsPageOrNoMemory (IsText 200) t.metrics r
 IsPage t name Partitions r = IsOfTenant (IsText 200) (t.partitions name) (t.is_unknown name) r
-IsPage t name Status r = IsWhole IsHtml t.status r
+IsPage t name Status r = IsPageOrNoMemory IsHtml t.status r
 IsPage t name Tenant r = IsOfTenant IsHtml (t.tenant name) (t.is_unknown name) r
 IsPage t name Unauthorized r = IsTextWith 401 token_field (codes "the token is missing or wrong\n") r
 IsPage t name NotFound r = IsText 404 (codes "no such page\n") r
 IsPage t name NotAllowed r = IsTextWith 405 allow_field (codes "only GET\n") r
 
 -- a request's field `authorization`, the first of them
-abbrev pub given : {X : Type 0} → Request X → Option (List ℕ)
-given request = option_map (λ (v : FieldValue). v.bytes) (get (head_of request).headers (codes "authorization"))
+abbrev pub authorization_of : {X : Type 0} → Request X → Option (List ℕ)
+authorization_of request = option_map (λ (v : FieldValue). v.bytes) (get (head_of request).headers (codes "authorization"))
 
 -- the page that a request gets, where that field is asked for
 abbrev pub page_of : {X : Type 0} → Option (List ℕ) → Request X → Page
-page_of asked request = page_for asked (given request) (head_of request).method (uri_path (head_of request).uri)
+page_of asked request = page_for asked (authorization_of request) (head_of request).method (uri_path (head_of request).uri)
     (uri_query (head_of request).uri)
 
 -- what answers a request
-abbrev pub IsAnswer : {X : Type 0} → Told → Option (List ℕ) → Request X → Response → Type 0
-IsAnswer told asked request response = IsPage told (named_in (uri_query (head_of request).uri)) (page_of asked request) response
+abbrev pub IsResponseTo : {X : Type 0} → Told → Option (List ℕ) → Request X → Response → Type 0
+IsResponseTo told asked request response = IsPage told (named_in (uri_query (head_of request).uri)) (page_of asked request) response

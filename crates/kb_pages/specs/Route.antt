@@ -28,9 +28,9 @@ abbrev pub is_named : List ℕ → Bool
 is_named query = nat_le 7 (length query) && bytes_eq (take 7 query) (codes "tenant=")
 
 -- a page without a query, or that of a tenant where the query names one
-abbrev pub named : Option (List ℕ) → Page → Page → Page
-named None page other = page
-named (Some query) page other = if is_named query then other else NotFound
+abbrev pub named_page : Option (List ℕ) → Page → Page → Page
+named_page None page other = page
+named_page (Some query) page other = if is_named query then other else NotFound
 
 -- the name in a query that names a tenant, percent-decoded
 abbrev pub named_in : Option (List ℕ) → List ℕ
@@ -42,8 +42,8 @@ abbrev pub page_at : List ℕ → Option (List ℕ) → Page
 page_at path query =
     if bytes_eq path (codes "/readyz") then Ready
     else if bytes_eq path (codes "/metrics") then Metrics
-    else if bytes_eq path (codes "/metrics/partitions") then named query NotFound Partitions
-    else if bytes_eq path (codes "/") then named query Status Tenant
+    else if bytes_eq path (codes "/metrics/partitions") then named_page query NotFound Partitions
+    else if bytes_eq path (codes "/") then named_page query Status Tenant
     else NotFound
 
 -- each page but the first wants the field

@@ -2,7 +2,7 @@
 
 ghost use Rattle.std.specs.Prelude.{◌≡◌, IfOk, option_copied, option_map};
 ghost use Rattle.std.specs.Str.{bytes_eq};
-ghost use Rattle.kb_pages.specs.Route.{authorization, by_get, is_named, may_see, named, named_in, only_get, page_at, page_for};
+ghost use Rattle.kb_pages.specs.Route.{authorization, by_get, is_named, may_see, named_page, named_in, only_get, page_at, page_for};
 
 use percent_encoding::percent_decode;
 use std::alloc::{AllocError, Global};
@@ -78,7 +78,7 @@ fn page_at(path: &str, query: Option<&str>) -> Page
 
 /// A page without a query, or that of a tenant where the query names one.
 fn named(query: Option<&str>, page: Page, of_tenant: Page) -> Page
-    ensures { result ≡ named (option_copied query.entry) page of_tenant }
+    ensures { result ≡ named_page (option_copied query.entry) page of_tenant }
 {
     match query {
         None => page,

@@ -2,7 +2,8 @@
 
 ghost use Rattle.std.specs.Prelude.{◌≡◌, [], ◌∷◌, OnOk, IfOk, codes, option_copied, option_map, true, false};
 ghost use Rattle.http_server.specs.Response.{IsBlank, IsResponse};
-ghost use Rattle.kb_pages.specs.Answer.{InForm, IsAnswer, IsHtml, IsNoMemory, IsOfTenant, IsPage, IsReadiness, IsTextWith, IsWhole, Told};
+ghost use Rattle.kb_pages.specs.Answer.{InForm, IsResponseTo, IsHtml, IsNoMemory, IsOfTenant, IsPage, IsReadiness, IsTextWith};
+ghost use Rattle.kb_pages.specs.Answer.{IsPageOrNoMemory, Told};
 ghost use Rattle.kb_pages.specs.Answer.{all_told, allow_field, close_field, page_of, tenant_told, text_field, token_field};
 ghost use Rattle.kb_pages.specs.Route.{named_in};
 
@@ -65,7 +66,7 @@ pub struct Site<'a, S: Source> {
 
 impl<'a, S: Source> Service for Site<'a, S> {
     ghost answers = { λ old request response new. (new ≡ old)
-        × IsAnswer (S.told old.source.now) (option_map (λ f. f.items) old.asked.now) request response };
+        × IsResponseTo (S.told old.source.now) (option_map (λ f. f.items) old.asked.now) request response };
 
     fn call(
         &mut self,
@@ -152,7 +153,7 @@ fn fill_all<S: Source>(
     response: &mut Response,
 ) -> Result<(), AllocError>
     requires { IsBlank response.old }
-    ensures { OnOk result (IsWhole (InForm form) (all_told (S.told source.now) form) response.new) }
+    ensures { OnOk result (IsPageOrNoMemory (InForm form) (all_told (S.told source.now) form) response.new) }
 {
     let mut page = Vec::new(alloc);
     match source.push_all(alloc, form, &mut page) {

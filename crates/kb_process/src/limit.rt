@@ -1,7 +1,7 @@
 //! How many files a process may have open.
 
 ghost use Rattle.std.specs.Prelude.{◌≡◌};
-ghost use Rattle.kb_process.specs.Limit.{judged, to_ask_for};
+ghost use Rattle.kb_process.specs.Limit.{judged_limit, to_ask_for};
 
 /// What stands in front of the limit.
 const WORDS: &str = "Max open files";
@@ -28,7 +28,7 @@ pub enum OpenFiles {
 
 /// Whether a limit of open files is enough for so many connections.
 pub fn judge(limit: u64, connections: u32) -> OpenFiles
-    ensures { result ≡ judged limit connections }
+    ensures { result ≡ judged_limit limit connections }
 {
     let connections = u64::from(connections);
     if limit < connections + LEAST {

@@ -47,7 +47,7 @@ use Rattle.kb_opening.proofs.Lost.{known_of}
 use Rattle.kb_opening.proofs.Counted.{logs_counted}
 use Rattle.kb_opening.proofs.Named.{Rises, at_place, is_place}
 use Rattle.kb_opening.proofs.Owned.{generation_told, small_in}
-use Rattle.kb_opening.specs.Owners.{place_of, catalog_of, partition_of, strays_of, is_of_catalog, is_of_partition, is_of_one, passes, says}
+use Rattle.kb_opening.specs.Owners.{place_among, catalog_of, partition_of, strays_of, is_of_catalog, is_of_partition, is_of_one, passes, says}
 use Rattle.kb_restart.specs.Again.{AreApart, AreFound, AreStillStrays}
 use Rattle.kb_restart.specs.Restart.{IsOfLater, IsUnknown, owners_of}
 use Rattle.kb_restart.proofs.Headed.{not_both, number_is}
@@ -219,9 +219,9 @@ not_stray files names numbers test weaker file is stray =
 -- ---- names that rise stand once
 
 pub apart_of : (names : List (List ℕ)) → Rises names → AreApart names
-apart_of names rises t u name here there = by (place_of name names) (at t here) (at u there)
+apart_of names rises t u name here there = by (place_among name names) (at t here) (at u there)
   where
-    at : (v : ℕ) → slice_get names v ≡ Some name → is_place v (place_of name names) ≡ true
+    at : (v : ℕ) → slice_get names v ≡ Some name → is_place v (place_among name names) ≡ true
     at v is = at_place names v name name rises is ∙ same_bytes name name refl
 
     by : (o : Option ℕ) → is_place t o ≡ true → is_place u o ≡ true → t ≡ u

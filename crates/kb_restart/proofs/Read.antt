@@ -15,7 +15,7 @@ use Rattle.kb_segment_log.specs.SegmentLog.{segment_log, bytes_at, Clears}
 use Rattle.kb_segment_log.specs.declared.log.SegmentLog.{SegmentLog}
 use Rattle.kb_segment_log.proofs.Opened.{clears_kept, distinct_moved}
 use Rattle.kb_tenant_state.specs.declared.parts.Parts.{Parts}
-use Rattle.kb_tenants.specs.Tenants.{AreSound}
+use Rattle.kb_tenants.specs.Tenants.{AllAreSound}
 use Rattle.kb_topics.specs.Catalog.{known}
 use Rattle.kb_opening.specs.Opened.{Owners, IsInUse}
 use Rattle.kb_opening.specs.Owners.{is_of_catalog, is_of_partition, is_of_one, passes, says, strays_of}
@@ -26,7 +26,7 @@ use Rattle.kb_opening.specs.declared.owner.Owner.{Owner}
 use Rattle.kb_opening.specs.declared.owner.Owner.TheVariants.{Catalog, Partition}
 use Rattle.kb_opening.proofs.Openings.{clears_wider}
 use Rattle.kb_opening.proofs.Unique.{one_generation}
-use Rattle.kb_restart.specs.Restart.{owners_of, names_in, AreOpened, AreOwnedNamed, AreRestored, IsLeft, IsOfFirst, IsOfLog}
+use Rattle.kb_restart.specs.Restart.{owners_of, names_in, AreOpened, AreOwnedNamed, AreRestored, IsOfNoLog, IsOfFirst, IsOfLog}
 use Rattle.kb_opening.proofs.Apart.{listed_at, tenants_apart}
 
 -- ---- what a filter keeps
@@ -118,7 +118,7 @@ module _ (old : Disk) (numbers : List ℕ) (next : ℕ) (there : All (λ n. IsTh
   -- ---- the tenants that were opened from it
 
   module _ (mid : Disk) (ps : List (Parts SegmentLog)) (now : Disk) (last : ℕ) (left : Directory) (kept : Keeps old mid) (restored : AreRestored mid d ps now last left) where
-    pub are_sound : AreSound segment_log ps now.table last
+    pub are_sound : AllAreSound segment_log ps now.table last
     are_sound = record {
       each = λ t p at. (restored.each t p at).sound;
       apart = λ t u p q at here ne file own theirs. tenants_apart d read_once t u file ((restored.each t p at).owned file own) ((restored.each u q here).owned file theirs) ne;
@@ -155,7 +155,7 @@ module _ (old : Disk) (numbers : List ℕ) (next : ℕ) (there : All (λ n. IsTh
           (subst (λ (of : Owners). IsInUse mid.files of (generation_of p) (known p.catalog)) (same_owners names dir t name at) ((restored.each t p here).in_use honest was_own))
 
       -- what is of no log is left
-      pub left_all : names_in ps ≡ names → ((size : ℕ) → AreOwnedNamed names size old.files d) → (file : ℕ) → IsLeft old.files numbers names ps file → Contains (all_files left) file
+      pub left_all : names_in ps ≡ names → ((size : ℕ) → AreOwnedNamed names size old.files d) → (file : ℕ) → IsOfNoLog old.files numbers names ps file → Contains (all_files left) file
       left_all same headed file (inl stray) = Contains-append_right (owned_in left.owned.entries) left.strays.items file (subst (λ ns. Contains ns file) (sym (restored.strays ∙ dir.strays)) stray)
       left_all same headed file (inr (inl none)) =
           listed_at (Partition none.tenant none.instance none.partition) left file

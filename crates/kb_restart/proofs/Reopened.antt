@@ -16,10 +16,10 @@ use Rattle.kb_topics.specs.Known.{Known, partition_at}
 use Rattle.kb_tenant_state.specs.Parts.{world_of}
 use Rattle.kb_tenant_state.specs.declared.parts.Parts.{Parts}
 use Rattle.kb_tenant_api.specs.Hosted.{Kept, TenantState, kept_in, kept_of, names_of, nothing}
-use Rattle.kb_tenants.specs.Tenants.{restored_tenant, Agree}
+use Rattle.kb_tenants.specs.Tenants.{restored_tenant, AllAgree}
 use Rattle.kb_opening.specs.Opened.{IsInUse}
 use Rattle.kb_opening.proofs.Unique.{only_opened}
-use Rattle.kb_restart.specs.Restart.{owners_of, AreOnly, AreOpened, AreReopened, IsLeft, IsOfLog, IsReopened, IsStray, have_nothing_refused, tenants_restored}
+use Rattle.kb_restart.specs.Restart.{owners_of, AreOnly, AreOpened, AreReopened, IsOfNoLog, IsOfLog, IsReopened, IsStray, have_nothing_refused, tenants_restored}
 use Rattle.kb_restart.proofs.Hosting.{zip_at, zip_firsts}
 
 pub item_within : {A : Type 0} (xs : List A) (p : ℕ) → p < length xs → (x : A) × (slice_get xs p ≡ Some x)
@@ -54,13 +54,13 @@ module _ (now : Files) (names : List (List ℕ)) (ps : List (Parts SegmentLog)) 
           subst (λ (k : Kept). IsReopened files numbers name k) (sym (kept_at t name p.0 at p.1)) record { opened = (opened t name p.0 at p.1).opened; groups = refl };
     }
 
-    pub agree_all : AreOpened files numbers names ps now → Agree segment_log ps now
+    pub agree_all : AreOpened files numbers names ps now → AllAgree segment_log ps now
     agree_all opened t p here =
         let lt = slice_get_within ps t p here in
         let name = item_within names t (omega (arith, lt, many)) in
         (opened t name.0 p name.1 here).agrees
 
-    pub is_stray : (file : ℕ) → IsLeft files numbers names ps file → IsStray files numbers names (tenants_restored now names ps) file
+    pub is_stray : (file : ℕ) → IsOfNoLog files numbers names ps file → IsStray files numbers names (tenants_restored now names ps) file
     is_stray file (inl stray) = inl stray
     is_stray file (inr (inr newer)) = inr (inr record {
       tenant = newer.tenant;
@@ -82,7 +82,7 @@ module _ (now : Files) (names : List (List ℕ)) (ps : List (Parts SegmentLog)) 
       unknown = ap (λ (k : Kept). partition_at k.world.known (pos none_has.instance) (pos none_has.partition)) (kept_at none_has.tenant none_has.name none_has.parts none_has.named none_has.at) ∙ none_has.unknown;
     })
 
-    pub is_left : (file : ℕ) → IsStray files numbers names (tenants_restored now names ps) file → IsLeft files numbers names ps file
+    pub is_left : (file : ℕ) → IsStray files numbers names (tenants_restored now names ps) file → IsOfNoLog files numbers names ps file
     is_left file (inl stray) = inl stray
     is_left file (inr (inr later)) =
         let p = parts_at later.tenant later.name later.named in
@@ -142,11 +142,11 @@ module _ (old first now : Disk) (kept : Keeps old first) (numbers : List ℕ) (s
     pub reopened_since : AreOpened first.files numbers names ps now.files → AreReopened old.files (keys old.table) whole ts
     reopened_since opened = moved (λ fs ns us. AreReopened fs ns us ts) was (subst (λ (xs : List TenantState). AreReopened first.files numbers names xs) (sym hosts) (are_reopened now.files names ps many first.files numbers opened))
 
-    pub strays_since : (file : ℕ) → IsLeft first.files numbers names ps file → IsStray old.files (keys old.table) whole ts file
+    pub strays_since : (file : ℕ) → IsOfNoLog first.files numbers names ps file → IsStray old.files (keys old.table) whole ts file
     strays_since file is = moved (λ fs ns us. IsStray fs ns us ts file) was (subst (λ (xs : List TenantState). IsStray first.files numbers names xs file) (sym hosts) (is_stray now.files names ps many first.files numbers file is))
 
     moved_back : (P : Files → List ℕ → List (List ℕ) → Type 0) → P old.files (keys old.table) whole → P first.files numbers names
     moved_back P p = subst (λ fs. P fs numbers names) (sym (kept.files was)) (subst (λ ns. P old.files ns names) (sym same) (subst (λ ns. P old.files (keys old.table) ns) (sym named) p))
 
-    pub left_since : (file : ℕ) → IsStray old.files (keys old.table) whole ts file → IsLeft first.files numbers names ps file
+    pub left_since : (file : ℕ) → IsStray old.files (keys old.table) whole ts file → IsOfNoLog first.files numbers names ps file
     left_since file is = is_left now.files names ps many first.files numbers file (subst (λ (xs : List TenantState). IsStray first.files numbers names xs file) hosts (moved_back (λ fs ns us. IsStray fs ns us ts file) is))

@@ -20,7 +20,7 @@ use Rattle.kb_opening.specs.Tenant.{generation_of, tenant_in}
 use Rattle.kb_opening.specs.declared.directory.Directory.{Directory}
 use Rattle.kb_opening.specs.declared.owner.Owner.{Owner}
 use Rattle.kb_opening.specs.declared.owner.Owner.TheVariants.{Catalog, Partition}
-use Rattle.kb_restart.specs.Restart.{owners_of, AreRestored, IsLeft}
+use Rattle.kb_restart.specs.Restart.{owners_of, AreRestored, IsOfNoLog}
 use Rattle.kb_restart.proofs.Read.{in_filter, both_true}
 use Rattle.kb_restart.proofs.Reopened.{item_within}
 
@@ -86,7 +86,7 @@ module _ (files : Files) (names : List (List ℕ)) (numbers : List ℕ) (d : Dir
       (listed : (file : ℕ) → Contains (all_files d) file → Contains numbers file)
       (used : (t : ℕ) (name : List ℕ) (p : Parts SegmentLog) → slice_get names t ≡ Some name → slice_get ps t ≡ Some p → IsInUse files (owners_of files numbers name) (generation_of p) (known p.catalog)) where
     -- it was not taken out, so its topics have no such partition, or its catalog is of an earlier generation
-    left_of : (file : ℕ) → Contains (all_files left) file → (o : Owner) → tenant_in o < length names → Contains (files_at o d) file → IsLeft files numbers names ps file
+    left_of : (file : ℕ) → Contains (all_files left) file → (o : Owner) → tenant_in o < length names → Contains (files_at o d) file → IsOfNoLog files numbers names ps file
     left_of file is (Catalog t g) lt has =
         let p = item_within ps t (omega (arith, lt, many)) in
         let name = item_within names t lt in
@@ -108,7 +108,7 @@ module _ (files : Files) (names : List (List ℕ)) (numbers : List ℕ) (d : Dir
     left_of file is (Partition t i n) lt has =
         let p = item_within ps t (omega (arith, lt, many)) in
         let name = item_within names t lt in
-        elim (partition_at (known p.0.catalog) (pos i) (pos n)) as (λ o. partition_at (known p.0.catalog) (pos i) (pos n) ≡ o → IsLeft files numbers names ps file) [
+        elim (partition_at (known p.0.catalog) (pos i) (pos n)) as (λ o. partition_at (known p.0.catalog) (pos i) (pos n) ≡ o → IsOfNoLog files numbers names ps file) [
           | None ↦ λ e. inr (inl record {
             tenant = t;
             name = name.0;
@@ -123,12 +123,12 @@ module _ (files : Files) (names : List (List ℕ)) (numbers : List ℕ) (d : Dir
           | Some x ↦ λ e. absurd ((restored.each t p.0 p.1).gone (Partition t i n) (refl, subst (λ o. IsSome o) (sym e) refl) file has is)
         ] refl
 
-    by_header : (file : ℕ) → Contains (all_files left) file → Contains numbers file → (found : Option Header) → header_in (bytes_at files file) ≡ found → IsLeft files numbers names ps file
+    by_header : (file : ℕ) → Contains (all_files left) file → Contains numbers file → (found : Option Header) → header_in (bytes_at files file) ≡ found → IsOfNoLog files numbers names ps file
     by_header file is among None e = inl (in_filter (λ n. not (says files (is_of_one names) n)) numbers file among (ap (λ o. not (passes (is_of_one names) o)) e))
-    by_header file is among (Some h) e = elim (is_of_one names h) as (λ b. is_of_one names h ≡ b → IsLeft files numbers names ps file) [
+    by_header file is among (Some h) e = elim (is_of_one names h) as (λ b. is_of_one names h ≡ b → IsOfNoLog files numbers names ps file) [
       | true ↦ λ one. let s = stands file h e among one in left_of file is s.0 s.1 s.2
       | false ↦ λ none. inl (in_filter (λ n. not (says files (is_of_one names) n)) numbers file among (ap (λ o. not (passes (is_of_one names) o)) e ∙ ap not none))
     ] refl
 
-    pub only_left : (file : ℕ) → Contains (all_files left) file → IsLeft files numbers names ps file
+    pub only_left : (file : ℕ) → Contains (all_files left) file → IsOfNoLog files numbers names ps file
     only_left file is = by_header file is (listed file (restored.fewer file is)) (header_in (bytes_at files file)) refl

@@ -21,8 +21,8 @@ abbrev pub lengths_of : Disk → List FileLength
 lengths_of d = listed_in d.table
 
 -- how many files are some, and how many bytes they have together
-abbrev pub total_of : List FileLength → FileTotal
-total_of files = record { files = length files; bytes = told (sum_by (λ f. f.length) files) }
+abbrev pub file_total_of : List FileLength → FileTotal
+file_total_of files = record { files = length files; bytes = told (sum_by (λ f. f.length) files) }
 
 -- the same of all files of a table
 abbrev pub total_in : Table → FileTotal

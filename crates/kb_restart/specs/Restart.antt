@@ -195,8 +195,8 @@ pub record IsOfNewer (files : Files) (numbers : List ℕ) (names : List (List �
   pub has : Contains (catalog_of files name later numbers) file
 
 -- it is of no log
-abbrev pub IsLeft : Files → List ℕ → List (List ℕ) → List (Parts SegmentLog) → ℕ → Type 0
-IsLeft files numbers names tenants file =
+abbrev pub IsOfNoLog : Files → List ℕ → List (List ℕ) → List (Parts SegmentLog) → ℕ → Type 0
+IsOfNoLog files numbers names tenants file =
     Contains (strays_of files names numbers) file ⊎ IsOfNone files numbers names tenants file ⊎ IsOfNewer files numbers names tenants file
 
 -- tenants of those names and parts, where the files are those

@@ -1,7 +1,7 @@
 //! How long the files of a store are, and what was dropped of them from one moment to another.
 ghost use Rattle.std.specs.Prelude.{◌≡◌, IfOk};
 ghost use Rattle.kb_store.specs.Disk.{HasCause, Keeps, Table};
-ghost use Rattle.kb_restart.specs.Lengths.{AreRising, drop_of, drops, from_file, length_at, lengths_of, listed_in, total_in, total_of};
+ghost use Rattle.kb_restart.specs.Lengths.{AreRising, drop_of, drops, from_file, length_at, lengths_of, listed_in, total_in, file_total_of};
 
 use kb_store::{Store, StoreFault};
 use std::alloc::{AllocError, Global};
@@ -23,7 +23,7 @@ pub struct FileTotal {
 impl FileTotal {
     /// What some files come to. Where they are all files of a store, as [`file_lengths`] gives them, it is what the store has.
     pub fn of(files: &[FileLength]) -> FileTotal
-        ensures files { result ≡ total_of files.now }
+        ensures files { result ≡ file_total_of files.now }
         ensures store { (table : Table) → files.now ≡ listed_in table → result ≡ total_in table }
     {
         let mut bytes: u64 = 0;

@@ -24,12 +24,12 @@ abbrev pub ten_minutes : ℕ
 ten_minutes = 600000000
 
 -- a time, or the last one that can be kept where it is later
-abbrev pub kept : ℕ → ℕ
-kept time = min time (2 ^ 64 - 1)
+abbrev pub capped_time : ℕ → ℕ
+capped_time time = min time (2 ^ 64 - 1)
 
 -- the time that the wall clock shows
 abbrev pub wall_time : Reading → ℕ
-wall_time reading = kept (reading.wall * 2)
+wall_time reading = capped_time (reading.wall * 2)
 
 -- the steady clock, which never goes back, and how many microseconds it went on
 abbrev pub steady_after : GuardedClock → Reading → ℕ
@@ -40,11 +40,11 @@ elapsed clock reading = reading.steady - clock.steady
 
 -- the time that is expected: as much later as the steady clock went on
 abbrev pub expected : GuardedClock → Reading → ℕ
-expected clock reading = kept (clock.time + elapsed clock reading * 2)
+expected clock reading = capped_time (clock.time + elapsed clock reading * 2)
 
 -- the time at half of that pace
 abbrev pub at_half_pace : GuardedClock → Reading → ℕ
-at_half_pace clock reading = kept (clock.time + elapsed clock reading)
+at_half_pace clock reading = capped_time (clock.time + elapsed clock reading)
 
 -- the wall clock is more than a minute ahead of the time that is expected
 abbrev pub is_ahead : GuardedClock → Reading → Bool
@@ -73,8 +73,8 @@ notice None ahead held = if held then Some Ahead else None
 notice (Some s) ahead held = if held then None else (if ahead then Some Taken else Some Back)
 
 -- the clock, started where the wall clock is
-abbrev pub started : Reading → GuardedClock
-started reading = record { time = wall_time reading; steady = reading.steady; ahead_since = None }
+abbrev pub started_clock : Reading → GuardedClock
+started_clock reading = record { time = wall_time reading; steady = reading.steady; ahead_since = None }
 
 -- the clock after a reading, and what is told of it
 abbrev pub clock_after : GuardedClock → Reading → GuardedClock

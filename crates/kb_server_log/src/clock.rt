@@ -1,28 +1,27 @@
 //! The clock.
 
-ghost use Rattle.std.specs.Prelude.{◌≡◌, ◌≤◌, ◌/◌, ◌^◌, min};
+ghost use Rattle.std.specs.Prelude.{◌≡◌, ◌≤◌, ◌/◌, min};
+ghost use Rattle.kb_wire.specs.declared.clock.TheConstants.{MAX_CLOCK};
 ghost use Rattle.std.specs.Duration.{as_nanos};
 ghost use Rattle.std.specs.Time.{system_time_nanos};
 
 use jiff::Timestamp;
+use kb_wire::MAX_CLOCK;
 use std::alloc::{AllocError, Global};
 use std::time::{Clock, Duration, SystemTime};
 
-/// The last moment, in milliseconds.
-const LAST_MOMENT: u64 = 4_611_686_018_427_387_904;
-
 /// The moment so long after the beginning of 1970: in whole milliseconds, and at most 2^62.
 fn moment_of(since: Duration) -> u64
-    ensures { result ≡ min (as_nanos since / 1000000) (2 ^ 62) }
+    ensures { result ≡ min (as_nanos since / 1000000) MAX_CLOCK }
 {
     u64::try_from(since.as_millis())
-        .unwrap_or(LAST_MOMENT)
-        .min(LAST_MOMENT)
+        .unwrap_or(MAX_CLOCK)
+        .min(MAX_CLOCK)
 }
 
 /// A time as a moment: milliseconds since the beginning of 1970, at most 2^62.
 pub fn moment_at(time: SystemTime) -> u64
-    ensures { result ≡ min (system_time_nanos time / 1000000) (2 ^ 62) }
+    ensures { result ≡ min (system_time_nanos time / 1000000) MAX_CLOCK }
 {
     match time.duration_since(SystemTime::UNIX_EPOCH) {
         Ok(since) => moment_of(since),
@@ -34,7 +33,7 @@ pub fn moment_at(time: SystemTime) -> u64
 /// The moment that the wall clock shows: milliseconds since the beginning of 1970, at most 2^62. It is 0 where the clock cannot be
 /// read, or is set to a time before.
 pub fn now(clock: &impl Clock) -> u64
-    ensures { result ≤ 2 ^ 62 }
+    ensures { result ≤ MAX_CLOCK }
 {
     SystemTime::now(clock).map_or(0, moment_at)
 }

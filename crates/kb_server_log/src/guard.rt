@@ -1,9 +1,10 @@
 //! A clock that follows the wall clock, but not each of its jumps.
 
-ghost use Rattle.std.specs.Prelude.{◌≡◌, ◌≤◌, ◌<◌, ◌+◌, ◌-◌, ◌/◌, ◌^◌, option_map};
+ghost use Rattle.std.specs.Prelude.{◌≡◌, ◌≤◌, ◌<◌, ◌+◌, ◌-◌, ◌/◌, option_map};
+ghost use Rattle.kb_wire.specs.declared.clock.TheConstants.{MAX_CLOCK};
 ghost use Rattle.std.specs.Duration.{as_nanos};
 ghost use Rattle.kb_server_log.specs.Guard.{reading_of, micros_of};
-ghost use Rattle.kb_server_log.specs.Guard.{started, clock_after, told, notice, at_half_pace, expected, since, steady_after};
+ghost use Rattle.kb_server_log.specs.Guard.{started_clock, clock_after, told, notice, at_half_pace, expected, since, steady_after};
 ghost use Rattle.kb_server_log.specs.Guard.{a_minute, ten_minutes};
 
 use std::time::{Clock, Duration};
@@ -77,7 +78,7 @@ impl Reading {
 impl GuardedClock {
     /// A clock that starts where the wall clock is.
     pub fn starting(reading: Reading) -> GuardedClock
-        ensures { result ≡ started reading }
+        ensures { result ≡ started_clock reading }
     {
         GuardedClock {
             time: reading.wall.saturating_mul(2),
@@ -91,7 +92,7 @@ impl GuardedClock {
         ensures clock { self.new ≡ clock_after self.old reading }
         ensures moment { result.moment ≡ self.new.time / 2000 }
         ensures told { result.told ≡ told self.old reading }
-        ensures bounded { result.moment ≤ 2 ^ 62 }
+        ensures bounded { result.moment ≤ MAX_CLOCK }
         ensures never_back { self.old.time ≤ self.new.time }
         ensures at_half_pace { at_half_pace self.old reading ≤ self.new.time }
         ensures no_jump { steady_after self.old reading - since self.old reading < ten_minutes → self.new.time ≤ expected self.old reading + a_minute }

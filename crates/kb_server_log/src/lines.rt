@@ -1,7 +1,7 @@
 //! Lines for a reader that may not read them.
 
 ghost use Rattle.std.specs.Prelude.{◌≡◌, ℕ, Bool, List};
-ghost use Rattle.kb_server_log.specs.Lines.{CatchesUp, Tells, one_more};
+ghost use Rattle.kb_server_log.specs.Lines.{CatchesUp, TellsLine, one_more_missed};
 
 /// Where lines go, if it takes them at once.
 pub trait Sink {
@@ -30,7 +30,7 @@ pub struct Missed {
 impl Missed {
     /// Tells a line. Behind lines that were missed, their count is told first. What is not taken is missed too.
     pub fn tell<S: Sink>(&mut self, sink: &mut S, line: &str)
-        ensures { Tells S.offers_count S.offers_line line.now self.old.lines sink.old self.new.lines sink.new }
+        ensures { TellsLine S.offers_count S.offers_line line.now self.old.lines sink.old self.new.lines sink.new }
     {
         let is_taken = self.catch_up(sink) && sink.offer_line(line);
         if !is_taken {
@@ -40,7 +40,7 @@ impl Missed {
 
     /// A line is missed that was not offered.
     pub fn miss(&mut self)
-        ensures { self.new.lines ≡ one_more self.old.lines }
+        ensures { self.new.lines ≡ one_more_missed self.old.lines }
     {
         self.lines = self.lines.saturating_add(1);
     }

@@ -16,7 +16,7 @@ use Rattle.std.specs.FinMap.{slice_cmp-IsAntisymmetric, nat_cmp-IsAntisymmetric}
 use Rattle.std.proofs.lemmas.List.Sorted.{list_any-IsPermutation, searchable_from_sorted}
 use Rattle.std.proofs.lemmas.List.Kept.{IsStrictlySortedBy-dedup}
 use Rattle.std.proofs.lemmas.Map.Views.{list_any-from_Contains, Contains-from_any}
-use Rattle.kb_settings.specs.Names.{byte_order, by_order, with_name, in_order, place_of}
+use Rattle.kb_settings.specs.Names.{byte_order, by_order, with_name, in_order, place_of_name}
 use Rattle.kb_settings.specs.Settings.{are_different}
 
 -- 1. Two names
@@ -192,18 +192,18 @@ sorted-in_order {X} f given sorted kept moved up is =
 
 -- 7. The place of a name
 
-pub place-at : (ns : List (List ℕ)) (i : ℕ) (d : List ℕ) → Rises ns → i < length ns → place_of (get_or ns i d) ns ≡ i
+pub place-at : (ns : List (List ℕ)) (i : ℕ) (d : List ℕ) → Rises ns → i < length ns → place_of_name (get_or ns i d) ns ≡ i
 unfolding IsStrictlySortedBy
 place-at [] i d rises lt = absurd (omega arith)
-place-at (n ∷ ns) zero d rises lt = ap (λ b. cond b 0 (1 + place_of n ns)) (nat_list_eq_equiv.refl n)
+place-at (n ∷ ns) zero d rises lt = ap (λ b. cond b 0 (1 + place_of_name n ns)) (nat_list_eq_equiv.refl n)
 place-at (n ∷ ns) (suc j) d rises lt =
     let below : byte_order n (get_or ns j d) ≡ Less = Less-from_sorted byte_order (n ∷ ns) 0 (suc j) d rises (omega arith) lt in
-    let after : place_of (get_or ns j d) ns ≡ j = place-at ns j d rises.1 (omega arith) in
-    ap (λ b. cond b 0 (1 + place_of (get_or ns j d) ns)) (apart n (get_or ns j d) below) ∙ omega (arith, after)
+    let after : place_of_name (get_or ns j d) ns ≡ j = place-at ns j d rises.1 (omega arith) in
+    ap (λ b. cond b 0 (1 + place_of_name (get_or ns j d) ns)) (apart n (get_or ns j d) below) ∙ omega (arith, after)
 
 -- the place of a name that is there is a place of the list
-pub place-below : (ns : List (List ℕ)) (n : List ℕ) → Rises ns → Contains ns n → place_of n ns < length ns
-place-below ns n rises (k, lt, is) = subst (λ (m : ℕ). m < length ns) (sym (ap (λ q. place_of q ns) (sym is) ∙ place-at ns k n rises lt)) lt
+pub place-below : (ns : List (List ℕ)) (n : List ℕ) → Rises ns → Contains ns n → place_of_name n ns < length ns
+place-below ns n rises (k, lt, is) = subst (λ (m : ℕ). m < length ns) (sym (ap (λ q. place_of_name q ns) (sym is) ∙ place-at ns k n rises lt)) lt
 
 searchable : {X : Type 0} (f : X → List ℕ) (xs : List X) → Rises (map f xs) → IsSortedBy (λ x y. is_lt (byte_order (f x) (f y))) xs
 searchable f xs rises k d _ lt =
@@ -221,13 +221,13 @@ nor-equal : {A : Type 0} {o : Ordering} → o ≡ Equal → o ≡ Greater → A
 nor-equal p q = absurd (cc)
 
 -- what a search answers for a name that is there
-pub searched-place : {X : Type 0} (f : X → List ℕ) (xs : List X) (n : List ℕ) (r : Result ℕ ℕ) → IsBinarySearchResult (λ x. byte_order (f x) n) xs r → IsSearchInRange r (length xs) → Rises (map f xs) → Contains (map f xs) n → MatchResult r (λ i. i ≡ place_of n (map f xs)) (λ i. i ≡ place_of n (map f xs))
+pub searched-place : {X : Type 0} (f : X → List ℕ) (xs : List X) (n : List ℕ) (r : Result ℕ ℕ) → IsBinarySearchResult (λ x. byte_order (f x) n) xs r → IsSearchInRange r (length xs) → Rises (map f xs) → Contains (map f xs) n → MatchResult r (λ i. i ≡ place_of_name n (map f xs)) (λ i. i ≡ place_of_name n (map f xs))
 searched-place f [] n r found within rises (k, lt, is) = absurd (omega arith)
 searched-place f (x ∷ xs) n (Ok i) found within rises (k, lt, is) =
     let here : get_or (map f (x ∷ xs)) i (f x) ≡ f (get_or (x ∷ xs) i x) = get_or-map f (x ∷ xs) i x in
     let len : length (map f (x ∷ xs)) ≡ length (x ∷ xs) = length-map (x ∷ xs) f in
     let name : get_or (map f (x ∷ xs)) i (f x) ≡ n = here ∙ tied _ _ (found x) in
-    sym (ap (λ q. place_of q (map f (x ∷ xs))) (sym name) ∙ place-at (map f (x ∷ xs)) i (f x) rises (omega arith))
+    sym (ap (λ q. place_of_name q (map f (x ∷ xs))) (sym name) ∙ place-at (map f (x ∷ xs)) i (f x) rises (omega arith))
 searched-place f (x ∷ xs) n (Err i) found within rises (k, lt, is) =
     let parted = found (searchable_from_sorted nat_list_cmp_total f (x ∷ xs) n (searchable f (x ∷ xs) rises)) in
     let len : length (map f (x ∷ xs)) ≡ length (x ∷ xs) = length-map (x ∷ xs) f in
@@ -243,13 +243,13 @@ pub searched-either : (r : Result ℕ ℕ) (i v : ℕ) (Q : ℕ → Type 0) → 
 searched-either (Ok x) i v Q gives is place = is ∙ place
 searched-either (Err e) i v Q gives is place = gives e is ∙ place
 
-pub place-in_order : (ns : List (List ℕ)) (n : List ℕ) → Contains ns n → place_of n (in_order ns) < length (in_order ns)
+pub place-in_order : (ns : List (List ℕ)) (n : List ℕ) → Contains ns n → place_of_name n (in_order ns) < length (in_order ns)
 place-in_order ns n h = place-below (in_order ns) n (rises-in_order ns) (in-in_order ns n h)
 
-at-place : (ns : List (List ℕ)) (n d : List ℕ) → Rises ns → Contains ns n → get_or ns (place_of n ns) d ≡ n
-at-place ns n d rises (k, lt, is) = ap (λ i. get_or ns i d) (ap (λ q. place_of q ns) (sym is) ∙ place-at ns k n rises lt) ∙ get_or_default ns k d n lt ∙ is
+at-place : (ns : List (List ℕ)) (n d : List ℕ) → Rises ns → Contains ns n → get_or ns (place_of_name n ns) d ≡ n
+at-place ns n d rises (k, lt, is) = ap (λ i. get_or ns i d) (ap (λ q. place_of_name q ns) (sym is) ∙ place-at ns k n rises lt) ∙ get_or_default ns k d n lt ∙ is
 
-pub in_order-at-place : (ns : List (List ℕ)) (n d : List ℕ) → Contains ns n → get_or (in_order ns) (place_of n (in_order ns)) d ≡ n
+pub in_order-at-place : (ns : List (List ℕ)) (n d : List ℕ) → Contains ns n → get_or (in_order ns) (place_of_name n (in_order ns)) d ≡ n
 in_order-at-place ns n d h = at-place (in_order ns) n d (rises-in_order ns) (in-in_order ns n h)
 
 same-test : (a b : Bool) → (a ≡ true → b ≡ true) → (b ≡ true → a ≡ true) → a ≡ b

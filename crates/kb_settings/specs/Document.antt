@@ -19,11 +19,11 @@ use Rattle.kb_settings.specs.declared.sync.Sync.TheVariants.{Always, Interval, N
 -- 1. What a value says: nothing where it is wrong
 
 -- a text that fits
-abbrev pub fitting : (List ℕ → Bool) → List ℕ → Option (List ℕ)
-fitting fits text = if fits text then Some text else None
+abbrev pub if_fits : (List ℕ → Bool) → List ℕ → Option (List ℕ)
+if_fits fits text = if fits text then Some text else None
 
 abbrev pub text_in : (List ℕ → Bool) → Data → Option (List ℕ)
-text_in fits value = option_and_then (fitting fits) (as_str value)
+text_in fits value = option_and_then (if_fits fits) (as_str value)
 
 -- a number, both limits included
 abbrev pub number_in : ℕ → ℕ → Data → Option ℕ
@@ -40,7 +40,7 @@ folder_in value = option_map Some (as_str value)
 
 -- a host, with or without brackets
 abbrev pub host_in : Bool → Data → Option (List ℕ)
-host_in told value = option_and_then (λ text. fitting (is_listened told) (bare text)) (as_str value)
+host_in told value = option_and_then (λ text. if_fits (is_listened told) (bare text)) (as_str value)
 
 -- `HOST:PORT`
 abbrev pub advertise_in : Data → Option (Option (List ℕ × ℕ))

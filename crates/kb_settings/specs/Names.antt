@@ -27,6 +27,6 @@ in_order [] = []
 in_order (name ∷ names) = with_name name (in_order names)
 
 -- where a name stands first
-abbrev pub place_of : List ℕ → List (List ℕ) → ℕ
-place_of name [] = 0
-place_of name (n ∷ names) = if bytes_eq n name then 0 else 1 + place_of name names
+abbrev pub place_of_name : List ℕ → List (List ℕ) → ℕ
+place_of_name name [] = 0
+place_of_name name (n ∷ names) = if bytes_eq n name then 0 else 1 + place_of_name name names

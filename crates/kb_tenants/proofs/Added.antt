@@ -13,7 +13,7 @@ use Rattle.kb_tenant_state.specs.Parts.{Agrees, IsSound, Owns, entries, meta, wo
 use Rattle.kb_tenant_state.specs.World.{World, new_world}
 use Rattle.kb_tenant_state.specs.declared.parts.Parts.{Parts}
 use Rattle.kb_tenant_api.specs.Hosted.{TenantState, kept_in, new_tenant}
-use Rattle.kb_tenants.specs.Tenants.{AreKept, AreSettled, AreSound, Agree, HaveNothingRefused, IsApart, IsIdleUntil, IsLeftAlone, hosted, shelf_is_honest, parts_of, restored_tenant, state_of, strays_of}
+use Rattle.kb_tenants.specs.Tenants.{AreKept, AreSettled, AllAreSound, AllAgree, HaveNothingRefused, IsApart, IsIdleUntil, IsLeftAlone, hosted, shelf_is_honest, parts_of, restored_tenant, state_of, strays_of}
 use Rattle.kb_tenants.specs.declared.tenants.Tenant.{Tenant}
 use Rattle.kb_tenants.specs.declared.tenants.Tenants.{Tenants}
 use Rattle.kb_tenants.proofs.Idle.{idle_added}
@@ -49,7 +49,7 @@ abbrev pub IsExact : {L : Type 0} → (L → Log) → Parts L → Table → Type
 IsExact log p table = (meta log p).exact table × AreExact log (entries p) table
 
 module _ {L : Type 0} (log : L → Log) (ps : List (Parts L)) (p : Parts L) where
-  sound_pushed : (table : Table) (next : ℕ) → AreSound log ps table next → IsSound log p table next → IsApart log ps p → AreSound log (ps ++ p ∷ []) table next
+  sound_pushed : (table : Table) (next : ℕ) → AllAreSound log ps table next → IsSound log p table next → IsApart log ps p → AllAreSound log (ps ++ p ∷ []) table next
   sound_pushed table next sound one alone =
       let last : (q : Parts L) → q ≡ p → (file : ℕ) → Owns log q file → Owns log p file = λ q same file own. subst (λ (v : Parts L). Owns log v file) same own in
       record {
@@ -69,7 +69,7 @@ module _ {L : Type 0} (log : L → Log) (ps : List (Parts L)) (p : Parts L) wher
             (pushed_place ps p u q here);
       }
 
-  agree_pushed : (files : Files) → Agree log ps files → Agrees log p files → Agree log (ps ++ p ∷ []) files
+  agree_pushed : (files : Files) → AllAgree log ps files → Agrees log p files → AllAgree log (ps ++ p ∷ []) files
   agree_pushed files agree one u q at = ⊎_elim
       (λ old. agree u q old)
       (λ new. subst (λ (v : Parts L). Agrees log v files) (sym new.0) one)
@@ -109,8 +109,8 @@ module _ {L S : Type 0} (log : L → Log) (disk : S → Disk) (old new : Tenants
 
   pub kept_left : AreKept log disk old → AreKept log disk new
   kept_left kept = record {
-    sound = subst (λ (s : Shelved S). AreSound log (parts_of new.tenants.items) (disk s.store).table s.next) (sym same)
-        (subst (λ (xs : List (Tenant L)). AreSound log (parts_of xs) (disk old.shelf.store).table old.shelf.next) (sym left) kept.sound);
+    sound = subst (λ (s : Shelved S). AllAreSound log (parts_of new.tenants.items) (disk s.store).table s.next) (sym same)
+        (subst (λ (xs : List (Tenant L)). AllAreSound log (parts_of xs) (disk old.shelf.store).table old.shelf.next) (sym left) kept.sound);
     named = subst (λ (xs : List (Tenant L)). (t : ℕ) (x : Tenant L) → slice_get xs t ≡ Some x → string_bytes x.parts.tenant ≡ string_bytes x.name) (sym left) kept.named;
     apart = subst (λ (o : Option (Vec ℕ Global)). (file : ℕ) → Contains (strays_of o) file → IsLeftAlone log (parts_of new.tenants.items) new.shelf.next file) (sym strays)
         (subst (λ (s : Shelved S). (file : ℕ) → Contains (strays_of old.strays) file → IsLeftAlone log (parts_of new.tenants.items) s.next file) (sym same)
@@ -118,8 +118,8 @@ module _ {L S : Type 0} (log : L → Log) (disk : S → Disk) (old new : Tenants
     settled = subst (λ (o : Option (Vec ℕ Global)). IsSome o → HaveNothingRefused (parts_of new.tenants.items) → AreSettled log (parts_of new.tenants.items) (strays_of o) (disk new.shelf.store)) (sym strays)
         (subst (λ (s : Shelved S). IsSome old.strays → HaveNothingRefused (parts_of new.tenants.items) → AreSettled log (parts_of new.tenants.items) (strays_of old.strays) (disk s.store)) (sym same)
         (subst (λ (xs : List (Tenant L)). IsSome old.strays → HaveNothingRefused (parts_of xs) → AreSettled log (parts_of xs) (strays_of old.strays) (disk old.shelf.store)) (sym left) kept.settled));
-    agree = λ honest. subst (λ (s : Shelved S). Agree log (parts_of new.tenants.items) (disk s.store).files) (sym same)
-        (subst (λ (xs : List (Tenant L)). Agree log (parts_of xs) (disk old.shelf.store).files) (sym left) (kept.agree (subst (λ (s : Shelved S). (disk s.store).honest) same honest)));
+    agree = λ honest. subst (λ (s : Shelved S). AllAgree log (parts_of new.tenants.items) (disk s.store).files) (sym same)
+        (subst (λ (xs : List (Tenant L)). AllAgree log (parts_of xs) (disk old.shelf.store).files) (sym left) (kept.agree (subst (λ (s : Shelved S). (disk s.store).honest) same honest)));
     until = λ honest. subst (λ z. IsIdleUntil z (hosted log disk new)) (sym until)
         (subst (IsIdleUntil old.next_retention_time) (sym hosted_left) (kept.until (subst (λ (s : Shelved S). (disk s.store).honest) same honest)));
   }
@@ -148,8 +148,8 @@ module _ {L S : Type 0} (log : L → Log) (disk : S → Disk) (old new : Tenants
   kept_pushed sound alone own free exact agrees idle kept =
       let before : shelf_is_honest disk new → shelf_is_honest disk old = subst (λ (s : Shelved S). (disk s.store).honest) same in
       record {
-        sound = subst (λ (s : Shelved S). AreSound log (parts_of new.tenants.items) (disk s.store).table s.next) (sym same)
-            (subst (λ ps. AreSound log ps (disk old.shelf.store).table old.shelf.next) (sym parts_pushed)
+        sound = subst (λ (s : Shelved S). AllAreSound log (parts_of new.tenants.items) (disk s.store).table s.next) (sym same)
+            (subst (λ ps. AllAreSound log ps (disk old.shelf.store).table old.shelf.next) (sym parts_pushed)
             (sound_pushed log (parts_of old.tenants.items) x.parts (disk old.shelf.store).table old.shelf.next kept.sound sound alone));
         named = λ u y at. ⊎_elim
             (λ there. kept.named u y there)
@@ -163,8 +163,8 @@ module _ {L S : Type 0} (log : L → Log) (disk : S → Disk) (old new : Tenants
             (subst (λ (s : Shelved S). IsSome old.strays → HaveNothingRefused (parts_of new.tenants.items) → AreSettled log (parts_of new.tenants.items) (strays_of old.strays) (disk s.store)) (sym same)
             (subst (λ ps. IsSome old.strays → HaveNothingRefused ps → AreSettled log ps (strays_of old.strays) (disk old.shelf.store)) (sym parts_pushed)
             (λ known none. settled_pushed log (parts_of old.tenants.items) x.parts (disk old.shelf.store) (strays_of old.strays) (exact known) (kept.settled known (nothing_pushed log (parts_of old.tenants.items) x.parts none)))));
-        agree = λ honest. subst (λ (s : Shelved S). Agree log (parts_of new.tenants.items) (disk s.store).files) (sym same)
-            (subst (λ ps. Agree log ps (disk old.shelf.store).files) (sym parts_pushed)
+        agree = λ honest. subst (λ (s : Shelved S). AllAgree log (parts_of new.tenants.items) (disk s.store).files) (sym same)
+            (subst (λ ps. AllAgree log ps (disk old.shelf.store).files) (sym parts_pushed)
             (agree_pushed log (parts_of old.tenants.items) x.parts (disk old.shelf.store).files (kept.agree (before honest)) (agrees (before honest))));
         until = λ honest. idle (before honest);
       }

@@ -4,14 +4,14 @@ use Rattle.kb_tenant_state.specs.World.{World}
 use Rattle.kb_tenant.specs.Told.{AnswersLook}
 use Rattle.kb_tenant.specs.declared.answer.Answer.{Answer}
 use Rattle.kb_tenant.specs.declared.answer.Answer.TheVariants as answers
-use Rattle.kb_tenants.specs.Tenants.{ended}
+use Rattle.kb_tenants.specs.Tenants.{reply_or_shut}
 
 -- its answer tells what was told before it was ended
-pub ended_told : (failed : Type 0) (id version : ℤ) (limit : Option ℕ) (w : World) (clock deadline : ℕ) (body : List ℕ) (a b : Answer) → b ≡ ended a
+pub ended_told : (failed : Type 0) (id version : ℤ) (limit : Option ℕ) (w : World) (clock deadline : ℕ) (body : List ℕ) (a b : Answer) → b ≡ reply_or_shut a
     → AnswersLook failed id version limit w clock deadline body a → AnswersLook failed id version limit w clock deadline body b
 ended_told failed id version limit w clock deadline body a b is told = subst (AnswersLook failed id version limit w clock deadline body) (sym is) (by a told)
   where
-    by : (x : Answer) → AnswersLook failed id version limit w clock deadline body x → AnswersLook failed id version limit w clock deadline body (ended x)
+    by : (x : Answer) → AnswersLook failed id version limit w clock deadline body x → AnswersLook failed id version limit w clock deadline body (reply_or_shut x)
     by (answers.Reply bytes) h = h
     by (answers.Wait until kept keys) h = λ q read. absurd (h q read)
     by answers.NoReply h = λ q read. tt

@@ -19,7 +19,7 @@ use Rattle.kb_tenant_state.specs.Steps.{Meets}
 use Rattle.kb_tenant_state.specs.World.{World}
 use Rattle.kb_tenant_state.specs.declared.parts.Parts.{Parts}
 use Rattle.kb_tenant_state.proofs.Spared as spared
-use Rattle.kb_tenants.specs.Tenants.{AreSettled, AreSound, HaveNothingRefused, IsLeftAlone}
+use Rattle.kb_tenants.specs.Tenants.{AreSettled, AllAreSound, HaveNothingRefused, IsLeftAlone}
 use Rattle.kb_tenants.specs.Turns.{IsShelfTurn, IsShelfMet}
 use Rattle.kb_tenants.proofs.Change.{IsChange}
 use Rattle.kb_tenant.proofs.LogMoves.{same_or_not}
@@ -115,7 +115,7 @@ given log law q d next file sound own = ⊎_elim
     own
 
 module _ {L : Type 0} (log : L → Log) (law : (l : L) → IsLawfulLog (log l)) (ps : List (Parts L)) (t : ℕ) (p p' : Parts L) (d e : Disk) (next last : ℕ)
-    (at : slice_get ps t ≡ Some p) (sound : AreSound log ps d.table next) (step : IsChange (parts.scene_on log p d next) (parts.scene_on log p' e last)) where
+    (at : slice_get ps t ≡ Some p) (sound : AllAreSound log ps d.table next) (step : IsChange (parts.scene_on log p d next) (parts.scene_on log p' e last)) where
   -- the files of another tenant are not those of the one that is served
   lengths : (u : ℕ) (q : Parts L) → slice_get ps u ≡ Some q → (u ≡ t → ⊥) → (file : ℕ) → file < next → Owns log q file → get e.table file ≡ get d.table file
   lengths u q here ne file lt own = step.frame.others.lengths file lt (λ mine. sound.apart u t q p here at ne file own mine)

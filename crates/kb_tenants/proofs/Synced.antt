@@ -10,7 +10,7 @@ use Rattle.std.specs.FinMap.{get}
 use Rattle.kb_tenant_state.specs.Partitions.{AreExact}
 use Rattle.kb_tenant_state.specs.declared.parts.Parts.{Parts}
 use Rattle.kb_tenants.specs.declared.tenants.Tenants.{Tenants}
-use Rattle.kb_tenants.specs.Tenants.{AreKept, AreSettled, AreSound, Agree, HaveNothingRefused, IsIdleUntil, IsLeftAlone, hosted, parts_of, state_of, strays_of}
+use Rattle.kb_tenants.specs.Tenants.{AreKept, AreSettled, AllAreSound, AllAgree, HaveNothingRefused, IsIdleUntil, IsLeftAlone, hosted, parts_of, state_of, strays_of}
 
 settled_synced : {L : Type 0} (log : L → Log) (ps : List (Parts L)) (strays : List ℕ) (old new : Disk) → new.table ≡ old.table
     → AreSettled log ps strays old → AreSettled log ps strays new
@@ -30,12 +30,12 @@ module _ {L S : Type 0} (log : L → Log) (disk : S → Disk) (old : Tenants L S
 
   pub kept_synced : AreKept log disk old → AreKept log disk (record old { shelf = shelf })
   kept_synced kept = record {
-    sound = subst (λ (t : Table). AreSound log (parts_of old.tenants.items) t shelf.next) (sym keeps.table)
-        (subst (AreSound log (parts_of old.tenants.items) (disk old.shelf.store).table) (sym next) kept.sound);
+    sound = subst (λ (t : Table). AllAreSound log (parts_of old.tenants.items) t shelf.next) (sym keeps.table)
+        (subst (AllAreSound log (parts_of old.tenants.items) (disk old.shelf.store).table) (sym next) kept.sound);
     named = kept.named;
     apart = λ file stray. subst (λ n. IsLeftAlone log (parts_of old.tenants.items) n file) (sym next) (kept.apart file stray);
     settled = λ some none. settled_synced log (parts_of old.tenants.items) (strays_of old.strays) (disk old.shelf.store) (disk shelf.store) keeps.table
         (kept.settled some none);
-    agree = λ honest. subst (Agree log (parts_of old.tenants.items)) (sym (keeps.files honest)) (kept.agree (keeps.honest honest));
+    agree = λ honest. subst (AllAgree log (parts_of old.tenants.items)) (sym (keeps.files honest)) (kept.agree (keeps.honest honest));
     until = λ honest. subst (IsIdleUntil old.next_retention_time) (sym (hosted_synced honest)) (kept.until (keeps.honest honest));
   }

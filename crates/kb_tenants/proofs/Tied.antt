@@ -11,7 +11,7 @@ use Rattle.kb_tenant_api.specs.Hosted.{kept_of}
 use Rattle.kb_tenant.proofs.Tied.{new_tied}
 use Rattle.kb_tenant.specs.Waiting.{HasOwnNames}
 use Rattle.kb_tenant.proofs.Folding.{agreed_names}
-use Rattle.kb_tenants.specs.Tenants.{Agree, shelf_is_honest, AreKept, hosted, parts_of, state_of}
+use Rattle.kb_tenants.specs.Tenants.{AllAgree, shelf_is_honest, AreKept, hosted, parts_of, state_of}
 use Rattle.kb_tenants.specs.declared.tenants.Tenant.{Tenant}
 use Rattle.kb_tenants.specs.declared.tenants.Tenants.{Tenants}
 
@@ -25,7 +25,7 @@ tied_among log files table next (x ∷ xs) each (suc t) = tied_among log files t
 pub kept_tied : {L S : Type 0} (log : L → Log) (disk : S → Disk) (ts : Tenants L S) → AreKept log disk ts → (t : ℕ) → IsTied (kept_of (hosted log disk ts) t).world
 kept_tied log disk ts kept t = tied_among log (disk ts.shelf.store).files (disk ts.shelf.store).table ts.shelf.next ts.tenants.items kept.sound.each t
 
-named_among : {L : Type 0} (log : L → Log) (files : Files) (xs : List (Tenant L)) → Agree log (parts_of xs) files → (t : ℕ) → HasOwnNames (kept_of (map (state_of log files) xs) t).world
+named_among : {L : Type 0} (log : L → Log) (files : Files) (xs : List (Tenant L)) → AllAgree log (parts_of xs) files → (t : ℕ) → HasOwnNames (kept_of (map (state_of log files) xs) t).world
 named_among log files [] each t = tt
 named_among log files (x ∷ xs) each zero = agreed_names log x.parts files (each 0 x.parts refl)
 named_among log files (x ∷ xs) each (suc t) = named_among log files xs (λ u p at. each (suc u) p at) t

@@ -30,14 +30,14 @@ use Rattle.kb_tenants.specs.declared.tenants.Tenant.{Tenant}
 use Rattle.kb_tenants.specs.declared.tenants.Tenants.{Tenants}
 
 -- Each tenant's parts are sound, and no file is of two tenants.
-pub record AreSound {L : Type 0} (log : L → Log) (ps : List (Parts L)) (table : Table) (next : ℕ) : Type 0 where
+pub record AllAreSound {L : Type 0} (log : L → Log) (ps : List (Parts L)) (table : Table) (next : ℕ) : Type 0 where
   pub each : (t : ℕ) (p : Parts L) → slice_get ps t ≡ Some p → IsSound log p table next
   pub apart : (t u : ℕ) (p q : Parts L) → slice_get ps t ≡ Some p → slice_get ps u ≡ Some q → (t ≡ u → ⊥) → (file : ℕ) → Owns log p file
       → Owns log q file → ⊥
 
 -- Each tenant's logs agree with their files.
-abbrev pub Agree : {L : Type 0} → (L → Log) → List (Parts L) → Files → Type 0
-Agree {L} log ps files = (t : ℕ) (p : Parts L) → slice_get ps t ≡ Some p → Agrees log p files
+abbrev pub AllAgree : {L : Type 0} → (L → Log) → List (Parts L) → Files → Type 0
+AllAgree {L} log ps files = (t : ℕ) (p : Parts L) → slice_get ps t ≡ Some p → Agrees log p files
 
 -- the parts of the tenants
 abbrev pub parts_of : {L : Type 0} → List (Tenant L) → List (Parts L)
@@ -98,11 +98,11 @@ EndsWait answers.NoReply = ⊥
 EndsWait answers.Shut = ⊤
 
 -- what a look comes to in which something was refused: its reply; or the connection is to be shut, also where the request would wait on
-abbrev pub ended : Answer → Answer
-ended (answers.Reply reply) = answers.Reply reply
-ended (answers.Wait deadline limit keys) = answers.Shut
-ended answers.NoReply = answers.Shut
-ended answers.Shut = answers.Shut
+abbrev pub reply_or_shut : Answer → Answer
+reply_or_shut (answers.Reply reply) = answers.Reply reply
+reply_or_shut (answers.Wait deadline limit keys) = answers.Shut
+reply_or_shut answers.NoReply = answers.Shut
+reply_or_shut answers.Shut = answers.Shut
 
 -- ---- who is answered
 
@@ -202,8 +202,8 @@ HaveNothingRefused {L} ps = (t : ℕ) (p : Parts L) → slice_get ps t ≡ Some 
 pub record AreKeptIn {L : Type 0} (log : L → Log) (disk : Disk) (strays : List ℕ) (ts : List TenantState) : Type 0 where
   pub parts : List (Parts L)
   pub next : ℕ
-  pub sound : AreSound log parts disk.table next
-  pub agree : Agree log parts disk.files
+  pub sound : AllAreSound log parts disk.table next
+  pub agree : AllAgree log parts disk.files
   pub settled : AreSettled log parts strays disk
   pub apart : (file : ℕ) → Contains strays file → IsLeftAlone log parts next file
   pub named : names_of ts ≡ map (λ p. string_bytes p.tenant) parts
@@ -216,10 +216,10 @@ pub record AreKeptIn {L : Type 0} (log : L → Log) (disk : Disk) (strays : List
 -- their files, and up to a clock a moment leaves each tenant what it keeps. The files that are left alone are no tenant's; and where
 -- they are known, and nothing was ever refused, each other file is of a log, and has nothing but its batches.
 pub record AreKept {L S : Type 0} (log : L → Log) (disk : S → Disk) (ts : Tenants L S) : Type 0 where
-  pub sound : AreSound log (parts_of ts.tenants.items) (disk ts.shelf.store).table ts.shelf.next
+  pub sound : AllAreSound log (parts_of ts.tenants.items) (disk ts.shelf.store).table ts.shelf.next
   pub named : (t : ℕ) (x : Tenant L) → slice_get ts.tenants.items t ≡ Some x → string_bytes x.parts.tenant ≡ string_bytes x.name
   pub apart : (file : ℕ) → Contains (strays_of ts.strays) file → IsLeftAlone log (parts_of ts.tenants.items) ts.shelf.next file
   pub settled : IsSome ts.strays → HaveNothingRefused (parts_of ts.tenants.items)
       → AreSettled log (parts_of ts.tenants.items) (strays_of ts.strays) (disk ts.shelf.store)
-  pub agree : shelf_is_honest disk ts → Agree log (parts_of ts.tenants.items) (disk ts.shelf.store).files
+  pub agree : shelf_is_honest disk ts → AllAgree log (parts_of ts.tenants.items) (disk ts.shelf.store).files
   pub until : shelf_is_honest disk ts → IsIdleUntil ts.next_retention_time (hosted log disk ts)

@@ -7,7 +7,7 @@ use Rattle.kb_tenant_state.specs.Parts.{world_of}
 use Rattle.kb_tenant_state.specs.Steps.{Meets}
 use Rattle.kb_tenant_state.specs.World.{World}
 use Rattle.kb_tenant_state.specs.declared.parts.Parts.{Parts}
-use Rattle.kb_tenants.specs.Tenants.{AreSound, Agree}
+use Rattle.kb_tenants.specs.Tenants.{AllAreSound, AllAgree}
 
 -- what a tenant sees
 abbrev pub seen_at : {L : Type 0} → (L → Log) → List (Parts L) → Files → ℕ → Option World
@@ -20,10 +20,10 @@ refusals_at {L} ps t = option_map (λ (p : Parts L). p.refusals) (slice_get ps t
 -- Of the tenants on their shelf before and after a call for one of them: all are sound; the others see what they saw, byte for
 -- byte, and nothing was counted for them; and the logs still agree with their files.
 pub record IsShelfTurn {L : Type 0} (log : L → Log) (t : ℕ) (ps qs : List (Parts L)) (d e : Disk) (next last : ℕ) : Type 0 where
-  pub sound : AreSound log qs e.table last
+  pub sound : AllAreSound log qs e.table last
   pub counts : (u : ℕ) → (u ≡ t → ⊥) → refusals_at qs u ≡ refusals_at ps u
   pub worlds : e.honest → (u : ℕ) → (u ≡ t → ⊥) → seen_at log qs e.files u ≡ seen_at log ps d.files u
-  pub agree : e.honest → Agree log ps d.files → Agree log qs e.files
+  pub agree : e.honest → AllAgree log ps d.files → AllAgree log qs e.files
   pub honest : e.honest → d.honest
   pub failures : d.failures ≤ e.failures
   pub many : length qs ≡ length ps

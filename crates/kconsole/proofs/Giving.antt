@@ -17,9 +17,9 @@ use Rattle.kb_client.specs.declared.arrival.Arrival.{Arrival}
 use Rattle.kb_client.specs.declared.arrival.Arrival.TheVariants as arrivals
 use Rattle.kb_client.specs.Replies.{body_for}
 use Rattle.kb_client.specs.Fetched.{arrival_of, fetched_partition}
-use Rattle.kb_client.specs.Lines.{Found, at_most, batches_in, is_ahead, line_text, records_from, with_batch, with_batches}
-use Rattle.kb_client.specs.Consumer.{Consumer, connected, entered, fault_at, fed, fed_by, fetched, given, heard, heard_by, read_at, unasked, with_found, without_text, correlation, is_due, IsOutput, Inputs}
-use Rattle.kconsole.specs.Printing.{Event, Connects, Asks, Comes, Takes, asked_if, next, last, FindsAt, Finds, behind, Gives, Prints}
+use Rattle.kb_client.specs.Lines.{Found, at_most, whole_batches, is_ahead, line_text, records_from, with_batch, with_batches}
+use Rattle.kb_client.specs.Consumer.{Consumer, connected, entered, fault_at, fed, fed_by, after_fetch, with_records, heard, heard_by, read_at, unasked, with_found, without_text, correlation, is_due, IsOutput, Inputs}
+use Rattle.kconsole.specs.Printing.{ConsumerEvent, Connects, Asks, Comes, Takes, asked_if, after_consumer_event, last, FindsAt, Finds, behind, Gives, Prints}
 
 -- ---- batches one behind another
 
@@ -69,14 +69,14 @@ came_walk : (o : Option (List (List ℕ))) (c : Consumer) → Came c.found (with
 came_walk None c = none_came c.found
 came_walk (Some batches) c = came_found (with_batches batches c.found) c batches refl
 
-came_given : (records : List ℕ) (c : Consumer) → Came c.found (given records c).found
+came_given : (records : List ℕ) (c : Consumer) → Came c.found (with_records records c).found
 came_given [] c = none_came c.found
-came_given (b ∷ records) c = came_walk (batches_in (length (b ∷ records)) (b ∷ records)) c
+came_given (b ∷ records) c = came_walk (whole_batches (length (b ∷ records)) (b ∷ records)) c
 
-came_fetched : (r : Result FetchPartitionReplyV5 WireFault) (c : Consumer) → Came c.found (fetched r c).found
+came_fetched : (r : Result FetchPartitionReplyV5 WireFault) (c : Consumer) → Came c.found (after_fetch r c).found
 came_fetched (Err fault) c = none_came c.found
 came_fetched (Ok reply) c =
-    came_if (int_eq reply.error_code (pos 0)) c.found (given (unwrap_or reply.records []) c) (entered (stages.Ended (endings.Code reply.error_code)) c)
+    came_if (int_eq reply.error_code (pos 0)) c.found (with_records (unwrap_or reply.records []) c) (entered (stages.Ended (endings.Code reply.error_code)) c)
     (came_given (unwrap_or reply.records []) c) (none_came c.found)
 
 came_heard : (stage : Fetching) (r : Result (List ℕ) WireFault) (c : Consumer) → Came c.found (heard_by stage r c).found
@@ -117,19 +117,19 @@ came_fed piece c = came_by (fault_at c.stage) piece c
 
 -- ---- one thing after another
 
-last_more : (es fs : List Event) (c : Consumer) → last (es ++ fs) c ≡ last fs (last es c)
+last_more : (es fs : List ConsumerEvent) (c : Consumer) → last (es ++ fs) c ≡ last fs (last es c)
 last_more [] fs c = refl
-last_more (e ∷ es) fs c = last_more es fs (next e c)
+last_more (e ∷ es) fs c = last_more es fs (after_consumer_event e c)
 
-finds_more : (es fs : List Event) (c : Consumer) (ds bs : List (List ℕ)) → Finds es c ds → Finds fs (last es c) bs → Finds (es ++ fs) c (ds ++ bs)
+finds_more : (es fs : List ConsumerEvent) (c : Consumer) (ds bs : List (List ℕ)) → Finds es c ds → Finds fs (last es c) bs → Finds (es ++ fs) c (ds ++ bs)
 finds_more [] fs c ds bs none h = subst (λ xs. Finds fs c (xs ++ bs)) (sym none) h
 finds_more (e ∷ es) fs c ds bs g h =
-    (g.0, g.1 ++ bs, ap (λ xs. xs ++ bs) g.2 ∙ append_assoc g.0 g.1 bs, g.3, finds_more es fs (next e c) g.1 bs g.4 h)
+    (g.0, g.1 ++ bs, ap (λ xs. xs ++ bs) g.2 ∙ append_assoc g.0 g.1 bs, g.3, finds_more es fs (after_consumer_event e c) g.1 bs g.4 h)
 
 pub gives_nothing : (c : Consumer) → Gives c [] c
 gives_nothing c = record { events = []; batches = []; went = refl; came = refl; lines = refl }
 
-gives_one : (e : Event) (c d : Consumer) (t : List ℕ) (bs : List (List ℕ)) → d ≡ next e c → FindsAt e c bs → with_batches bs c.found ≡ Some (behind t d.found) → Gives c t d
+gives_one : (e : ConsumerEvent) (c d : Consumer) (t : List ℕ) (bs : List (List ℕ)) → d ≡ after_consumer_event e c → FindsAt e c bs → with_batches bs c.found ≡ Some (behind t d.found) → Gives c t d
 gives_one e c d t bs is here lines =
     record { events = e ∷ []; batches = bs; went = is; came = (bs, [], sym (append-nil bs), here, refl); lines = lines }
 

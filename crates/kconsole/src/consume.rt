@@ -2,7 +2,7 @@
 
 ghost use Rattle.std.specs.Prelude.{◌≡◌, [], OnOk, IfOk};
 ghost use Rattle.std.specs.Io.KnownBytes.{Appends};
-ghost use Rattle.kb_client.specs.Consumer.{fresh, without_text};
+ghost use Rattle.kb_client.specs.Consumer.{new_consumer, without_text};
 ghost use Rattle.kconsole.specs.Console.{IsWithin, address_of, address_text, target_of};
 ghost use Rattle.kconsole.specs.Printing.{Gives, Prints, PrintsAll};
 
@@ -30,7 +30,7 @@ pub fn consume<W: Write>(
     writer: &mut W,
 ) -> Result<(), Fault>
     requires { IsWithin line }
-    ensures { OnOk result (PrintsAll (fresh (target_of line) from max follow) (W.contents writer.old) (W.contents writer.new)) }
+    ensures { OnOk result (PrintsAll (new_consumer (target_of line) from max follow) (W.contents writer.old) (W.contents writer.new)) }
 {
     let (mut core, mut link) = begin(rt.alloc(), line, from, max, follow)?;
     print_all(rt, &mut core, &mut link, writer)
@@ -45,7 +45,7 @@ fn begin(
     follow: bool,
 ) -> Result<(ConsumerCore, Link), AllocError>
     requires { IsWithin line }
-    ensures core { IfOk result (λ made. made.0 ≡ fresh (target_of line) from max follow) }
+    ensures core { IfOk result (λ made. made.0 ≡ new_consumer (target_of line) from max follow) }
     ensures link { IfOk result (λ made. address_of made.1 ≡ address_text line) }
 {
     let Place {

@@ -1,7 +1,8 @@
 //! `kconsole produce`: sends the lines of standard input to a partition.
 
-ghost use Rattle.std.specs.Prelude.{◌≡◌, ◌≤◌, ◌^◌, IfOk};
-ghost use Rattle.kb_client.specs.Producer.{fresh};
+ghost use Rattle.std.specs.Prelude.{◌≡◌, ◌≤◌, IfOk};
+ghost use Rattle.kb_wire.specs.declared.clock.TheConstants.{MAX_CLOCK};
+ghost use Rattle.kb_client.specs.Producer.{new_producer};
 ghost use Rattle.kconsole.specs.Console.{IsWithin, address_of, address_text, target_of};
 
 use crate::console::ConsoleLine;
@@ -61,7 +62,7 @@ fn begin(
     create: Option<i32>,
 ) -> Result<(ProducerCore, Link), AllocError>
     requires { IsWithin line }
-    ensures core { IfOk result (λ made. made.0 ≡ fresh (target_of line) create) }
+    ensures core { IfOk result (λ made. made.0 ≡ new_producer (target_of line) create) }
     ensures link { IfOk result (λ made. address_of made.1 ≡ address_text line) }
 {
     let Place {
@@ -103,7 +104,7 @@ impl Producer {
 
     /// Takes a piece of standard input, at a moment: the lines that it ends are handed in.
     fn hand_in(&mut self, piece: &[u8], now: u64) -> Result<(), Fault>
-        requires { now ≤ 2 ^ 62 }
+        requires { now ≤ MAX_CLOCK }
     {
         let mut rest = piece;
         for _ in 0..piece.len() {
@@ -119,7 +120,7 @@ impl Producer {
 
     /// Standard input ended: what is left is a line, if it is not empty.
     fn hand_in_rest(&mut self, now: u64) -> Result<(), Fault>
-        requires { now ≤ 2 ^ 62 }
+        requires { now ≤ MAX_CLOCK }
     {
         if self.front.is_empty() {
             return Ok(());
@@ -139,7 +140,7 @@ impl Producer {
 
     /// The line is whole.
     fn end_line(&mut self, now: u64) -> Result<(), Fault>
-        requires { now ≤ 2 ^ 62 }
+        requires { now ≤ MAX_CLOCK }
     {
         self.lines = self.lines.saturating_add(1);
         let taken = self.core.line(&self.front, now);

@@ -1,12 +1,13 @@
 //! What an engine does within an event: turns of connections, and looks at waits that may be over.
-ghost use Rattle.std.specs.Prelude.{◌≡◌, ◌+◌, ◌++◌, ◌∷◌, ◌⊎◌, [], ℕ, List, ◌<◌, ◌≤◌, ◌^◌, length, get_or, Contains};
+ghost use Rattle.std.specs.Prelude.{◌≡◌, ◌+◌, ◌++◌, ◌∷◌, ◌⊎◌, [], ℕ, List, ◌<◌, ◌≤◌, length, get_or, Contains};
+ghost use Rattle.kb_wire.specs.declared.clock.TheConstants.{MAX_CLOCK};
 ghost use Rattle.std.specs.Prelude.{IfSome, IfNone, true, false, Some, None};
 ghost use Rattle.std.specs.Bool.{OnTrue};
 ghost use Rattle.std.specs.List.{position};
 ghost use Rattle.kb_isolation_spec.specs.Session.{can};
 ghost use Rattle.kb_isolation_spec.specs.Machine.{Comes, Line, first_able, work};
 ghost use Rattle.kb_isolation_spec.specs.Broker.{BrokerState, AreUnready, AnyWait, InRange, IsSound, Rising};
-ghost use Rattle.kb_isolation_spec.specs.Calls.{left_by, taken};
+ghost use Rattle.kb_isolation_spec.specs.Calls.{left_by, output_taken};
 ghost use Rattle.kb_isolation_spec.specs.declared.whom.Whom.TheVariants as whoms;
 ghost use Rattle.kb_isolation_spec.specs.Turned.{Scope, AreStill, IsFed, IsGoing, SameOthers, Turned, Waked, IsLookedFor, IsPassedOver};
 ghost use Rattle.kb_isolation_spec.specs.Machine.{find_line};
@@ -16,7 +17,7 @@ ghost use Rattle.kb_tenant_api.specs.Turns.{HavePassed};
 ghost use Rattle.kb_broker.specs.Hosts.{is_honest, IsLater, IsLaterBy, NoneReady};
 ghost use Rattle.kb_broker.specs.Truth.{IsTrueMoment, SpeaksAt};
 ghost use Rattle.kb_broker.specs.Places.{numbers, number_at, any_waits, AreIdle, IsNext, IsScoped, IsCountedAt, AreWaked};
-ghost use Rattle.kb_broker.specs.Places.{IsOneMore, Leaves};
+ghost use Rattle.kb_broker.specs.Places.{IsOneMore, LeavesQuietBut};
 ghost use Rattle.kb_broker.specs.Parked.{can_in, AreAmong, AreMinded, AreWaitingOn, IsAllOf, IsConfined, IsReadyAmong, IsLeftTo, IsOwnTo};
 ghost use Rattle.kb_broker.specs.Parked.{IsServedFor, SameBut};
 ghost use Rattle.kb_broker.specs.Speakers.{speakers};
@@ -284,12 +285,12 @@ impl<L: PartitionLog + Drop, S: Store> Engine<L, S> {
     /// others may be ready too that are not due. Behind them one tenant's catalog is looked at, and written anew where that is due, which
     /// no tenant sees.
     pub(super) fn pass(&mut self, alloc: Global) -> Option<Vec<u64>>
-        requires in_time { self.old.state.clock ≤ 2 ^ 62 }
+        requires in_time { self.old.state.clock ≤ MAX_CLOCK }
         requires waiting { is_honest S.disk self.old → AreWaitingOn self.old.state }
         ensures passed { HavePassed self.old.state.clock (is_honest S.disk self.new) self.old.state.tenants self.new.state.tenants }
         ensures only_tenants { self.new.state ≡ record self.old.state { tenants = self.new.state.tenants } }
         ensures later { IsLaterBy S.disk IsTrueMoment self.old self.new }
-        ensures leaves { is_honest S.disk self.new → Leaves result self.old.state.tenants self.new.state.tenants }
+        ensures leaves { is_honest S.disk self.new → LeavesQuietBut result self.old.state.tenants self.new.state.tenants }
     {
         let answered = self.tenants.pass(alloc, self.clock);
         self.tenants.renew_next(alloc);

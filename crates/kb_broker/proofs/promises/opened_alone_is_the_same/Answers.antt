@@ -1,5 +1,5 @@
 use Rattle.std.proofs.Common.{refl}
-use Rattle.kb_broker.specs.Members.{numbered_from}
+use Rattle.kb_broker.specs.Members.{broker_numbered_from}
 use Rattle.kb_broker.specs.Opening.{opening_listing}
 use Rattle.kb_broker.specs.Runs.{happenings}
 use Rattle.kb_broker.proofs.Alone.{opened-alone, run-fewer}
@@ -14,4 +14,4 @@ returns-clause-run c = λ t events fewer shared e r. run-fewer t (happenings eve
 
 pub returns-clause-numbered : goal.returns-clause-numbered
 returns-clause-numbered c = λ first listing settings t events fewer shared after own own_after written own_written a b e p q numbered isolated calm.
-    opened-alone (numbered_from first (opening_listing listing settings)) t (happenings events) (happenings fewer) shared after own own_after written own_written a b refl e p q numbered isolated calm
+    opened-alone (broker_numbered_from first (opening_listing listing settings)) t (happenings events) (happenings fewer) shared after own own_after written own_written a b refl e p q numbered isolated calm

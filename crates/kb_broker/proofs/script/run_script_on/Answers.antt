@@ -3,7 +3,7 @@ use Rattle.std.proofs.lemmas.List.{nil_from_length}
 use Rattle.std.specs.Io.BufRead.{take_through, strip_last}
 use Rattle.kb_broker.specs.Hosts.{is_honest}
 use Rattle.kb_broker.specs.Script.{here, script, told, course_of}
-use Rattle.kb_broker.specs.ScriptRun.{IsDone, IsBroken, IsEnded, IsStopped}
+use Rattle.kb_broker.specs.ScriptRun.{IsLinePlayed, IsBroken, IsEnded, IsStopped}
 use Rattle.kb_broker.proofs.ScriptEvents.{if-err, if-err-both}
 use Rattle.kb_broker.proofs.ScriptPlay.{Played, played-start, played-more, played-end, played-fault, played-past, played-broken, played-cut, played-stopped, fits-room, rest-done, on-both}
 use Rattle.kb_broker.proofs.script.run_script_on.Goals as goal
@@ -52,7 +52,7 @@ loop-index-preserved g c =
     let some : 0 < length c.next_line.new.line.items = search rules in
     let held = c.play_line.ensures.honest in
     let v = c.loop-index.invariant in
-    let done = λ (h : is_honest g.S.Store.disk c.play_line.new.broker). subst (λ l. IsDone (course_of (c.loop-index.index + 1) (here c.loop-index.broker.state) (told (strip_last 10 l))) c.loop-index.broker.state c.play_line.new.broker.state (g.W.Write.contents c.loop-index.writer) (g.W.Write.contents c.play_line.new.writer)) c.deref.ensures.value (c.in_ok-play_line.ensures.ok h) in
+    let done = λ (h : is_honest g.S.Store.disk c.play_line.new.broker). subst (λ l. IsLinePlayed (course_of (c.loop-index.index + 1) (here c.loop-index.broker.state) (told (strip_last 10 l))) c.loop-index.broker.state c.play_line.new.broker.state (g.W.Write.contents c.loop-index.writer) (g.W.Write.contents c.play_line.new.writer)) c.deref.ensures.value (c.in_ok-play_line.ensures.ok h) in
     let rest = λ (h : is_honest g.S.Store.disk c.play_line.new.broker). rest-done (course_of (c.loop-index.index + 1) (here c.loop-index.broker.state) (told (strip_last 10 c.next_line.new.line.items))) c.loop-index.broker.state c.play_line.new.broker.state (g.W.Write.contents c.loop-index.writer) (g.W.Write.contents c.play_line.new.writer)
     (record { ready = v.ready (held h); quiet = v.quiet (held h); calm = v.calm (held h) }) (done h) in
     let more = λ (h : is_honest g.S.Store.disk c.play_line.new.broker). played-more c.args.broker.now.state c.loop-index.broker.state c.play_line.new.broker.state c.next_line.new.line.items (g.R.Read.remaining c.args.reader.now) (g.R.Read.remaining c.loop-index.reader) (g.R.Read.remaining c.next_line.new.reader) (g.W.Write.contents c.args.writer.now) (g.W.Write.contents c.loop-index.writer) (g.W.Write.contents c.play_line.new.writer)

@@ -4,7 +4,7 @@ use Rattle.kb_isolation_spec.specs.Session.{is_free, without_wait}
 use Rattle.kb_broker.specs.Parked.{parked_for}
 use Rattle.kb_broker.proofs.Handled.{from_err, from_ok}
 use Rattle.kb_broker.proofs.Served.{IsParkedBy, spent-refused, parked-by, parked-gone, dated-answered, on-ok, owned-answered, owned-shut}
-use Rattle.kb_connection.specs.TenantAnswers.{answered}
+use Rattle.kb_connection.specs.TenantAnswers.{with_answer}
 use Rattle.kb_connection.specs.View.{without_front}
 use Rattle.kb_broker.proofs.PutOut.{put-done, put-shut}
 use Rattle.kb_broker.proofs.serving.hand_over.Goals as goal
@@ -50,10 +50,10 @@ pub returns-else-is_err-2-clause-keyed : goal.returns-else-is_err-2-clause-keyed
 returns-else-is_err-2-clause-keyed c = on-ok c.answer-given.result (fin.get c.park.new.parking c.args.connection.now.number ≡ parked_for c.args.tenant c.args.answer) (parked c).own
 
 pub returns-then-is_err-clause-output : goal.returns-then-is_err-clause-output
-returns-then-is_err-clause-output c = λ key version head body asks. put-shut (answered head version body c.args.answer (without_front c.args.connection.now.session)) c.args.connection.now c.shut_down.new.self c.shut_down.ensures
+returns-then-is_err-clause-output c = λ key version head body asks. put-shut (with_answer head version body c.args.answer (without_front c.args.connection.now.session)) c.args.connection.now c.shut_down.new.self c.shut_down.ensures
 
 pub returns-then-is_err-2-clause-output : goal.returns-then-is_err-2-clause-output
-returns-then-is_err-2-clause-output c = λ key version head body asks. put-shut (answered head version body c.args.answer (without_front c.args.connection.now.session)) c.args.connection.now c.answer-given.new.self (from_err c.answer-given.result c.is_err-2.result _ c.is_err-2.ensures.value c.if-is_err-2.true c.answer-given.ensures.err)
+returns-then-is_err-2-clause-output c = λ key version head body asks. put-shut (with_answer head version body c.args.answer (without_front c.args.connection.now.session)) c.args.connection.now c.answer-given.new.self (from_err c.answer-given.result c.is_err-2.result _ c.is_err-2.ensures.value c.if-is_err-2.true c.answer-given.ensures.err)
 
 pub returns-else-is_err-2-clause-output : goal.returns-else-is_err-2-clause-output
-returns-else-is_err-2-clause-output c = λ key version head body asks. put-done (answered head version body c.args.answer (without_front c.args.connection.now.session)) c.args.connection.now c.answer-given.new.self (from_ok c.answer-given.result c.is_err-2.result _ c.is_err-2.ensures.value c.if-is_err-2.false (c.answer-given.ensures.answered key version head body asks))
+returns-else-is_err-2-clause-output c = λ key version head body asks. put-done (with_answer head version body c.args.answer (without_front c.args.connection.now.session)) c.args.connection.now c.answer-given.new.self (from_ok c.answer-given.result c.is_err-2.result _ c.is_err-2.ensures.value c.if-is_err-2.false (c.answer-given.ensures.answered key version head body asks))

@@ -8,7 +8,7 @@ use Rattle.kb_tenant_api.specs.Replies.{IsAnswer, Rebalances}
 use Rattle.kb_tenant_api.specs.Waiters.{AreServed, IsWaitTold}
 use Rattle.kb_tenant.specs.declared.request.Request.{Request}
 use Rattle.kb_isolation_spec.specs.Machine.{Line}
-use Rattle.kb_isolation_spec.specs.Tenant.{answer, kept_after}
+use Rattle.kb_isolation_spec.specs.Tenant.{reaction_to, kept_after}
 use Rattle.kb_isolation_spec.specs.Session.{in_front}
 use Rattle.kb_connection.specs.Fronts.{IsAsked, IsOwn, head_at}
 use Rattle.kb_tenant.specs.Told.{FailedBy}
@@ -74,9 +74,9 @@ returns-clause-ok g c = λ honest calm.
     let numbered : q.correlation_id ≡ h.correlation_id = subst (λ found. IfSome found (λ (r : Request). r.correlation_id ≡ h.correlation_id)) c.in-Ok-Some.field-0-is c.in-Ok-Some.ensures.numbered in
     let same : q.connection ≡ a.connection.now.number = subst (λ found. IfSome found (λ (r : Request). r.connection ≡ a.connection.now.number)) c.in-Ok-Some.field-0-is c.in-Ok-Some.ensures.number in
     let meets = subst (λ n. IsMet a.tenant (shelf_is_honest g.S.Store.disk c.ask.new.tenants) (tenants_in g.L.PartitionLog.log g.S.Store.disk a.tenants.now) (tenants_in g.L.PartitionLog.log g.S.Store.disk c.ask.new.tenants)
-    (λ k l. (l ≡ kept_after (node_of a.setup.now a.tenant) k a.clock n q.api_key q.api_version q.body.now) × IsAnswer h.correlation_id (answer (node_of a.setup.now a.tenant) k a.clock n q.api_key q.api_version q.body.now) c.ask.result.0)) same
+    (λ k l. (l ≡ kept_after (node_of a.setup.now a.tenant) k a.clock n q.api_key q.api_version q.body.now) × IsAnswer h.correlation_id (reaction_to (node_of a.setup.now a.tenant) k a.clock n q.api_key q.api_version q.body.now) c.ask.result.0)) same
     (subst (λ id. IsMet a.tenant (shelf_is_honest g.S.Store.disk c.ask.new.tenants) (tenants_in g.L.PartitionLog.log g.S.Store.disk a.tenants.now) (tenants_in g.L.PartitionLog.log g.S.Store.disk c.ask.new.tenants)
-    (λ k l. (l ≡ kept_after (node_of a.setup.now a.tenant) k a.clock q.connection q.api_key q.api_version q.body.now) × IsAnswer id (answer (node_of a.setup.now a.tenant) k a.clock q.connection q.api_key q.api_version q.body.now) c.ask.result.0)) numbered c.ask.ensures.meets) in
+    (λ k l. (l ≡ kept_after (node_of a.setup.now a.tenant) k a.clock q.connection q.api_key q.api_version q.body.now) × IsAnswer id (reaction_to (node_of a.setup.now a.tenant) k a.clock q.connection q.api_key q.api_version q.body.now) c.ask.result.0)) numbered c.ask.ensures.meets) in
     let done = meets honest calm in
     asked-now a.setup.now a.tenant a.clock a.connection.now.number (kept_of (tenants_in g.L.PartitionLog.log g.S.Store.disk a.tenants.now) a.tenant) (kept_of (tenants_in g.L.PartitionLog.log g.S.Store.disk c.ask.new.tenants) a.tenant) a.connection.now c.hand_over.new.connection q.api_key q.api_version h q.body.now c.ask.result.0 asked done.0 done.1 c.in_ok-hand_over.ensures.ok
 
@@ -90,9 +90,9 @@ returns-clause-keyed g c = λ honest.
     let numbered : q.correlation_id ≡ h.correlation_id = subst (λ found. IfSome found (λ (r : Request). r.correlation_id ≡ h.correlation_id)) c.in-Ok-Some.field-0-is c.in-Ok-Some.ensures.numbered in
     let same : q.connection ≡ a.connection.now.number = subst (λ found. IfSome found (λ (r : Request). r.connection ≡ a.connection.now.number)) c.in-Ok-Some.field-0-is c.in-Ok-Some.ensures.number in
     let meets = subst (λ n. IsMet a.tenant (shelf_is_honest g.S.Store.disk c.ask.new.tenants) (tenants_in g.L.PartitionLog.log g.S.Store.disk a.tenants.now) (tenants_in g.L.PartitionLog.log g.S.Store.disk c.ask.new.tenants)
-    (λ k l. (l ≡ kept_after (node_of a.setup.now a.tenant) k a.clock n q.api_key q.api_version q.body.now) × IsAnswer h.correlation_id (answer (node_of a.setup.now a.tenant) k a.clock n q.api_key q.api_version q.body.now) c.ask.result.0)) same
+    (λ k l. (l ≡ kept_after (node_of a.setup.now a.tenant) k a.clock n q.api_key q.api_version q.body.now) × IsAnswer h.correlation_id (reaction_to (node_of a.setup.now a.tenant) k a.clock n q.api_key q.api_version q.body.now) c.ask.result.0)) same
     (subst (λ id. IsMet a.tenant (shelf_is_honest g.S.Store.disk c.ask.new.tenants) (tenants_in g.L.PartitionLog.log g.S.Store.disk a.tenants.now) (tenants_in g.L.PartitionLog.log g.S.Store.disk c.ask.new.tenants)
-    (λ k l. (l ≡ kept_after (node_of a.setup.now a.tenant) k a.clock q.connection q.api_key q.api_version q.body.now) × IsAnswer id (answer (node_of a.setup.now a.tenant) k a.clock q.connection q.api_key q.api_version q.body.now) c.ask.result.0)) numbered c.ask.ensures.meets) in
+    (λ k l. (l ≡ kept_after (node_of a.setup.now a.tenant) k a.clock q.connection q.api_key q.api_version q.body.now) × IsAnswer id (reaction_to (node_of a.setup.now a.tenant) k a.clock q.connection q.api_key q.api_version q.body.now) c.ask.result.0)) numbered c.ask.ensures.meets) in
     keyed-answered (shelf_is_honest g.S.Store.disk c.ask.new.tenants) honest a.setup.now a.tenant a.clock a.connection.now.number (tenants_in g.L.PartitionLog.log g.S.Store.disk a.tenants.now) (tenants_in g.L.PartitionLog.log g.S.Store.disk c.ask.new.tenants) a.connection.now c.hand_over.new.connection q.api_key q.api_version h q.body.now c.ask.result.0 (fin.get c.hand_over.new.parking a.connection.now.number) c.requires.bound c.hand_over.ensures.spent asked c.ask.ensures.turn meets c.in_ok-hand_over.ensures.ok c.in_ok-hand_over.ensures.keyed
 
 pub returns-clause-touched : goal.returns-clause-touched

@@ -6,7 +6,7 @@ use Rattle.kb_tenants.specs.Tenants.{commands_of, shelf_is_honest, IsCatalogFull
 use Rattle.kb_connection.specs.View.{greeting_of}
 use Rattle.kb_broker.specs.Hosts.{tenants_in}
 use Rattle.kb_isolation_spec.specs.Session.{BoundTo, in_front}
-use Rattle.kb_isolation_spec.specs.Machine.{after_turn, put}
+use Rattle.kb_isolation_spec.specs.Machine.{after_turn, kept_by_turn}
 use Rattle.kb_broker.specs.Places.{IsMemberTurnAt, IsTakenAt, IsToldAt, IsTurnAt, IsWaitTurnAt}
 use Rattle.kb_broker.proofs.Handled.{able-stage}
 use Rattle.kb_broker.specs.Parked.{IsAskedOnAt, IsConcern}
@@ -153,7 +153,7 @@ returns-in_ok-touched-in-Bound-clause-ok g c =
     let t = c.in-Bound.tenant in
     subst (λ st. IsTakenAt (shelf_is_honest disk vs) a.setup.now a.clock a.connection.now.number st (tenants_in log disk a.tenants.now) (tenants_in log disk vs) a.connection.now.session c.serve_bound.new.connection.session) (sym (sym (able-stage c.args.connection.now.session c.requires.able) ∙ sym c.in-Bound.ensures))
     (met-counted t (tenants_in log disk a.tenants.now) (tenants_in log disk us) (tenants_in log disk vs) w.turn w.stays (shelf_is_honest disk us) (shelf_is_honest disk vs)
-    (λ k l. (c.serve_bound.new.connection.session ≡ after_turn (for_tenant a.setup.now t) k a.clock a.connection.now.number a.connection.now.session) × (l ≡ put (for_tenant a.setup.now t) k a.clock a.connection.now.number (in_front a.connection.now.session)))
+    (λ k l. (c.serve_bound.new.connection.session ≡ after_turn (for_tenant a.setup.now t) k a.clock a.connection.now.number a.connection.now.session) × (l ≡ kept_by_turn (for_tenant a.setup.now t) k a.clock a.connection.now.number (in_front a.connection.now.session)))
     (λ honest. subst (λ shelf. (g.S.Store.disk shelf.store).honest) c.whom_it_concerns.ensures.shelf honest) (c.serve_bound.ensures.turn.grows t) c.in_ok-touched-in-Bound.ensures.ok)
 
 pub returns-in_ok-touched-in-Bound-clause-waits : goal.returns-in_ok-touched-in-Bound-clause-waits

@@ -2,7 +2,7 @@ use Rattle.std.proofs.Common.{◌≡◌, ◌∙◌, ◌++◌, length, take, drop
 use Rattle.std.specs.Prelude.{option_copied}
 use Rattle.std.specs.Map.{lookup}
 use Rattle.std.proofs.lemmas.List.{take_min}
-use Rattle.kb_cache.specs.Kept.{same_place, found, seen}
+use Rattle.kb_cache.specs.Kept.{same_place, cached_at, seen}
 use Rattle.kb_cache.proofs.Seen.{found_none, found_some, used_seen, take_nil}
 use Rattle.kb_cache.proofs.entries.copy_front.Goals as goal
 
@@ -25,7 +25,7 @@ pub returns-clause-count : goal.returns-clause-count
 returns-clause-count c =
     let some : lookup (same_place (c.args.file, c.args.at)) c.args.entries.now.entries ≡ Some c.in-Some.bytes.now = sym c.get.ensures.value ∙ ap option_copied c.in-Some.is in
     let same = ap length (found_some c.args.entries.now.entries c.args.file c.args.at c.in-Some.bytes.now some) in
-    omega (arith, same, c.min-n.ensures, c.len.ensures, length-take (length c.args.buffer.now) (found (seen c.args.entries.now.entries) c.args.file c.args.at))
+    omega (arith, same, c.min-n.ensures, c.len.ensures, length-take (length c.args.buffer.now) (cached_at (seen c.args.entries.now.entries) c.args.file c.args.at))
 
 pub returns-clause-copied : goal.returns-clause-copied
 returns-clause-copied c =
@@ -33,7 +33,7 @@ returns-clause-copied c =
     let n = c.min-n.result in
     let items = c.in-Some.bytes.now.items in
     let some : lookup (same_place (c.args.file, c.args.at)) c.args.entries.now.entries ≡ Some c.in-Some.bytes.now = sym c.get.ensures.value ∙ ap option_copied c.in-Some.is in
-    let same : found (seen c.args.entries.now.entries) c.args.file c.args.at ≡ items = found_some c.args.entries.now.entries c.args.file c.args.at c.in-Some.bytes.now some in
+    let same : cached_at (seen c.args.entries.now.entries) c.args.file c.args.at ≡ items = found_some c.args.entries.now.entries c.args.file c.args.at c.in-Some.bytes.now some in
     let least : n ≡ min size (length items) = omega (arith, c.min-n.ensures, c.len.ensures) in
     ap (λ b. b ++ drop n c.args.buffer.now)
     (c.copy_from_slice.ensures.after ∙ ap (take n) c.deref.ensures.value ∙ ap (λ k. take k items) least ∙ take_min size items ∙ sym (ap (take size) same))

@@ -1,6 +1,6 @@
 use Rattle.std.proofs.Common.{◌≡◌, ◌∙◌, ◌<◌, ◌+◌, ◌-◌, ◌++◌, length, take, drop, ap, sym, subst, arith, append_assoc, length-drop, length-take}
 use borrow.Rule.Slice.PartMut.{put_mid, post_of}
-use Rattle.kb_cache.specs.Kept.{found, seen}
+use Rattle.kb_cache.specs.Kept.{cached_at, seen}
 use Rattle.kb_cache.proofs.Filling.{Filling, filling_more, stopped_entries, stopped_short}
 use Rattle.kb_cache.proofs.entries.fill.Goals as goal
 
@@ -10,7 +10,7 @@ returns-then-n-eq0-clause-entries c =
     let done = c.loop-done.done in
     let part = take (length c.loop-done.buffer - done) (drop done c.loop-done.buffer) in
     let es = seen c.loop-done.entries.entries in
-    let here = found es c.args.file (c.args.at + done) in
+    let here = cached_at es c.args.file (c.args.at + done) in
     let long : length part ≡ size - done = omega (arith, length-take (length c.loop-done.buffer - done) (drop done c.loop-done.buffer), length-drop done c.loop-done.buffer, c.loop-done.auto.buffer) in
     stopped_entries (seen c.args.entries.now.entries) c.args.file c.args.at size es (seen c.copy_front-n.new.entries.entries) done c.loop-done.buffer (take (length part) here)
     c.loop-done.invariant.filling (omega (arith, c.loop-done-test.true, c.loop-done.auto.buffer)) (ap (λ k. take k here) long) c.copy_front-n.ensures.entries
@@ -22,7 +22,7 @@ returns-then-n-eq0-clause-whole c =
     let done = c.loop-done.done in
     let part = take (length c.loop-done.buffer - done) (drop done c.loop-done.buffer) in
     let es = seen c.loop-done.entries.entries in
-    let here = found es c.args.file (c.args.at + done) in
+    let here = cached_at es c.args.file (c.args.at + done) in
     let long : length part ≡ size - done = omega (arith, length-take (length c.loop-done.buffer - done) (drop done c.loop-done.buffer), length-drop done c.loop-done.buffer, c.loop-done.auto.buffer) in
     stopped_short (seen c.args.entries.now.entries) c.args.file c.args.at size es (seen c.copy_front-n.new.entries.entries) done c.loop-done.buffer (take (length part) here)
     c.loop-done.invariant.filling (omega (arith, c.loop-done-test.true, c.loop-done.auto.buffer)) (ap (λ k. take k here) long) c.copy_front-n.ensures.entries
@@ -34,7 +34,7 @@ loop-done-preserved c =
     let done = c.loop-done.done in
     let part = take (length c.loop-done.buffer - done) (drop done c.loop-done.buffer) in
     let es = seen c.loop-done.entries.entries in
-    let here = found es c.args.file (c.args.at + done) in
+    let here = cached_at es c.args.file (c.args.at + done) in
     let b = take (length part) here in
     let n = c.copy_front-n.result in
     let buffer = put_mid done (length c.loop-done.buffer - done) c.loop-done.buffer c.copy_front-n.new.buffer in

@@ -1,13 +1,13 @@
 use Rattle.std.proofs.Common.{◌≡◌, ◌∷◌, ◌∙◌, drop, refl, sym}
 use Rattle.kb_store.specs.Loss.{Clears}
 use Rattle.kb_store.specs.LossLaws.{stays_goes, cleared_not}
-use Rattle.kb_durable.specs.Waiting.{without}
+use Rattle.kb_durable.specs.Waiting.{without_keys}
 use Rattle.kb_durable.proofs.Lost.{first_found, goes_dropped, then_same, trims_refused, trims_removed, trims_synced}
 use Rattle.kb_durable.proofs.waiting.remove_first.Goals as goal
 
 pub returns-in_default-clause-loss : goal.returns-in_default-clause-loss
 returns-in_default-clause-loss g c =
-    let t = without c.args.waiting.now.items (g.S.Store.disk c.args.store.now).table in
+    let t = without_keys c.args.waiting.now.items (g.S.Store.disk c.args.store.now).table in
     stays_goes (Clears t) (cleared_not t) (g.S.Store.loss c.args.store.now)
 
 pub returns-in_err-remove-clause-trims : goal.returns-in_err-remove-clause-trims
@@ -52,7 +52,7 @@ returns-in_err-sync-clause-loss g c =
     let n = g.S.Store.loss c.sync.new.self in
     let first : ks ≡ c.in-Some.file ∷ drop 1 ks = first_found ks c.front.result c.in-Some.file (sym c.in-Some.is ∙ c.copied.ensures) c.front.ensures.item.0 c.front.ensures.lookup in
     let timely = g.met.S.Store.timely c.remove.new.self in
-    then_same (Clears (without ks d.table)) l m n
+    then_same (Clears (without_keys ks d.table)) l m n
     (goes_dropped c.in-Some.file (drop 1 ks) ks js first d e l m c.requires.synced c.in_ok-remove.ensures.loss d.table)
     (c.in_err-sync.ensures.prompt (g.met.S.Direct.prompt c.remove.new.self))
 
@@ -84,6 +84,6 @@ returns-clause-loss g c =
     let n = g.S.Store.loss c.sync.new.self in
     let first : ks ≡ c.in-Some.file ∷ drop 1 ks = first_found ks c.front.result c.in-Some.file (sym c.in-Some.is ∙ c.copied.ensures) c.front.ensures.item.0 c.front.ensures.lookup in
     let timely = g.met.S.Store.timely c.remove.new.self in
-    then_same (Clears (without ks d.table)) l m n
+    then_same (Clears (without_keys ks d.table)) l m n
     (goes_dropped c.in-Some.file (drop 1 ks) ks js first d e l m c.requires.synced c.in_ok-remove.ensures.loss d.table)
     (c.in_ok-sync.ensures.prompt (g.met.S.Direct.prompt c.remove.new.self))

@@ -6,7 +6,7 @@ use Rattle.kb_settings.specs.Names.{byte_order}
 use Rattle.kb_tenant_state.specs.Parts.{world_of}
 use Rattle.kb_metrics.specs.Gauges.{groups_at, groups_in, lag_of, topic_lag}
 use Rattle.kb_metrics.specs.Rows.{Lag, lag_row}
-use Rattle.kb_metrics.specs.Slots.{AreKept, lag_among, lag_row_among, slot_at, slot_of}
+use Rattle.kb_metrics.specs.Slots.{AreCommitted, lag_among, lag_row_among, slot_at, slot_of}
 use Rattle.kb_metrics.proofs.Lags.{among_slots}
 use Rattle.kb_metrics.proofs.Steps.{map_alike, on_ok}
 use Rattle.kb_metrics.proofs.gather.push_topic_lags.Goals as goal
@@ -18,8 +18,8 @@ slots-requires g c =
 
 pub push_lags-requires : goal.push_lags-requires
 push_lags-requires g c =
-    subst (λ gs. All (AreKept (map (λ n. n.now) gs)) c.deref-2.result.now) (c.deref.ensures.value ∙ sym c.deref-3.ensures.value)
-    (subst (All (AreKept (map (λ n. n.now) c.deref.result.now))) (sym c.deref-2.ensures.value) c.in_ok-slots.ensures.kept)
+    subst (λ gs. All (AreCommitted (map (λ n. n.now) gs)) c.deref-2.result.now) (c.deref.ensures.value ∙ sym c.deref-3.ensures.value)
+    (subst (All (AreCommitted (map (λ n. n.now) c.deref.result.now))) (sym c.deref-2.ensures.value) c.in_ok-slots.ensures.kept)
 
 pub returns : goal.returns
 returns g c =

@@ -5,7 +5,7 @@ use Rattle.std.proofs.lemmas.List.Elements.{All-push}
 use Rattle.kb_topics.specs.Known.{PartitionState}
 use Rattle.kb_tenant_state.specs.Calls.{end_of, numbered}
 use Rattle.kb_tenant_state.specs.Parts.{world_of}
-use Rattle.kb_metrics.specs.Slots.{AreKept, slot_at, slot_of}
+use Rattle.kb_metrics.specs.Slots.{AreCommitted, slot_at, slot_of}
 use Rattle.kb_metrics.proofs.Steps.{row_of_number}
 use Rattle.kb_metrics.proofs.lag.slots.Goals as goal
 
@@ -19,8 +19,8 @@ loop-number-preserved g c = record {
       row_of_number slot_of (slot_at w c.args.instance) c.loop-number.slots.items c.push.new.self.items n _ (c.loop-number.invariant.seen files)
       c.in_ok-push.ensures.items
       (ap (λ e. make e (option_copied c.partition_in-partition.result)) (c.end.ensures files) ∙ ap (make (end_of w (numbered c.args.instance n))) known);
-  kept = subst (All (AreKept (map (λ g. g.now) c.args.groups.now))) (sym c.in_ok-push.ensures.items)
-      (All-push (AreKept (map (λ g. g.now) c.args.groups.now)) c.loop-number.slots.items _ c.loop-number.invariant.kept c.in_ok-offsets_in.ensures);
+  kept = subst (All (AreCommitted (map (λ g. g.now) c.args.groups.now))) (sym c.in_ok-push.ensures.items)
+      (All-push (AreCommitted (map (λ g. g.now) c.args.groups.now)) c.loop-number.slots.items _ c.loop-number.invariant.kept c.in_ok-offsets_in.ensures);
 }
 
 pub returns-clause-seen : goal.returns-clause-seen

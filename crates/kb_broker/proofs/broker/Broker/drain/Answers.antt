@@ -4,7 +4,7 @@ use Rattle.std.proofs.lemmas.List.{map_push, take_more}
 use Rattle.kb_isolation_spec.specs.Machine.{sent}
 use Rattle.kb_broker.specs.Runs.{sent_of}
 use Rattle.kb_broker.specs.declared.run.Written.{Written}
-use Rattle.kb_isolation_spec.specs.Calls.{taken}
+use Rattle.kb_isolation_spec.specs.Calls.{output_taken}
 use Rattle.kb_broker.proofs.RunDrain.{drained_to, drained-at, drained-more, drained-sent}
 use Rattle.kb_isolation_spec.specs.Broker.{BrokerState}
 use Rattle.kb_broker.proofs.Honest.{state-is, store-is, strays-is}
@@ -31,7 +31,7 @@ loop-i-preserved g c =
     sym (ap (map sent) (take_more old.lines i l lt) ∙ (ap (λ k. map sent (take i old.lines ++ k ∷ [])) (sym a.here) ∙ map_push sent (take i old.lines) l)) in
     record {
       end = v.end;
-      state = then-state c.args.self.now c.loop-i.self c.take_output-bytes.new.self (drained_to i old) (drained_to (i + 1) old) (taken b c.number-conn.result) v.state c.take_output-bytes.ensures.state
+      state = then-state c.args.self.now c.loop-i.self c.take_output-bytes.new.self (drained_to i old) (drained_to (i + 1) old) (output_taken b c.number-conn.result) v.state c.take_output-bytes.ensures.state
           (rw add-one (drained-more b old i c.number-conn.result l rising a c.number-conn.ensures state));
       written = ap (map sent_of) c.push_reserved.ensures.items
           ∙ (map_push sent_of c.loop-i.written.items w

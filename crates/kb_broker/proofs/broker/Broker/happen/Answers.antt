@@ -4,7 +4,7 @@ use Rattle.std.proofs.lemmas.List.{map_push, append-nil}
 use Rattle.kb_isolation_spec.specs.declared.shut.Shut.TheVariants as causes
 use Rattle.kb_isolation_spec.specs.Machine.{Sent, Comes}
 use Rattle.kb_isolation_spec.specs.Broker.{IsStep}
-use Rattle.kb_isolation_spec.specs.Calls.{IsRefused, opened}
+use Rattle.kb_isolation_spec.specs.Calls.{IsRefusedUnbound, opened}
 use Rattle.kb_broker.specs.Hosts.{is_honest, IsLaterBy, StepsTo}
 use Rattle.kb_broker.specs.Truth.{SpeaksAt}
 use Rattle.kb_broker.specs.Runs.{sent_of, unkept}
@@ -21,7 +21,7 @@ returns-then-is_err-clause-passed g c =
     let w : Written = record { conn = n; bytes = c.new.result; shut = true; why = Some causes.Memory } in
     let ws = c.args.written.now.items in
     let added = ap (map sent_of) c.push_reserved.ensures.items ∙ (map_push sent_of ws w ∙ ap (λ b. map sent_of ws ++ (let s : Sent = record { number = n; bytes = b; shut = true; why = Some causes.Memory } in s) ∷ []) c.new.ensures.items) in
-    let refused = when_err c.connect.result (IsRefused old new) (sym c.is_err.ensures.value ∙ c.if-is_err.true) c.connect.ensures.err in
+    let refused = when_err c.connect.result (IsRefusedUnbound old new) (sym c.is_err.ensures.value ∙ c.if-is_err.true) c.connect.ensures.err in
     rw c.in-Open.is (unkept n ∷ [], added, record { step = c.connect.ensures.step; leads = inr (refused, refl) })
 
 pub returns-else-is_err-clause-passed : goal.returns-else-is_err-clause-passed

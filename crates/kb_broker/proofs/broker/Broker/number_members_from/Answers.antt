@@ -3,7 +3,7 @@ use Rattle.kb_isolation_spec.specs.Stranded.{NoneStranded}
 use Rattle.kb_tenant_api.specs.Hosted.{TenantState}
 use Rattle.kb_tenants.specs.Members.{HaveNoGroup}
 use Rattle.kb_broker.specs.Hosts.{OnStore}
-use Rattle.kb_broker.specs.Members.{numbered_from}
+use Rattle.kb_broker.specs.Members.{broker_numbered_from}
 use Rattle.kb_broker.proofs.Members.{numbered-held, numbered-ready}
 use Rattle.kb_broker.proofs.broker.Broker.number_members_from.Goals as goal
 
@@ -26,7 +26,7 @@ returns-clause-ready g c =
 
 pub returns-clause-state : goal.returns-clause-state
 returns-clause-state g c =
-    c.number_members_from.ensures ∙ ap (λ (x : OnStore g.row.S.Denot). record x { state = numbered_from c.args.first x.state }) c.self.view_is
+    c.number_members_from.ensures ∙ ap (λ (x : OnStore g.row.S.Denot). record x { state = broker_numbered_from c.args.first x.state }) c.self.view_is
 
 pub returns-clause-held : goal.returns-clause-held
 returns-clause-held g c = λ h.

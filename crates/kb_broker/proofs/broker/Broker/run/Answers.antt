@@ -16,7 +16,7 @@ use Rattle.kb_isolation_spec.proofs.Stranded.{stranded-emptied}
 use Rattle.kb_broker.specs.declared.run.Written.{Written}
 use Rattle.kb_broker.specs.Hosts.{is_honest, IsLaterBy}
 use Rattle.kb_broker.specs.Truth.{SpeaksAt, SpeaksThrough}
-use Rattle.kb_broker.specs.Runs.{happening_of, happenings, sent_of, connections_of, Passes}
+use Rattle.kb_broker.specs.Runs.{happening_of, happenings, sent_of, connections_of, PassesEvents}
 use Rattle.kb_broker.proofs.Honest.{counts-is, later-after, later-is, ready-of, state-is, store-is, strays-is}
 use Rattle.kb_isolation_spec.proofs.Greetings.{unowned-greets}
 use Rattle.kb_broker.proofs.RunLast.{told-passes}
@@ -100,7 +100,7 @@ drained-later g c = later-is g.S.Store.disk (SpeaksThrough []) c.loop-event.self
     (state-is _ _ c.drain.ensures.state)
 
 -- the whole history, and the order of its list
-whole : (g : given.Over) (c : goal.After-sort_unstable_by_key g) → Passes (is_honest g.S.Store.disk c.drain.new.self) (happenings c.args.events.now) c.args.self.now.state c.drain.new.self.state (map sent_of c.drain.new.written.items)
+whole : (g : given.Over) (c : goal.After-sort_unstable_by_key g) → PassesEvents (is_honest g.S.Store.disk c.drain.new.self) (happenings c.args.events.now) c.args.self.now.state c.drain.new.self.state (map sent_of c.drain.new.written.items)
 whole g c =
     let disk = g.S.Store.disk in
     let here = c.loop-event.self in
@@ -110,8 +110,8 @@ whole g c =
     let truthful = is_honest disk end in
     let all = c.args.events.now in
     let none : happenings (drop c.loop-event.event-index all) ≡ [] = ap happenings (drop_all c.loop-event.event-index all (omega arith)) in
-    let last : Passes truthful (happenings (drop c.loop-event.event-index all)) b new (map sent b.lines) = subst (λ es. Passes truthful es b new (map sent b.lines)) (sym none) (state-is _ _ c.drain.ensures.state, refl) in
-    subst (Passes truthful (happenings all) c.args.self.now.state new) (sym c.drain.ensures.written) (c.loop-event.invariant.passes end.store (drained-later g c).honest new (map sent b.lines) last)
+    let last : PassesEvents truthful (happenings (drop c.loop-event.event-index all)) b new (map sent b.lines) = subst (λ es. PassesEvents truthful es b new (map sent b.lines)) (sym none) (state-is _ _ c.drain.ensures.state, refl) in
+    subst (PassesEvents truthful (happenings all) c.args.self.now.state new) (sym c.drain.ensures.written) (c.loop-event.invariant.passes end.store (drained-later g c).honest new (map sent b.lines) last)
 
 in_order : (g : given.Over) (c : goal.After-sort_unstable_by_key g) → IsOrdered (connections_of (happenings c.args.events.now) c.args.self.now.state) (map sent_of c.drain.new.written.items) (map sent_of c.sort_unstable_by_key.new.self.items)
 in_order g c =

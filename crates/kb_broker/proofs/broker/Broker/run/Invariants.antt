@@ -1,6 +1,6 @@
 use Rattle.std.proofs.Common.{◌+◌, ◌≤◌, length, drop, vec_len, vec_capacity}
 use Rattle.std.specs.Prelude.{map}
-use Rattle.kb_isolation_spec.specs.Broker.{IsRun}
+use Rattle.kb_isolation_spec.specs.Broker.{IsEventRun}
 use Rattle.kb_isolation_spec.specs.Stranded.{NoneStranded}
 use Rattle.kb_broker.specs.Hosts.{OnStore, is_honest, IsLaterBy, IsReadyOn}
 use Rattle.kb_broker.specs.Truth.{SpeaksThrough}
@@ -15,7 +15,7 @@ invariant-loop-event g l = record {
   later : (end : OnStore g.row.S.Denot) → IsLaterBy g.S.Store.disk (SpeaksThrough (happenings (drop l.event-index l.events))) l.self end
       → IsLaterBy g.S.Store.disk (SpeaksThrough (happenings l.events)) l.fn.self end;
   held : is_honest g.S.Store.disk l.self → NoneStranded l.fn.self.state → NoneStranded l.self.state;
-  rises : IsRun l.self.state.last (happenings (drop l.event-index l.events));
+  rises : IsEventRun l.self.state.last (happenings (drop l.event-index l.events));
   room : vec_len l.written + length (connections_of (happenings (drop l.event-index l.events)) l.self.state) ≤ vec_capacity l.written;
   passes : Continues g.S.Store.disk (happenings l.events) (happenings (drop l.event-index l.events)) l.fn.self l.self (map sent_of l.written.items);
 }

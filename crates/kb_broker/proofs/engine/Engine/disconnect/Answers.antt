@@ -1,6 +1,6 @@
 use Rattle.std.proofs.Common.{◌≡◌, ◌<◌, List, arith, get_or, length, refl, sym, ◌∙◌, ap, subst}
 use Rattle.std.specs.FinMap as fin
-use Rattle.kb_isolation_spec.specs.Session.{fresh}
+use Rattle.kb_isolation_spec.specs.Session.{new_session}
 use Rattle.kb_isolation_spec.specs.Machine.{Line}
 use Rattle.kb_isolation_spec.specs.RequestLimits.{HaveLimit}
 use Rattle.kb_isolation_spec.specs.Broker.{BrokerState, Rising}
@@ -25,7 +25,7 @@ gone g c = left-found _ c.leave.new.self.state c.args.self.now.state c.in-Some.i
 
 pub note-requires : goal.note-requires
 note-requires g c =
-    let d : Line = record { number = 0; session = fresh 0 } in
+    let d : Line = record { number = 0; session = new_session 0 } in
     let b = c.args.self.now.state in
     let i = c.in-Some.i in
     let ls = c.self.inside.connections.items in
@@ -38,7 +38,7 @@ note-requires g c =
 
 pub remove-requires : goal.remove-requires
 remove-requires g c =
-    let d : Line = record { number = 0; session = fresh 0 } in
+    let d : Line = record { number = 0; session = new_session 0 } in
     let same : length c.self.inside.connections.items ≡ length c.args.self.now.state.lines = ap (λ (x : BrokerState). length x.lines) (state-is _ _ c.self.view_is ∙ c.leave.ensures.state d) in
     omega (arith, c.in-Some.ensures.within, same, c.self.inside.connections.ok.0)
 

@@ -2,7 +2,7 @@ use Rattle.std.proofs.Common.{◌≡◌, ◌∙◌, drop, refl, sym, ap, subst}
 use Rattle.kb_store.specs.Disk.{Keeps}
 use Rattle.kb_store.specs.Loss.{Clears, Goes, Same}
 use Rattle.kb_store.specs.LossLaws.{cleared_not, stays_goes}
-use Rattle.kb_durable.specs.Waiting.{without}
+use Rattle.kb_durable.specs.Waiting.{without_keys}
 use Rattle.kb_durable.proofs.Lost.{same_then}
 use Rattle.kb_durable.proofs.Run.{loss_after, trims_after, trims_flushed, trims_left}
 use Rattle.kb_durable.proofs.durable.DurableStoreStore.sync.Goals as goal
@@ -10,11 +10,11 @@ use Rattle.kb_durable.proofs.durable.DurableStoreStore.sync.Goals as goal
 pub returns-then-not-is_changed-clause-synced : goal.returns-then-not-is_changed-clause-synced
 returns-then-not-is_changed-clause-synced g c settled h found left =
     c.is_changed.ensures.synced c.if-not-is_changed.true settled.1 h found left
-    ∙ sym (ap (λ l. without l (g.S.Store.disk c.args.self.now.store).files) settled.0)
+    ∙ sym (ap (λ l. without_keys l (g.S.Store.disk c.args.self.now.store).files) settled.0)
 
 pub returns-then-not-is_changed-clause-loss : goal.returns-then-not-is_changed-clause-loss
 returns-then-not-is_changed-clause-loss g c =
-    let t = without c.args.self.now.waiting (g.S.Store.disk c.args.self.now.store).table in
+    let t = without_keys c.args.self.now.waiting (g.S.Store.disk c.args.self.now.store).table in
     stays_goes (Clears t) (cleared_not t) (g.S.Store.loss c.args.self.now.store)
 
 pub returns-then-not-is_changed-clause-prompt : goal.returns-then-not-is_changed-clause-prompt
@@ -32,7 +32,7 @@ returns-then-not-is_changed-clause-first g c =
 
 pub returns-in_err-flush-clause-loss : goal.returns-in_err-flush-clause-loss
 returns-in_err-flush-clause-loss g c =
-    let t = without c.args.self.now.waiting (g.S.Store.disk c.args.self.now.store).table in
+    let t = without_keys c.args.self.now.waiting (g.S.Store.disk c.args.self.now.store).table in
     let l = g.S.Store.loss c.args.self.now.store in
     let m = g.S.Store.loss c.flush.new.self.store in
     same_then (Clears t) l m m (cleared_not t) c.in_err-flush.ensures.loss (stays_goes (Clears t) (cleared_not t) m)
@@ -50,7 +50,7 @@ returns-in_err-flush-clause-trims g c =
 
 pub returns-then-is_empty-clause-loss : goal.returns-then-is_empty-clause-loss
 returns-then-is_empty-clause-loss g c =
-    let t = without c.args.self.now.waiting (g.S.Store.disk c.args.self.now.store).table in
+    let t = without_keys c.args.self.now.waiting (g.S.Store.disk c.args.self.now.store).table in
     let l = g.S.Store.loss c.args.self.now.store in
     let m = g.S.Store.loss c.flush.new.self.store in
     same_then (Clears t) l m m (cleared_not t) c.in_ok-flush.ensures.loss (stays_goes (Clears t) (cleared_not t) m)

@@ -22,8 +22,9 @@ use Rattle.kb_producers.specs.Batches.{kept_all}
 use Rattle.kb_tenant_state.specs.OneLog.{StaysTold}
 use Rattle.kb_tenant_state.specs.Logs.{LogState, log_at, with_log, put_log}
 use Rattle.kb_tenant_state.specs.Partitions.{Entries, Owned, AreSound, AreNamed, AreStarted, Restarts, partition_at, partition_identity, places_of, log_state, logs_of, scene_on}
-use Rattle.kb_tenant_state.specs.Scene.{Frame, Settles}
+use Rattle.kb_tenant_state.specs.Scene.{Frame, Settles, WritesOwn}
 use Rattle.kb_tenant_state.specs.declared.partition.Partition.{Partition}
+use Rattle.kb_tenant_state.proofs.Left.{strays_writes}
 use Rattle.kb_tenant_state.proofs.Put.{cases, found_put, get_here, get_kept, get_put, own_number, same_number, map_same, map_put, put_same, lookup_put, values_put}
 
 -- the partition at a place becomes another
@@ -184,6 +185,12 @@ module _ {L : Type 0} (es es' : Entries L) (i p : ℕ) (x x' : Partition L) (c :
       };
     }
 
+    -- where it is written
+    pub changed_writes : WritesOwn (scene_on log es d next) (scene_on log es' d' next')
+    changed_writes =
+        strays_writes (scene_on log es d next) (scene_on log es' d' next') (log x.log).owns (log x'.log).owns
+        (λ file own. record { instance = i; number = p; partition = x'; at = new_at; own = own }) frames.strays
+
     -- each log is still the one that it was
     pub changed_named : (tenant : List ℕ) (size : ℕ) → AreNamed log tenant size es → AreNamed log tenant size es'
     changed_named tenant size named =
@@ -219,6 +226,7 @@ module _ {L : Type 0} (es es' : Entries L) (i p : ℕ) (x x' : Partition L) (c :
                 frames.others.lengths file ((law y.log).given_out d.table next (sound.each j q y at) file mine) (λ theirs. sound.apart j q i p y x at old_at ne file mine theirs)),
             old.1,
           ));
+      writes = changed_writes;
     }
 
     same_state : d'.honest → (j q : ℕ) (y : Partition L) → partition_at j q es ≡ Some y → ((j ≡ i) × (q ≡ p) → ⊥) → log_state (log y.log) d'.files ≡ log_state (log y.log) d.files
@@ -258,10 +266,15 @@ frame_same {L} log es es' d next e sound = subst (λ (fs : Entries L). Frame (sc
   agrees = λ honest agree. agree;
 })
 
+-- no file is another, whatever the entries are
+pub writes_same : {L : Type 0} (log : L → Log) (es es' : Entries L) (d : Disk) (next : ℕ) → WritesOwn (scene_on log es d next) (scene_on log es' d next)
+writes_same log es es' d next honest file there not some = (there, refl)
+
 pub settles_same : {L : Type 0} (log : L → Log) (es es' : Entries L) (d : Disk) (next : ℕ) → es' ≡ es → Settles (scene_on log es d next) (scene_on log es' d next)
 settles_same {L} log es es' d next e = subst (λ (fs : Entries L). Settles (scene_on log es d next) (scene_on log fs d next)) (sym e) (record {
   accounts = λ file there not. (there, not);
   exact = λ exact. exact;
+  writes = λ honest file there not some. (there, refl);
 })
 
 pub named_same : {L : Type 0} (log : L → Log) (es es' : Entries L) (tenant : List ℕ) (size : ℕ) → es' ≡ es → AreNamed log tenant size es → AreNamed log tenant size es'

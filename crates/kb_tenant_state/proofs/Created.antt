@@ -27,6 +27,7 @@ use Rattle.kb_tenant_state.specs.Stored.{up_to_end}
 use Rattle.kb_tenant_state.specs.Tied.{counted, partition_count}
 use Rattle.kb_tenant_state.specs.declared.parts.Parts.{Parts}
 use Rattle.kb_tenant_state.proofs.StillKept.{kept_created}
+use Rattle.kb_tenant_state.proofs.Left.{own_leaves, strays_writes}
 use Rattle.kb_tenant_state.proofs.Moves.{IsMove, as_step}
 use Rattle.kb_tenant_state.proofs.Recorded.{Resume, on_shelf}
 use Rattle.kb_tenant_state.proofs.Spared as spared
@@ -134,6 +135,12 @@ module _ {L : Type 0} (log : L → Log) (law : (l : L) → IsLawfulLog (log l)) 
     grows = omega arith;
     commands = omega (arith, longer);
     creates = omega (arith, more);
+    wrote = λ file bytes had. had;
+    leaves = λ honest agree.
+        let new = record p { catalog = changed; partitions = ps } in
+        own_leaves log p new d d' next next' refl (ap (λ (i : Identity). i.tenant) sound.catalog_named) sound.logs_named
+        (strays_writes (parts.scene_on log p d next) (parts.scene_on log new d' next') (meta log p).owns (log (meta_log changed)).owns (λ file own. inl own) frames.strays)
+        honest agree.catalog agree.logs;
   }
 
   create_settles : one.Settles (on_shelf (meta log p) d next) (on_shelf (log (meta_log changed)) d' next') → Settles (parts.scene_on log p d next) (parts.scene_on log (record p { catalog = changed; partitions = ps }) d' next')
@@ -142,6 +149,9 @@ module _ {L : Type 0} (log : L → Log) (law : (l : L) → IsLawfulLog (log l)) 
         let before = settles.accounts file there (λ own. not (inl own)) in
         (before.0, λ own. ⊎_elim (λ mine. before.1 mine) (λ theirs. not (inr (made.owned_old file theirs))) own);
     exact = λ exact. (settles.exact exact.0, spared.spared_exact log law ps.topics.entries d d' next next' (made.sound d.table next sound.logs) frames.others.later lengths contents (made.exact d.table exact.1));
+    writes =
+        let new = record p { catalog = changed; partitions = ps } in
+        strays_writes (parts.scene_on log p d next) (parts.scene_on log new d' next') (meta log p).owns (log (meta_log changed)).owns (λ file own. inl own) frames.strays;
   }
 
   pub create_step : (AreNamed log (string_bytes p.tenant) p.segment_bytes (entries p) → AreNamed log (string_bytes p.tenant) p.segment_bytes ps.topics.entries)

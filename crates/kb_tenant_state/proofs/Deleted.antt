@@ -21,7 +21,7 @@ use Rattle.kb_topics.specs.Known.{Known, named, topic_at, without_topic, step}
 use Rattle.kb_topics.specs.declared.command.Command.TheVariants as commands
 use Rattle.kb_tenant_state.specs.Logs.{without_logs}
 use Rattle.kb_tenant_state.specs.Partitions.{Agree, AreStarted, Entries, IsUnmade, logs_of, partition_at, places_of, scene_on}
-use Rattle.kb_tenant_state.specs.Scene.{Frame, Settles, WhereHonest}
+use Rattle.kb_tenant_state.specs.Scene.{Frame, Settles, WhereHonest, WritesOwn}
 use Rattle.kb_tenant_state.specs.Gone.{Went, stored_without}
 use Rattle.kb_tenant_state.specs.Stored.{bytes_in_all}
 use Rattle.kb_tenant_state.specs.declared.partition.Partition.{Partition}
@@ -95,6 +95,7 @@ module _ {L : Type 0} (log : L → Log) (law : (l : L) → IsLawfulLog (log l)) 
 
   module _ (ps : Partitions L) (e : Disk) (last : ℕ) (places : places_of ps.topics.entries ≡ remove_entry (is_at (nat_cmp i)) (places_of (entries old)))
       (frame : Frame (scene_on log (entries old) d' next') (scene_on log ps.topics.entries e last))
+      (writes : WritesOwn (scene_on log (entries old) d' next') (scene_on log ps.topics.entries e last))
       (removed : WhereHonest (scene_on log (entries old) d' next') (scene_on log ps.topics.entries e last) (logs_of log ps.topics.entries e.files ≡ without_logs i (logs_of log (entries old) d'.files))) where
     tied : places_of ps.topics.entries ≡ counted partition_count (known changed).topics
     tied =
@@ -114,7 +115,7 @@ module _ {L : Type 0} (log : L → Log) (law : (l : L) → IsLawfulLog (log l)) 
         move_then (parts.scene_on log old d next) (untied_on log (recorded_start (known old.catalog)) (record old { catalog = changed }) d' next') (parts.scene_on log (record old { catalog = changed; partitions = ps; stored = stored_without bytes old.stored; offsets = o; texts = t }) e last) recorded
         (parts_move log law (recorded_start (known old.catalog)) (record old { catalog = changed }) (record old { catalog = changed; partitions = ps; stored = stored_without bytes old.stored; offsets = o; texts = t }) d' e next' last refl (refl, refl) named
         (still_unmade i (entries old) ps.topics.entries sound.logs.ordered places) (still_small i (entries old) ps.topics.entries sound.logs.ordered places) (omega arith) tied
-        recorded.frame.sound frame (λ honest agree. still (starts (recorded_start (known old.catalog)) agree.started))
+        recorded.frame.sound frame writes (λ honest agree. still (starts (recorded_start (known old.catalog)) agree.started))
         (λ honest agree. kept_deleted old.next_retention_time (world_of log (record old { catalog = changed }) d'.files) (world_of log (record old { catalog = changed; partitions = ps }) e.files) i gone
         (as_before (known changed) (known changed) refl) (removed honest agree.logs) agree.until)
         counts (λ honest agree. told_went old.stored bytes (logs_of log (entries old) d'.files) (logs_of log ps.topics.entries e.files) e.honest (Agree log (entries old) d'.files) lost honest agree.logs agree.stored))
@@ -127,7 +128,7 @@ module _ {L : Type 0} (log : L → Log) (law : (l : L) → IsLawfulLog (log l)) 
         let mid = record old { catalog = changed } in
         let last_of = record old { catalog = changed; partitions = ps; stored = stored_without bytes old.stored; offsets = o; texts = t } in
         as_step (parts.scene_on log old d next) (parts.scene_on log last_of e last) (delete_move bytes lost o t counts named starts) (λ calm.
-        settles_then (parts.scene_on log old d next) (parts.scene_on log mid d' next') (parts.scene_on log last_of e last)
+        settles_then (parts.scene_on log old d next) (parts.scene_on log mid d' next') (parts.scene_on log last_of e last) frame.others.honest
         (⊎_elim (λ bad. absurd bad) (catalog_settles log law old changed d d' next next' sound frames old.offsets old.texts) settled)
         (parts_settle log law mid last_of d' e next' last refl recorded.frame.sound frame settles))
 

@@ -1,6 +1,6 @@
 -- The logs of a topic are discarded one after another, the last one first.
-use Rattle.std.proofs.Common.{◌≡◌, ◌∙◌, ◌⊎◌, ◌≤◌, ◌<◌, ◌+◌, ◌-◌, ◌^◌, ◌++◌, inl, inr, ⊎_elim, ℕ, zero, suc, true, false, List, [], ◌∷◌, Some, None, refl, subst, arith, length, min}
-use Rattle.std.specs.Prelude.{slice_get, Result, Ok, Err, OnOk, is_ok}
+use Rattle.std.proofs.Common.{◌≡◌, ◌∙◌, ◌⊎◌, ◌≤◌, ◌<◌, ◌+◌, ◌-◌, ◌^◌, ◌++◌, inl, inr, ⊎_elim, ℕ, zero, suc, true, false, List, [], ◌∷◌, Option, Some, None, refl, subst, arith, length, min}
+use Rattle.std.specs.Prelude.{slice_get, IsSome, Result, Ok, Err, OnOk, is_ok}
 use Rattle.std.specs.FinMap.{get}
 use Rattle.std.proofs.Math.Nat.{min-le_left, min-le_right, le-min}
 use Rattle.std.proofs.lemmas.Option.{slice_get_within}
@@ -8,7 +8,7 @@ use Rattle.std.proofs.lemmas.Result.{on_ok_weaker}
 use Rattle.kb_store.specs.Disk.{Disk, HasCause}
 use Rattle.kb_store.specs.declared.fault.StoreFault.{StoreFault}
 use Rattle.kb_log.specs.Apart.{other_stays}
-use Rattle.kb_log.specs.OnShelf.{Log, Accounts, Spares, IsLawfulLog, no_file}
+use Rattle.kb_log.specs.OnShelf.{Log, Accounts, OnlyRemoves, Spares, IsLawfulLog, no_file}
 use Rattle.kb_tenant_state.specs.Topic.{AreApartLogs, OwnedAmong}
 use Rattle.kb_tenant_state.specs.declared.partition.Partition.{Partition}
 use Rattle.kb_tenant_state.proofs.Put.{get_either}
@@ -66,7 +66,16 @@ pub record Discarding {L : Type 0} (log : L → Log) (all left : List (Partition
   pub others : Spares (OwnedAmong log all) no_file first now next next'
   pub gone : OnOk r ((file : ℕ) → OwnedAmong log all file → ((get now.table file ≡ None) × (OwnedAmong log left file → ⊥)) ⊎ OwnedAmong log left file)
   pub accounts : OnOk r (Accounts (OwnedAmong log all) (OwnedAmong log left) first now)
+  pub removes : OnlyRemoves first now
   pub cause : HasCause first r now
+
+-- files alone are removed, and then others
+removes_then : (a b c : Disk) → (c.honest → b.honest) → OnlyRemoves a b → OnlyRemoves b c → OnlyRemoves a c
+removes_then a b c before p q = record {
+  lengths = λ file there. let same = q.lengths file there in
+      same ∙ p.lengths file (subst (λ (n : Option ℕ). IsSome n) same there);
+  contents = λ honest file there. q.contents honest file there ∙ p.contents (before honest) file (subst (λ (n : Option ℕ). IsSome n) (q.lengths file there) there);
+}
 
 pub all_left : {L : Type 0} (log : L → Log) (all : List (Partition L)) (d : Disk) (next : ℕ) → AreApartLogs log all d.table next → Discarding log all all d d next next (Ok tt)
 all_left log all d next sound = record {
@@ -81,6 +90,7 @@ all_left log all d next sound = record {
   };
   gone = λ file o. inr o;
   accounts = λ file there not. (there, not);
+  removes = record { lengths = λ file there. refl; contents = λ honest file there. refl };
   cause = record { later = omega arith; device = λ e. absurd cc };
 }
 
@@ -105,7 +115,7 @@ module _ {L : Type 0} (log : L → Log) (law : (l : L) → IsLawfulLog (log l)) 
     (first now now' : Disk) (next next' next'' : ℕ) (r s : Result (Unit {0}) StoreFault)
     (begun : AreApartLogs log all first.table next) (so_far : Discarding log all (left ++ x ∷ []) first now next next' r)
     (others : Spares (log x.log).owns no_file now now' next' next'')
-    (gone : OnOk s ((file : ℕ) → (log x.log).owns file → get now'.table file ≡ None)) (accounts : OnOk s (Accounts (log x.log).owns no_file now now')) (cause : HasCause now s now') where
+    (gone : OnOk s ((file : ℕ) → (log x.log).owns file → get now'.table file ≡ None)) (accounts : OnOk s (Accounts (log x.log).owns no_file now now')) (removes : OnlyRemoves now now') (cause : HasCause now s now') where
   last_owns : (file : ℕ) → (log x.log).owns file → OwnedAmong log (left ++ x ∷ []) file
   last_owns file own = record { number = length left; partition = x; at = get_last left x; own = own }
 
@@ -170,6 +180,7 @@ module _ {L : Type 0} (log : L → Log) (law : (l : L) → IsLawfulLog (log l)) 
     others = taken;
     gone = on_ok_weaker s (λ here. gone_now (subst (λ (a : Result (Unit {0}) StoreFault). OnOk a ((file : ℕ) → OwnedAmong log all file → ((get now.table file ≡ None) × (OwnedAmong log (left ++ x ∷ []) file → ⊥)) ⊎ OwnedAmong log (left ++ x ∷ []) file)) (answered r e) so_far.gone) here) gone;
     accounts = on_ok_weaker s (accounts_now (subst (λ (a : Result (Unit {0}) StoreFault). OnOk a (Accounts (OwnedAmong log all) (OwnedAmong log (left ++ x ∷ [])) first now)) (answered r e) so_far.accounts)) accounts;
+    removes = removes_then first now now' others.honest so_far.removes removes;
     cause = later_cause first now now' s so_far.cause.later cause;
   }
 
@@ -181,5 +192,6 @@ module _ {L : Type 0} (log : L → Log) (law : (l : L) → IsLawfulLog (log l)) 
     others = taken;
     gone = was_refused _ r e;
     accounts = was_refused _ r e;
+    removes = removes_then first now now' others.honest so_far.removes removes;
     cause = kept_cause first now now' r so_far.cause cause.later;
   }

@@ -12,6 +12,7 @@ pub mod Gone
 pub mod GroupDeleted
 pub mod Issued
 pub mod KeptEach
+pub mod Left
 pub mod Lifted
 pub mod Made
 pub mod Moves

@@ -8,14 +8,14 @@ use Rattle.std.specs.Map.{lookup}
 use Rattle.std.specs.BTreeMap.{is_at}
 use Rattle.kb_store.specs.Disk.{Disk, Keeps}
 use Rattle.kb_batch.specs.Batch.{natural}
-use Rattle.kb_log.specs.OnShelf.{Log, IsLawfulLog}
+use Rattle.kb_log.specs.OnShelf.{Identity, Log, IsLawfulLog}
 use Rattle.kb_topics.specs.MetaLog.{IsFoldOf}
 use Rattle.kb_topics.specs.Catalog.{known, meta_log}
 use Rattle.kb_topics.specs.declared.catalog.Catalog.{Catalog}
 use Rattle.kb_topics.specs.CatalogFault.{IsWant}
 use Rattle.kb_tenant_state.specs.PartitionCalls.{IsRefusedWant, Same}
 use Rattle.kb_tenant_state.specs.Partitions.{Entries, Owned, AreSound, AreExact, AreNamed, AreStarted, Agree, IsUnmade, logs_of, scene_on, places_of}
-use Rattle.kb_tenant_state.specs.Scene.{Scene, Frame, Settles}
+use Rattle.kb_tenant_state.specs.Scene.{Scene, Frame, Settles, WritesOwn}
 use Rattle.kb_tenant_state.specs.declared.fault.PartitionFault.{PartitionFault}
 use Rattle.kb_tenant_state.specs.declared.fault.PartitionFault.TheVariants as partition
 use Rattle.kb_topics.specs.declared.fault.CatalogFault.{CatalogFault}
@@ -28,6 +28,7 @@ use Rattle.kb_tenant_state.specs.Counts.{END, IsCalm}
 use Rattle.kb_tenant_state.specs.Steps.{IsStep, Meets, calm_then}
 use Rattle.kb_tenant_state.specs.Tied.{counted, partition_count}
 use Rattle.kb_tenant_state.specs.declared.parts.Parts.{Parts}
+use Rattle.kb_tenant_state.proofs.Left.{keeps_writes, own_leaves, wrote_as}
 use Rattle.kb_tenant_state.proofs.Moves.{IsMove, as_move, as_step}
 use Rattle.kb_tenant_state.proofs.StillKept.{as_before, kept_by}
 use Rattle.kb_tenant_state.proofs.Sums.{still_told}
@@ -48,12 +49,12 @@ pub parts_move : {L : Type 0} (log : L → Log) (law : (l : L) → IsLawfulLog (
     → ((i : ℕ) → IsUnmade i (entries p) → IsUnmade i (entries p'))
     → ((i n : ℕ) → lookup (is_at (nat_cmp i)) (places_of (entries p')) ≡ Some n → lookup (is_at (nat_cmp i)) (places_of (entries p)) ≡ Some n) → p.refusals ≤ p'.refusals
     → places_of (entries p') ≡ counted partition_count (known p'.catalog).topics
-    → IsUntied log p d.table next → Frame (scene_on log (entries p) d next) (scene_on log (entries p') d' next')
+    → IsUntied log p d.table next → Frame (scene_on log (entries p) d next) (scene_on log (entries p') d' next') → WritesOwn (scene_on log (entries p) d next) (scene_on log (entries p') d' next')
     → (d'.honest → AgreesBy log recorded p d.files → AreStarted log (recorded_start (known p'.catalog)) (entries p'))
     → (d'.honest → AgreesBy log recorded p d.files → AreAllKept p'.next_retention_time (world_of log p' d'.files))
     → AreCounted p' → (d'.honest → AgreesBy log recorded p d.files → IsTold p'.stored (up_to_end (stored_in (world_of log p' d'.files))))
     → IsMove (untied_on log recorded p d next) (parts.scene_on log p' d' next')
-parts_move {L} log law recorded p p' d d' next next' catalog of named unmade small grows tied sound frame started until counts stored =
+parts_move {L} log law recorded p p' d d' next next' catalog of named unmade small grows tied sound frame writes started until counts stored =
     let m = meta log p in
     let lawful : IsLawfulLog m = law (meta_log p.catalog) in
     let same : meta log p' ≡ m = ap (λ c. log (meta_log c)) catalog in
@@ -105,6 +106,10 @@ parts_move {L} log law recorded p p' d d' next next' catalog of named unmade sma
       grows = grows;
       commands = let ends : (meta log p').end ≡ m.end = ap (λ (l : Log). l.end) same in omega (arith, ends);
       creates = let made = ap (λ c. (known c).creates) catalog in omega (arith, made);
+      wrote = wrote_as log p p' of.0;
+      leaves = λ honest agree.
+          own_leaves log p p' d d' next next' of.0 (ap (λ (i : Identity). i.tenant) sound.catalog_named) sound.logs_named
+          (λ h file there not some. writes h file there (λ theirs. not (inr theirs)) some) honest agree.catalog agree.logs;
     }
 
 -- what such a call leaves where it was refused nothing
@@ -124,22 +129,23 @@ parts_settle {L} log law p p' d d' next next' catalog sound frame settles =
             (lawful.exact_stays d.table d'.table exact.0 (λ file own. frame.others.lengths file (lawful.given_out d.table next sound.catalog file own) (sound.apart file own))),
         settles.exact exact.1,
       );
+      writes = λ honest file there not some. settles.writes honest file there (λ own. not (inr own)) some;
     }
 
 -- A call for the partitions, of which there are as many as before.
 pub logs_move : {L : Type 0} (log : L → Log) (law : (l : L) → IsLawfulLog (log l)) (p p' : Parts L) (d d' : Disk) (next next' : ℕ)
     → p'.catalog ≡ p.catalog → AreOf p' p → KeepNames log (entries p) (entries p') → KeepStarts log (entries p) (entries p')
     → places_of (entries p') ≡ places_of (entries p) → p.refusals ≤ p'.refusals
-    → IsSound log p d.table next → Frame (scene_on log (entries p) d next) (scene_on log (entries p') d' next')
+    → IsSound log p d.table next → Frame (scene_on log (entries p) d next) (scene_on log (entries p') d' next') → WritesOwn (scene_on log (entries p) d next) (scene_on log (entries p') d' next')
     → (d'.honest → AgreesBy log (recorded_start (known p.catalog)) p d.files → AreAllKept p'.next_retention_time (world_of log p' d'.files))
     → tally p' ≡ tally p → (d'.honest → AgreesBy log (recorded_start (known p.catalog)) p d.files → IsTold p'.stored (up_to_end (stored_in (world_of log p' d'.files))))
     → IsMove (parts.scene_on log p d next) (parts.scene_on log p' d' next')
-logs_move log law p p' d d' next next' catalog of named starts places grows sound frame until counts stored =
+logs_move log law p p' d d' next next' catalog of named starts places grows sound frame writes until counts stored =
     from_untied log p (parts.scene_on log p' d' next') d next
     (parts_move log law (recorded_start (known p.catalog)) p p' d d' next next' catalog of named
     (λ i none. ap (λ ps. lookup (is_at (nat_cmp i)) ps) places ∙ none)
     (λ i n e. ap (λ ps. lookup (is_at (nat_cmp i)) ps) (sym places) ∙ e) grows
-    (places ∙ sound.tied ∙ sym (ap (λ c. counted partition_count (known c).topics) catalog)) (untied log p d.table next sound) frame
+    (places ∙ sound.tied ∙ sym (ap (λ c. counted partition_count (known c).topics) catalog)) (untied log p d.table next sound) frame writes
     (λ honest agree. subst (λ c. AreStarted log (recorded_start (known c)) (entries p')) (sym catalog) (starts (recorded_start (known p.catalog)) agree.started)) until
     (ap (λ (n : ℕ × ℕ). n.0) counts ∙ sound.offsets ∙ sym (ap (λ c. up_to_end (offsets_in (known c))) catalog), ap (λ (n : ℕ × ℕ). n.1) counts ∙ sound.texts ∙ sym (ap (λ c. up_to_end (texts_in (known c))) catalog)) stored)
 
@@ -147,10 +153,11 @@ logs_move log law p p' d d' next next' catalog of named starts places grows soun
 pub read_move : {L : Type 0} (log : L → Log) (law : (l : L) → IsLawfulLog (log l)) (p p' : Parts L) (d d' : Disk) (next next' : ℕ)
     → p'.catalog ≡ p.catalog → AreOf p' p → KeepNames log (entries p) (entries p') → KeepStarts log (entries p) (entries p')
     → places_of (entries p') ≡ places_of (entries p) → p.refusals ≤ p'.refusals → p'.next_retention_time ≡ p.next_retention_time → AreTallied p' p
-    → IsSound log p d.table next → Frame (scene_on log (entries p) d next) (scene_on log (entries p') d' next') → Same (scene_on log (entries p) d next) (scene_on log (entries p') d' next')
+    → IsSound log p d.table next → Frame (scene_on log (entries p) d next) (scene_on log (entries p') d' next') → WritesOwn (scene_on log (entries p) d next) (scene_on log (entries p') d' next')
+    → Same (scene_on log (entries p) d next) (scene_on log (entries p') d' next')
     → IsMove (parts.scene_on log p d next) (parts.scene_on log p' d' next')
-read_move log law p p' d d' next next' catalog of named starts places grows until tallied sound frame same =
-    logs_move log law p p' d d' next next' catalog of named starts places grows sound frame
+read_move log law p p' d d' next next' catalog of named starts places grows until tallied sound frame writes same =
+    logs_move log law p p' d d' next next' catalog of named starts places grows sound frame writes
     (λ honest agree. subst (λ u. AreAllKept u (world_of log p' d'.files)) (sym until)
     (kept_by p.next_retention_time (world_of log p d.files) (world_of log p' d'.files)
     (as_before (known p.catalog) (known p'.catalog) (ap (λ c. (known c).topics) catalog)) (same honest agree.logs) agree.until))
@@ -161,6 +168,7 @@ pub kept_settle : {L : Type 0} (log : L → Log) (p : Parts L) (d d' : Disk) (ne
 kept_settle log p d d' next next' keeps = record {
   accounts = λ file there not. (subst (λ table. IsSome (get table file)) keeps.table there, not);
   exact = λ exact. subst (λ table. (meta log p).exact table × AreExact log (entries p) table) (sym keeps.table) exact;
+  writes = keeps_writes (parts.scene_on log p d next) (parts.scene_on log p d' next') keeps;
 }
 
 -- A call that reads the partitions.
@@ -169,7 +177,8 @@ pub read_step : {L : Type 0} (log : L → Log) (law : (l : L) → IsLawfulLog (l
     → IsStep (parts.scene_on log p d next) (parts.scene_on log p d' next')
 read_step log law p d d' next next' sound frame same keeps =
     as_step (parts.scene_on log p d next) (parts.scene_on log p d' next')
-    (read_move log law p p d d' next next' refl (refl, refl) (λ tenant size named. named) (λ recorded started. started) refl (omega arith) refl (refl, refl) sound frame same)
+    (read_move log law p p d d' next next' refl (refl, refl) (λ tenant size named. named) (λ recorded started. started) refl (omega arith) refl (refl, refl) sound frame
+    (keeps_writes (scene_on log (entries p) d next) (scene_on log (entries p) d' next') keeps) same)
     (λ calm. kept_settle log p d d' next next' keeps)
 
 -- ---- counts
@@ -223,6 +232,10 @@ recast_move {L} log a p q d next c of e until tallied le move =
       grows = le;
       commands = let ends : (meta log q).end ≡ (meta log p).end = ap (λ (l : Log). l.end) m in omega (arith, move.commands, ends);
       creates = let made = ap (λ (k : Catalog L). (known k).creates) c in omega (arith, move.creates, made);
+      wrote = λ file bytes had. wrote_as log p q of.0 file bytes (move.wrote file bytes had);
+      leaves = λ honest agree file there not some other. move.leaves honest agree file there
+          (λ own. not (⊎_elim (λ mine. inl (subst (λ (l : Log). l.owns file) (sym m) mine)) (λ theirs. inr (subst (λ (es : Entries L). Owned log es file) (sym e) theirs)) own))
+          some (λ had. other (wrote_as log p q of.0 file _ had));
     }
 
 pub recast_settles : {L : Type 0} (log : L → Log) (a : Scene Seen) (p q : Parts L) (d : Disk) (next : ℕ) → q.catalog ≡ p.catalog → entries q ≡ entries p
@@ -234,6 +247,8 @@ recast_settles {L} log a p q d next c e settles =
           (λ own. not (⊎_elim (λ mine. inl (subst (λ (l : Log). l.owns file) (sym m) mine)) (λ theirs. inr (subst (λ (es : Entries L). Owned log es file) (sym e) theirs)) own));
       exact = λ exact. let x = settles.exact exact in
           (subst (λ (l : Log). l.exact d.table) (sym m) x.0, subst (λ (es : Entries L). AreExact log es d.table) (sym e) x.1);
+      writes = λ honest file there not. settles.writes honest file there
+          (λ own. not (⊎_elim (λ mine. inl (subst (λ (l : Log). l.owns file) (sym m) mine)) (λ theirs. inr (subst (λ (es : Entries L). Owned log es file) (sym e) theirs)) own));
     }
 
 pub recast : {L : Type 0} (log : L → Log) (a : Scene Seen) (p q : Parts L) (d : Disk) (next : ℕ) → q.catalog ≡ p.catalog → AreOf q p → entries q ≡ entries p → q.next_retention_time ≡ p.next_retention_time → AreTallied q p → p.refusals ≤ q.refusals
@@ -346,7 +361,9 @@ kept_step log a p u d next until step =
       grows = step.grows;
       commands = step.commands;
       creates = step.creates;
-      settles = λ calm. let s = step.settles calm in record { accounts = s.accounts; exact = s.exact };
+      settles = λ calm. let s = step.settles calm in record { accounts = s.accounts; exact = s.exact; writes = s.writes };
+      wrote = step.wrote;
+      leaves = λ honest agree file there not some other. step.leaves honest agree file there not some other;
     }
 
 -- a step, and then the bytes of all batches are known
@@ -391,5 +408,7 @@ told_step log a p o d next stored step =
       grows = step.grows;
       commands = step.commands;
       creates = step.creates;
-      settles = λ calm. let s = step.settles calm in record { accounts = s.accounts; exact = s.exact };
+      settles = λ calm. let s = step.settles calm in record { accounts = s.accounts; exact = s.exact; writes = s.writes };
+      wrote = step.wrote;
+      leaves = λ honest agree file there not some other. step.leaves honest agree file there not some other;
     }

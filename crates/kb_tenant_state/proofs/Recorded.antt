@@ -25,6 +25,7 @@ use Rattle.kb_tenant_state.specs.World.{World}
 use Rattle.kb_tenant_state.specs.declared.parts.Parts.{Parts}
 use Rattle.kb_tenant_state.proofs.StillKept.{WereThere, as_before, kept_by}
 use Rattle.kb_tenant_state.proofs.Lifted.{AreTallied, counted_step_catalog, loud, recast_move, recast_settles}
+use Rattle.kb_tenant_state.proofs.Left.{own_leaves, strays_writes}
 use Rattle.kb_tenant_state.proofs.Moves.{IsMove, as_step}
 use Rattle.kb_tenant_state.proofs.Spared as spared
 use Rattle.kb_tenant_state.proofs.Starts.{SameStarts, same_topics}
@@ -94,6 +95,12 @@ module _ {L : Type 0} (log : L → Log) (law : (l : L) → IsLawfulLog (log l)) 
     grows = omega arith;
     commands = longer;
     creates = more;
+    wrote = λ file bytes had. had;
+    leaves = λ honest agree.
+        let new = record p { catalog = changed; offsets = o; texts = t } in
+        own_leaves log p new d d' next next' refl (ap (λ (i : Identity). i.tenant) sound.catalog_named) sound.logs_named
+        (strays_writes (parts.scene_on log p d next) (parts.scene_on log new d' next') (meta log p).owns (log (meta_log changed)).owns (λ file own. inl own) frames.strays)
+        honest agree.catalog agree.logs;
   }
 
   -- each topic has as many partitions as before, which start where they did
@@ -112,6 +119,9 @@ module _ {L : Type 0} (log : L → Log) (law : (l : L) → IsLawfulLog (log l)) 
         let before = settles.accounts file there (λ own. not (inl own)) in
         (before.0, λ own. ⊎_elim (λ mine. before.1 mine) (λ theirs. not (inr theirs)) own);
     exact = λ exact. (settles.exact exact.0, spared.spared_exact log law (entries p) d d' next next' sound.logs frames.others.later lengths contents exact.1);
+    writes =
+        let new = record p { catalog = changed; offsets = o; texts = t } in
+        strays_writes (parts.scene_on log p d next) (parts.scene_on log new d' next') (meta log p).owns (log (meta_log changed)).owns (λ file own. inl own) frames.strays;
   }
 
   pub catalog_step : (o t : ℕ) → IsCounted o t (known changed) → (log (meta_log changed)).end ≡ (meta log p).end + 1

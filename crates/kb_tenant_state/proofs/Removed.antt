@@ -12,7 +12,7 @@ use Rattle.std.proofs.lemmas.Result.{on_ok_weaker}
 use Rattle.kb_store.specs.Disk.{Disk, Table, Files}
 use Rattle.kb_store.specs.declared.fault.StoreFault.{StoreFault}
 use Rattle.kb_log.specs.Apart.{Stays, other_stays}
-use Rattle.kb_log.specs.OnShelf.{Log, Accounts, Spares, IsLawfulLog, no_file}
+use Rattle.kb_log.specs.OnShelf.{Log, Accounts, OnlyRemoves, Spares, IsLawfulLog, no_file}
 use Rattle.kb_producers.specs.Batches.{kept_all}
 use Rattle.kb_tenant_state.specs.Logs.{LogState, without_logs}
 use Rattle.kb_tenant_state.specs.Partitions.{Entries, Owned, OwnedBy, AreSound, AreNamed, AreStarted, partition_at, places_of, log_state, logs_of, scene_on}
@@ -20,6 +20,7 @@ use Rattle.kb_tenant_state.specs.Scene.{Frame, Settles}
 use Rattle.kb_tenant_state.specs.Topic.{AreApartLogs, OwnedAmong}
 use Rattle.kb_tenant_state.specs.declared.partition.Partition.{Partition}
 use Rattle.kb_tenant_state.proofs.Changed.{found_at, shown}
+use Rattle.kb_tenant_state.proofs.Left.{removes_writes}
 use Rattle.kb_tenant_state.proofs.Put.{cases, each_value, map_same, other_number, same_number, values_same}
 
 -- an entry is taken out before its value is looked at, or after
@@ -111,8 +112,8 @@ module _ {L : Type 0} (log : L → Log) (i : ℕ) (es : Entries L) (t : Vec (Par
     pub removed_started : (recorded : ℕ → ℕ → ℕ) → AreStarted log recorded es → AreStarted log recorded es'
     removed_started recorded started j q y at = started j q y (rest_at j q y at).0
 
-    pub removed_settles : Accounts (OwnedAmong log t.items) no_file d d' → Settles (scene_on log es d next) (scene_on log es' d' next')
-    removed_settles accounts = record {
+    pub removed_settles : OnlyRemoves d d' → Accounts (OwnedAmong log t.items) no_file d d' → Settles (scene_on log es d next) (scene_on log es' d' next')
+    removed_settles left accounts = record {
       accounts = λ file here not.
           let before = accounts file here (λ bad. bad) in (
             before.0,
@@ -129,6 +130,7 @@ module _ {L : Type 0} (log : L → Log) (i : ℕ) (es : Entries L) (t : Vec (Par
                 (λ o. sound.apart j q i o.number y o.partition rest.0 (at_place o.number o.partition o.at) (λ bad. rest.1 bad.0) file theirs o.own)),
             old.1,
           );
+      writes = removes_writes (scene_on log es d next) (scene_on log es' d' next') left;
     }
 
     same_state : d'.honest → (j q : ℕ) (y : Partition L) → partition_at j q es' ≡ Some y → log_state (log y.log) d'.files ≡ log_state (log y.log) d.files

@@ -23,7 +23,7 @@ use Rattle.kb_tenant_state.specs.Partitions.{Entries, Owned, Agree, AreSound, Ar
 use Rattle.kb_tenant_state.specs.Scene.{Scene}
 use Rattle.kb_tenant_state.specs.declared.partition.Partition.{Partition}
 use Rattle.kb_tenant_state.specs.RetentionTime.{AreAllKept}
-use Rattle.kb_tenant_state.specs.Parts.{IsSound, Seen, entries, meta, recorded_start, scene_on, world_of}
+use Rattle.kb_tenant_state.specs.Parts.{Agrees, IsSound, Seen, entries, meta, recorded_start, scene_on, world_of}
 use Rattle.kb_tenant_state.specs.Stored.{IsTold, offsets_in, stored_in, texts_in, up_to_end}
 use Rattle.kb_tenant_state.specs.Tied.{IsTied, counted, partition_count}
 use Rattle.kb_tenant_state.specs.declared.parts.Parts.{Parts}
@@ -164,26 +164,31 @@ untied log p table next s = record {
   logs_named = s.logs_named;
 }
 
+by_recorded : {L : Type 0} (log : L → Log) (p : Parts L) (files : Files) → Agrees log p files → AgreesBy log (recorded_start (known p.catalog)) p files
+by_recorded log p files agree = record {
+  catalog = agree.catalog;
+  fold = agree.fold;
+  logs = agree.logs;
+  started = agree.started;
+  meta_started = agree.meta_started;
+  until = agree.until;
+  stored = agree.stored;
+}
+
 pub from_untied : {L : Type 0} (log : L → Log) (p : Parts L) (b : Scene Seen) (d : Disk) (next : ℕ) → IsMove (untied_on log (recorded_start (known p.catalog)) p d next) b → IsMove (scene_on log p d next) b
 from_untied log p b d next move = record {
   frame = record {
     sound = move.frame.sound;
     others = move.frame.others;
     failures = move.frame.failures;
-    agrees = λ honest agree. move.frame.agrees honest (record {
-      catalog = agree.catalog;
-      fold = agree.fold;
-      logs = agree.logs;
-      started = agree.started;
-      meta_started = agree.meta_started;
-      until = agree.until;
-      stored = agree.stored;
-    });
+    agrees = λ honest agree. move.frame.agrees honest (by_recorded log p d.files agree);
   };
   named = move.named;
   grows = move.grows;
   commands = move.commands;
   creates = move.creates;
+  wrote = move.wrote;
+  leaves = λ honest agree. move.leaves honest (by_recorded log p d.files agree);
 }
 
 pub tie : {L : Type 0} (log : L → Log) (a : Scene Seen) (recorded : ℕ → ℕ → ℕ) (p : Parts L) (d : Disk) (next : ℕ) → places_of (entries p) ≡ counted partition_count (known p.catalog).topics
@@ -221,6 +226,8 @@ tie log a recorded p d next tied same counted move =
       grows = move.grows;
       commands = move.commands;
       creates = move.creates;
+      wrote = move.wrote;
+      leaves = move.leaves;
     }
 
 -- ---- what the tenant sees

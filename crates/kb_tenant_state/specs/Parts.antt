@@ -11,7 +11,7 @@ use Rattle.kb_topics.specs.Known.{Known, PartitionState, partition_at}
 use Rattle.kb_topics.specs.MetaLog.{IsFoldOf}
 use Rattle.kb_topics.specs.Catalog.{known, meta_log, catalog_identity}
 use Rattle.kb_tenant_state.specs.Partitions.{Entries, Owned, AreSound, AreExact, AreStarted, AreNamed, Agree, logs_of, places_of, IsUnmade}
-use Rattle.kb_tenant_state.specs.Scene.{Scene}
+use Rattle.kb_tenant_state.specs.Scene.{Scene, HadFile}
 use Rattle.kb_topics.specs.declared.fault.CatalogFault.{CatalogFault}
 use Rattle.kb_topics.specs.declared.fault.CatalogFault.TheVariants as catalog
 use Rattle.kb_tenant_state.specs.declared.fault.PartitionFault.{PartitionFault}
@@ -89,6 +89,7 @@ scene_on log p d next = record {
   sound = IsSound log p d.table next;
   exact = (meta log p).exact d.table × AreExact log (entries p) d.table;
   agrees = Agrees log p d.files;
+  wrote = HadFile log (string_bytes p.tenant);
   disk = d;
   next = next;
   state = record { tenant = string_bytes p.tenant; world = world_of log p d.files; refusals = p.refusals; commands = (meta log p).end };

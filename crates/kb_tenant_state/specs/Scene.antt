@@ -1,17 +1,19 @@
 -- What some logs on a shelf are to their tenant, and how each call takes them from one moment to the next.
-use Rattle.std.specs.Prelude.{◌≤◌, ℕ}
-use Rattle.kb_store.specs.Disk.{Disk}
-use Rattle.kb_log.specs.OnShelf.{Spares, Accounts}
+use Rattle.std.specs.Prelude.{◌≡◌, ◌≤◌, ℕ, List, [], Some}
+use Rattle.std.specs.FinMap.{get}
+use Rattle.kb_store.specs.Disk.{Disk, Files, IsThere, bytes_of}
+use Rattle.kb_log.specs.OnShelf.{Log, Spares, Accounts}
 
 -- Some logs at one moment: which files are theirs; what holds of the files' numbers and lengths on any store; whether nothing but
 -- their batches is in the files, by their lengths, and their memory tells what retention asks of each first batch; what holds of their
--- bytes where the store is honest; the disk of the shelf and
+-- bytes where the store is honest; which bytes a file may have that is theirs no longer; the disk of the shelf and
 -- its next file number; and what the tenant sees of the logs.
 pub record Scene (W : Type 0) : Type 1 where
   pub owns : ℕ → Type 0
   pub sound : Type 0
   pub exact : Type 0
   pub agrees : Type 0
+  pub wrote : ℕ → List ℕ → Type 0
   pub disk : Disk
   pub next : ℕ
   pub state : W
@@ -27,8 +29,32 @@ pub record Frame {V W : Type 0} (a : Scene V) (b : Scene W) : Type 0 where
   pub failures : a.disk.failures ≤ b.disk.failures
   pub agrees : b.disk.honest → a.agrees → b.agrees
 
--- What a call that was refused nothing leaves: each file is accounted for, and logs that had nothing but their batches in their
--- files still have nothing else, and their memory still tells what retention asks of each first batch.
+-- Each file that is there afterwards, has a byte and is not theirs was there before as it is: what was written is in their files.
+abbrev pub WritesOwn : {V W : Type 0} → Scene V → Scene W → Type 0
+WritesOwn a b = b.disk.honest → (file : ℕ) → IsThere b.disk file → (b.owns file → ⊥) → (bytes_of b.disk file ≡ [] → ⊥)
+    → IsThere a.disk file × (get b.disk.files file ≡ get a.disk.files file)
+
+-- What a call that was refused nothing leaves: each file is accounted for, and what was written is in their files; and logs that had
+-- nothing but their batches in their files still have nothing else, and their memory still tells what retention asks of each first batch.
 pub record Settles {V W : Type 0} (a : Scene V) (b : Scene W) : Type 0 where
   pub accounts : Accounts a.owns b.owns a.disk b.disk
   pub exact : a.exact → b.exact
+  pub writes : WritesOwn a b
+
+-- ---- files that are left behind
+
+-- A log of that tenant had the file, with those bytes, and agreed with its files.
+pub record HadFile {L : Type 0} (log : L → Log) (tenant : List ℕ) (file : ℕ) (bytes : List ℕ) : Type 0 where
+  pub of : L
+  pub files : Files
+  pub tenants : (log of).identity.tenant ≡ tenant
+  pub owns : (log of).owns file
+  pub agrees : (log of).agrees files
+  pub had : get files file ≡ Some bytes
+
+-- Each file that is there afterwards, has a byte and is not theirs was there before as it is, and was not theirs, but for one with bytes
+-- that were written to a file of theirs.
+abbrev pub LeavesOwn : {V W : Type 0} → Scene V → Scene W → Type 0
+LeavesOwn a b = (file : ℕ) → IsThere b.disk file → (b.owns file → ⊥) → (bytes_of b.disk file ≡ [] → ⊥)
+    → (b.wrote file (bytes_of b.disk file) → ⊥)
+    → IsThere a.disk file × (get b.disk.files file ≡ get a.disk.files file) × (a.owns file → ⊥)

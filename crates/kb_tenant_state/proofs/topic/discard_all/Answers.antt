@@ -21,7 +21,7 @@ loop-partition-preserved-then-is_ok g c =
     let so_far = subst (λ xs. Discarding log c.args.partitions.items xs first now c.args.shelf.now.next c.loop-partition.shelf.next c.loop-partition.removed) c.in-Some.ensures.items c.loop-partition.invariant in
     discarded log g.met.L.PartitionLog.lawful c.args.partitions.items c.pop.new.self.items c.in-Some.partition first now (g.S.Store.disk c.discard-discarded.new.shelf.store)
     c.args.shelf.now.next c.loop-partition.shelf.next c.discard-discarded.new.shelf.next c.loop-partition.removed c.discard-discarded.result
-    c.requires so_far c.discard-discarded.ensures.others c.discard-discarded.ensures.gone c.discard-discarded.ensures.accounts c.discard-discarded.ensures.cause c.if-is_ok.ensures.value
+    c.requires so_far c.discard-discarded.ensures.others c.discard-discarded.ensures.gone c.discard-discarded.ensures.accounts c.discard-discarded.ensures.left c.discard-discarded.ensures.cause c.if-is_ok.ensures.value
 
 pub loop-partition-preserved : goal.loop-partition-preserved
 loop-partition-preserved g c =
@@ -31,7 +31,7 @@ loop-partition-preserved g c =
     let so_far = subst (λ xs. Discarding log c.args.partitions.items xs first now c.args.shelf.now.next c.loop-partition.shelf.next c.loop-partition.removed) c.in-Some.ensures.items c.loop-partition.invariant in
     refused log g.met.L.PartitionLog.lawful c.args.partitions.items c.pop.new.self.items c.in-Some.partition first now (g.S.Store.disk c.discard-discarded.new.shelf.store)
     c.args.shelf.now.next c.loop-partition.shelf.next c.discard-discarded.new.shelf.next c.loop-partition.removed c.discard-discarded.result
-    c.requires so_far c.discard-discarded.ensures.others c.discard-discarded.ensures.gone c.discard-discarded.ensures.accounts c.discard-discarded.ensures.cause c.if-is_ok.ensures.value
+    c.requires so_far c.discard-discarded.ensures.others c.discard-discarded.ensures.gone c.discard-discarded.ensures.accounts c.discard-discarded.ensures.left c.discard-discarded.ensures.cause c.if-is_ok.ensures.value
 
 pub returns-clause-others : goal.returns-clause-others
 returns-clause-others g c = c.loop-partition.invariant.others
@@ -47,6 +47,9 @@ returns-clause-accounts g c =
     let none : length c.loop-partition.partitions.items ≡ 0 = omega (arith, c.in_default.ensures.cases.0, c.loop-partition.partitions.ok.0) in
     none_left_accounts g.L.PartitionLog.log c.args.partitions.items c.loop-partition.partitions.items (g.S.Store.disk c.args.shelf.now.store) (g.S.Store.disk c.loop-partition.shelf.store)
     c.args.shelf.now.next c.loop-partition.shelf.next c.loop-partition.removed c.loop-partition.invariant none
+
+pub returns-clause-left : goal.returns-clause-left
+returns-clause-left g c = c.loop-partition.invariant.removes
 
 pub returns-clause-cause : goal.returns-clause-cause
 returns-clause-cause g c = c.loop-partition.invariant.cause

@@ -8,7 +8,7 @@ use Rattle.kb_tenant_state.specs.PartitionCalls.{IsInRange}
 use Rattle.kb_tenant_state.specs.Partitions.{AreStarted, Restarts, scene}
 use Rattle.kb_tenant_state.specs.Scene.{WhereHonest}
 use Rattle.kb_tenant_state.specs.Stored.{bytes_in_all}
-use Rattle.kb_tenant_state.proofs.Gone.{known_calm, looked_dropped, looked_frame, looked_logs, looked_settles, looked_where, on_calm}
+use Rattle.kb_tenant_state.proofs.Gone.{known_calm, looked_dropped, looked_frame, looked_logs, looked_own, looked_settles, looked_where, on_calm}
 use Rattle.kb_tenant_state.proofs.Retained.{in_range_by}
 use Rattle.kb_tenant_state.proofs.Sized.{look_frame}
 use Rattle.kb_tenant_state.proofs.partitions.Partitions.drop_sized.Goals as goal
@@ -102,3 +102,13 @@ returns-clause-lost g c =
 pub returns-clause-known : goal.returns-clause-known
 returns-clause-known g c = λ calm.
     subst (λ o. IsSome o) (sym c.gone_by.ensures.bytes) (known_calm c.size_at-before.result c.drop_to-dropped.result c.size_at-after.result (sym c.gone_by.ensures.refused ∙ calm))
+
+pub returns-clause-writes : goal.returns-clause-writes
+returns-clause-writes g c =
+    let disk = g.S.Store.disk in
+    let s0 = c.args.shelf.now in
+    let s1 = c.size_at-before.new.shelf in
+    let s2 = c.drop_to-dropped.new.shelf in
+    let s3 = c.size_at-after.new.shelf in
+    looked_own g.L.PartitionLog.log c.args.self.now.topics.entries c.drop_to-dropped.new.self.topics.entries (disk s0.store) (disk s1.store) (disk s2.store) (disk s3.store) s0.next s1.next s2.next s3.next
+    c.requires.sound c.size_at-before.ensures.looks c.drop_to-dropped.ensures.frame c.size_at-after.ensures.looks c.drop_to-dropped.ensures.writes

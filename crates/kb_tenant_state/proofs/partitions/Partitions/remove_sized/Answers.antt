@@ -5,7 +5,7 @@ use Rattle.kb_tenant_state.specs.Logs.{without_logs}
 use Rattle.kb_tenant_state.specs.Partitions.{scene}
 use Rattle.kb_tenant_state.specs.Scene.{WhereHonest}
 use Rattle.kb_tenant_state.specs.Stored.{bytes_in_all}
-use Rattle.kb_tenant_state.proofs.Gone.{known_calm, looked_frame, looked_logs, looked_removed, looked_settles, on_calm}
+use Rattle.kb_tenant_state.proofs.Gone.{known_calm, looked_frame, looked_logs, looked_own, looked_removed, looked_settles, on_calm}
 use Rattle.kb_tenant_state.proofs.Sized.{look_frame, no_look}
 use Rattle.kb_tenant_state.proofs.partitions.Partitions.remove_sized.Goals as goal
 
@@ -62,3 +62,12 @@ returns-clause-lost g c =
 pub returns-clause-known : goal.returns-clause-known
 returns-clause-known g c = λ calm.
     subst (λ o. IsSome o) (sym c.gone_by.ensures.bytes) (known_calm c.topic_size-before.result c.remove-removed.result (Ok 0) (sym c.gone_by.ensures.refused ∙ calm))
+
+pub returns-clause-writes : goal.returns-clause-writes
+returns-clause-writes g c =
+    let disk = g.S.Store.disk in
+    let s0 = c.args.shelf.now in
+    let s1 = c.topic_size-before.new.shelf in
+    let s2 = c.remove-removed.new.shelf in
+    looked_own g.L.PartitionLog.log c.args.self.now.topics.entries c.remove-removed.new.self.topics.entries (disk s0.store) (disk s1.store) (disk s2.store) (disk s2.store) s0.next s1.next s2.next s2.next
+    c.requires c.topic_size-before.ensures.looks c.remove-removed.ensures.frame (no_look (disk s2.store) s2.next) c.remove-removed.ensures.writes

@@ -1,4 +1,4 @@
-use Rattle.std.proofs.Common.{◌-◌, refl, arith}
+use Rattle.std.proofs.Common.{refl, arith}
 use Rattle.std.proofs.lemmas.Result.{err_from_is_err_and}
 use Rattle.kb_tenant_state.specs.Ids.{IsSkippedInPart}
 use Rattle.kb_tenant_state.specs.Parts.{scene}

@@ -1,14 +1,13 @@
 -- A broker on its store, and its tenants there.
-use Rattle.std.specs.Prelude.{◌≡◌, ◌≤◌, ℕ, true, List, [], length, Option, Some, None, unwrap_or}
+use Rattle.std.specs.Prelude.{◌≡◌, ◌≤◌, ◌<◌, ℕ, List, [], length, Option, Some, None, unwrap_or}
 use Rattle.kb_store.specs.Disk.{Disk}
 use Rattle.kb_log.specs.OnShelf.{Log}
 use Rattle.kb_tenant.specs.Batches.{HasSmallLogs}
 use Rattle.kb_tenant.specs.LimitsKept.{HasOrderedCommits}
 use Rattle.kb_tenant_api.specs.Hosted.{TenantState, refusals_of}
-use Rattle.kb_tenant_api.specs.Turns.{all_calm}
 use Rattle.kb_tenants.specs.Counts.{AreShared, all_counts}
 use Rattle.kb_tenants.specs.declared.counts.Counts.{Counts}
-use Rattle.kb_tenants.specs.Tenants.{AreKept, AreKeptIn, AreLeftAlone, hosted, numbers_in}
+use Rattle.kb_tenants.specs.Tenants.{AreKept, AreLeftAlone, IsKeptIn, hosted, numbers_in}
 use Rattle.kb_tenants.specs.declared.tenants.Tenants.{Tenants}
 use Rattle.kb_isolation_spec.specs.Machine.{Happening, first_able}
 use Rattle.kb_broker.specs.Truth.{SpeaksTruth}
@@ -70,11 +69,11 @@ pub record IsLaterBy {S : Type 0} (disk : S → Disk) (Goes : BrokerState → Br
 abbrev pub IsLater : {S : Type 0} → (S → Disk) → OnStore S → OnStore S → Type 0
 IsLater disk old new = IsLaterBy disk SpeaksTruth old new
 
--- Where it is known which files are of no log, and nothing was ever refused to a tenant, what the tenants have is in the files of the
--- store, unless it lied: opened again the files come to the same.
+-- Where it is known which files are of no log, what a tenant has to which nothing was ever refused is in the files of the store, unless it
+-- lied, and whatever was refused to others: opened again the files come to the same.
 abbrev pub IsInFiles : {L S : Type 0} → (L → Log) → (S → Disk) → OnStore S → Type 0
-IsInFiles log disk b = is_honest disk b → (strays : List ℕ) → b.strays ≡ Some strays → all_calm b.state.tenants ≡ true
-    → AreKeptIn log (disk b.store) strays b.state.tenants
+IsInFiles log disk b = is_honest disk b → (strays : List ℕ) → b.strays ≡ Some strays → (t : ℕ) → t < length b.state.tenants
+    → refusals_of b.state.tenants t ≡ 0 → IsKeptIn log (disk b.store) strays b.state.tenants t
 
 -- an event is a step, unless the store lied
 abbrev pub StepsTo : {S : Type 0} → (S → Disk) → Happening → OnStore S → OnStore S → Type 0

@@ -6,14 +6,14 @@ use Rattle.std.specs.declared.vec.Vec.{Vec}
 use Rattle.kb_tenant_state.specs.Partitions.{AreExact}
 use Rattle.std.proofs.lemmas.List.{map_push}
 use Rattle.kb_coordinator.specs.Groups.{none}
-use Rattle.kb_store.specs.Disk.{Disk, Table, Files}
+use Rattle.kb_store.specs.Disk.{Disk, Table, Files, bytes_of}
 use Rattle.kb_log.specs.OnShelf.{Log}
 use Rattle.kb_log.specs.Shelf.{Shelved}
 use Rattle.kb_tenant_state.specs.Parts.{Agrees, IsSound, Owns, entries, meta, world_of}
 use Rattle.kb_tenant_state.specs.World.{World, new_world}
 use Rattle.kb_tenant_state.specs.declared.parts.Parts.{Parts}
 use Rattle.kb_tenant_api.specs.Hosted.{TenantState, kept_in, new_tenant}
-use Rattle.kb_tenants.specs.Tenants.{AreKept, AreSettled, AllAreSound, AllAgree, HaveNothingRefused, IsApart, IsIdleUntil, IsLeftAlone, hosted, shelf_is_honest, parts_of, restored_tenant, state_of, strays_of}
+use Rattle.kb_tenants.specs.Tenants.{AreKept, AreSettled, AllAreSound, AllAgree, CalmAreSettled, IsApart, IsIdleUntil, IsLeftAlone, IsOfAnother, hosted, shelf_is_honest, parts_of, restored_tenant, state_of, strays_of}
 use Rattle.kb_tenants.specs.declared.tenants.Tenant.{Tenant}
 use Rattle.kb_tenants.specs.declared.tenants.Tenants.{Tenants}
 use Rattle.kb_tenants.proofs.Idle.{idle_added}
@@ -85,22 +85,27 @@ module _ {L : Type 0} (log : L → Log) (ps : List (Parts L)) (p : Parts L) wher
         (pushed_place ps p some.tenant some.parts some.at);
   }
 
-  nothing_pushed : HaveNothingRefused (ps ++ p ∷ []) → HaveNothingRefused ps
-  nothing_pushed none u q at = none u q (still_place ps p u q at)
+  -- a file that was another's is another's still
+  another_pushed : (t file : ℕ) (bytes : List ℕ) → IsOfAnother log ps t file bytes → IsOfAnother log (ps ++ p ∷ []) t file bytes
+  another_pushed t file bytes o = record { other = o.other; parts = o.parts; at = still_place ps p o.other o.parts o.at; apart = o.apart; had = o.had }
 
-  settled_pushed : (disk : Disk) (strays : List ℕ) → IsExact log p disk.table → AreSettled log ps strays disk → AreSettled log (ps ++ p ∷ []) strays disk
-  settled_pushed disk strays one settled = record {
-    accounts = λ file there not. settled.accounts file there
-        (λ some. not (record { tenant = some.tenant; parts = some.parts; at = still_place ps p some.tenant some.parts some.at; owns = some.owns }));
-    meta_exact = λ u q at. ⊎_elim
-        (λ old. settled.meta_exact u q old)
-        (λ new. subst (λ (v : Parts L). (meta log v).exact disk.table) (sym new.0) one.0)
-        (pushed_place ps p u q at);
-    exact = λ u q at. ⊎_elim
-        (λ old. settled.exact u q old)
-        (λ new. subst (λ (v : Parts L). AreExact log (entries v) disk.table) (sym new.0) one.1)
-        (pushed_place ps p u q at);
-  }
+  -- the place of the new one was settled before
+  settled_pushed : (disk : Disk) (strays : List ℕ) → IsExact log p disk.table → CalmAreSettled log ps strays disk → CalmAreSettled log (ps ++ p ∷ []) strays disk
+  settled_pushed disk strays one before t calm =
+      let old = before t (λ q at. calm q (still_place ps p t q at)) in
+      record {
+        accounts = λ honest file there not full other. old.accounts honest file there
+            (λ some. not (record { tenant = some.tenant; parts = some.parts; at = still_place ps p some.tenant some.parts some.at; owns = some.owns }))
+            full (λ o. other (another_pushed t file (bytes_of disk file) o));
+        meta_exact = λ q at. ⊎_elim
+            (λ was. old.meta_exact q was)
+            (λ new. subst (λ (v : Parts L). (meta log v).exact disk.table) (sym new.0) one.0)
+            (pushed_place ps p t q at);
+        exact = λ q at. ⊎_elim
+            (λ was. old.exact q was)
+            (λ new. subst (λ (v : Parts L). AreExact log (entries v) disk.table) (sym new.0) one.1)
+            (pushed_place ps p t q at);
+      }
 
 -- nothing was added
 module _ {L S : Type 0} (log : L → Log) (disk : S → Disk) (old new : Tenants L S) (left : new.tenants.items ≡ old.tenants.items) (same : new.shelf ≡ old.shelf) (until : new.next_retention_time ≡ old.next_retention_time) (strays : new.strays ≡ old.strays) where
@@ -115,13 +120,33 @@ module _ {L S : Type 0} (log : L → Log) (disk : S → Disk) (old new : Tenants
     apart = subst (λ (o : Option (Vec ℕ Global)). (file : ℕ) → Contains (strays_of o) file → IsLeftAlone log (parts_of new.tenants.items) new.shelf.next file) (sym strays)
         (subst (λ (s : Shelved S). (file : ℕ) → Contains (strays_of old.strays) file → IsLeftAlone log (parts_of new.tenants.items) s.next file) (sym same)
         (subst (λ (xs : List (Tenant L)). (file : ℕ) → Contains (strays_of old.strays) file → IsLeftAlone log (parts_of xs) old.shelf.next file) (sym left) kept.apart));
-    settled = subst (λ (o : Option (Vec ℕ Global)). IsSome o → HaveNothingRefused (parts_of new.tenants.items) → AreSettled log (parts_of new.tenants.items) (strays_of o) (disk new.shelf.store)) (sym strays)
-        (subst (λ (s : Shelved S). IsSome old.strays → HaveNothingRefused (parts_of new.tenants.items) → AreSettled log (parts_of new.tenants.items) (strays_of old.strays) (disk s.store)) (sym same)
-        (subst (λ (xs : List (Tenant L)). IsSome old.strays → HaveNothingRefused (parts_of xs) → AreSettled log (parts_of xs) (strays_of old.strays) (disk old.shelf.store)) (sym left) kept.settled));
+    settled = subst (λ (o : Option (Vec ℕ Global)). IsSome o → CalmAreSettled log (parts_of new.tenants.items) (strays_of o) (disk new.shelf.store)) (sym strays)
+        (subst (λ (s : Shelved S). IsSome old.strays → CalmAreSettled log (parts_of new.tenants.items) (strays_of old.strays) (disk s.store)) (sym same)
+        (subst (λ (xs : List (Tenant L)). IsSome old.strays → CalmAreSettled log (parts_of xs) (strays_of old.strays) (disk old.shelf.store)) (sym left) kept.settled));
     agree = λ honest. subst (λ (s : Shelved S). AllAgree log (parts_of new.tenants.items) (disk s.store).files) (sym same)
         (subst (λ (xs : List (Tenant L)). AllAgree log (parts_of xs) (disk old.shelf.store).files) (sym left) (kept.agree (subst (λ (s : Shelved S). (disk s.store).honest) same honest)));
     until = λ honest. subst (λ z. IsIdleUntil z (hosted log disk new)) (sym until)
         (subst (IsIdleUntil old.next_retention_time) (sym hosted_left) (kept.until (subst (λ (s : Shelved S). (disk s.store).honest) same honest)));
+  }
+
+-- the files are left alone that an opening leaves
+module _ {L S : Type 0} (log : L → Log) (disk : S → Disk) (old : Tenants L S) (strays : Vec ℕ Global) where
+  settled_each : AreSettled log (parts_of old.tenants.items) strays.items (disk old.shelf.store) → CalmAreSettled log (parts_of old.tenants.items) strays.items (disk old.shelf.store)
+  settled_each all t calm = record {
+    accounts = λ honest file there not full other. all.accounts file there not;
+    meta_exact = λ p at. all.meta_exact t p at;
+    exact = λ p at. all.exact t p at;
+  }
+
+  pub kept_leaving : ((file : ℕ) → Contains strays.items file → IsLeftAlone log (parts_of old.tenants.items) old.shelf.next file)
+      → AreSettled log (parts_of old.tenants.items) strays.items (disk old.shelf.store) → AreKept log disk old → AreKept log disk (record old { strays = Some strays })
+  kept_leaving alone all kept = record {
+    sound = kept.sound;
+    named = kept.named;
+    apart = alone;
+    settled = λ known. settled_each all;
+    agree = kept.agree;
+    until = kept.until;
   }
 
 -- a tenant of parts that were there was added behind the others
@@ -159,10 +184,10 @@ module _ {L S : Type 0} (log : L → Log) (disk : S → Disk) (old new : Tenants
             (subst (λ (s : Shelved S). (file : ℕ) → Contains (strays_of old.strays) file → IsLeftAlone log (parts_of new.tenants.items) s.next file) (sym same)
             (subst (λ ps. (file : ℕ) → Contains (strays_of old.strays) file → IsLeftAlone log ps old.shelf.next file) (sym parts_pushed)
             (λ file stray. alone_pushed log (parts_of old.tenants.items) x.parts old.shelf.next file (free file stray) (kept.apart file stray))));
-        settled = subst (λ (o : Option (Vec ℕ Global)). IsSome o → HaveNothingRefused (parts_of new.tenants.items) → AreSettled log (parts_of new.tenants.items) (strays_of o) (disk new.shelf.store)) (sym strays)
-            (subst (λ (s : Shelved S). IsSome old.strays → HaveNothingRefused (parts_of new.tenants.items) → AreSettled log (parts_of new.tenants.items) (strays_of old.strays) (disk s.store)) (sym same)
-            (subst (λ ps. IsSome old.strays → HaveNothingRefused ps → AreSettled log ps (strays_of old.strays) (disk old.shelf.store)) (sym parts_pushed)
-            (λ known none. settled_pushed log (parts_of old.tenants.items) x.parts (disk old.shelf.store) (strays_of old.strays) (exact known) (kept.settled known (nothing_pushed log (parts_of old.tenants.items) x.parts none)))));
+        settled = subst (λ (o : Option (Vec ℕ Global)). IsSome o → CalmAreSettled log (parts_of new.tenants.items) (strays_of o) (disk new.shelf.store)) (sym strays)
+            (subst (λ (s : Shelved S). IsSome old.strays → CalmAreSettled log (parts_of new.tenants.items) (strays_of old.strays) (disk s.store)) (sym same)
+            (subst (λ ps. IsSome old.strays → CalmAreSettled log ps (strays_of old.strays) (disk old.shelf.store)) (sym parts_pushed)
+            (λ known. settled_pushed log (parts_of old.tenants.items) x.parts (disk old.shelf.store) (strays_of old.strays) (exact known) (kept.settled known))));
         agree = λ honest. subst (λ (s : Shelved S). AllAgree log (parts_of new.tenants.items) (disk s.store).files) (sym same)
             (subst (λ ps. AllAgree log ps (disk old.shelf.store).files) (sym parts_pushed)
             (agree_pushed log (parts_of old.tenants.items) x.parts (disk old.shelf.store).files (kept.agree (before honest)) (agrees (before honest))));

@@ -28,7 +28,7 @@ use Rattle.kb_tenant_state.proofs.Put.{get_put}
 use Rattle.kb_tenant.proofs.LogMoves.{same_or_not}
 use Rattle.kb_tenants.specs.Limited.{kept_limited, limited_at}
 use Rattle.kb_tenants.specs.Members.{HaveNoGroup}
-use Rattle.kb_tenants.specs.Tenants.{AreKept, AreLeftAlone, AreSettled, HaveNothingRefused, IsIdleUntil, IsLeftAlone, commands_of, hosted}
+use Rattle.kb_tenants.specs.Tenants.{AreKept, AreLeftAlone, CalmAreSettled, IsIdleUntil, IsLeftAlone, commands_of, hosted}
 use Rattle.kb_tenants.specs.Tenants.{parts_of, regrouped, state_of, strays_of}
 use Rattle.kb_tenants.specs.Turns.{IsShelfTurn, seen_at}
 use Rattle.kb_tenants.specs.declared.counts.Counts.{Counts}
@@ -180,9 +180,9 @@ module _ {L S : Type 0} (log : L → Log) (disk : S → Disk) (law : (l : L) →
         (get_put old.tenants.items t u x (record x { parts = p; groups = gs; counts = cs }) y there here);
     apart = λ file stray. subst (λ qs. IsLeftAlone log qs shelf.next file) (sym parts_after)
         (alone_stays log law (parts_of old.tenants.items) t x.parts p (disk old.shelf.store) (disk shelf.store) old.shelf.next shelf.next parts_there kept.sound step file (kept.apart file stray));
-    settled = λ known none. subst (λ qs. AreSettled log qs (strays_of old.strays) (disk shelf.store)) (sym parts_after)
-        (settled_stays log law (parts_of old.tenants.items) t x.parts p (disk old.shelf.store) (disk shelf.store) old.shelf.next shelf.next parts_there kept.sound step (strays_of old.strays)
-        (subst (λ qs. HaveNothingRefused qs) parts_after none) (kept.settled known));
+    settled = λ known. subst (λ qs. CalmAreSettled log qs (strays_of old.strays) (disk shelf.store)) (sym parts_after)
+        (settled_stays log law (parts_of old.tenants.items) t x.parts p (disk old.shelf.store) (disk shelf.store) old.shelf.next shelf.next parts_there kept.sound step kept.agree (strays_of old.strays)
+        (kept.settled known));
     agree = λ honest. shelf_turn.agree honest (kept.agree (shelf_turn.honest honest));
     until = idle;
   }

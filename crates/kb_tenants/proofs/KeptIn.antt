@@ -1,5 +1,5 @@
--- What the tenants have is in the files, where nothing was ever refused.
-use Rattle.std.proofs.Common.{◌≡◌, ◌∙◌, ℕ, zero, suc, true, List, [], ◌∷◌, Some, eqb, sym, ap, refl, eqb-true}
+-- What a tenant has is in the files, where nothing was ever refused to it.
+use Rattle.std.proofs.Common.{◌≡◌, ◌∙◌, ◌<◌, ℕ, zero, suc, List, [], ◌∷◌, Some, length, sym, ap, refl, arith}
 use Rattle.std.specs.Prelude.{IsSome, map, slice_get, string_bytes}
 use Rattle.kb_store.specs.Disk.{Disk, Files}
 use Rattle.kb_log.specs.OnShelf.{Log}
@@ -7,12 +7,10 @@ use Rattle.kb_topics.specs.Catalog.{known}
 use Rattle.kb_tenant_state.specs.Partitions.{logs_of}
 use Rattle.kb_tenant_state.specs.Parts.{entries}
 use Rattle.kb_tenant_state.specs.declared.parts.Parts.{Parts}
-use Rattle.kb_tenant_api.specs.Hosted.{kept_of, names_of}
-use Rattle.kb_tenant_api.specs.Turns.{all_calm}
-use Rattle.kb_tenants.specs.Tenants.{AreKept, AreKeptIn, HaveNothingRefused, hosted, parts_of, shelf_is_honest, state_of, strays_of}
+use Rattle.kb_tenant_api.specs.Hosted.{kept_of, names_of, refusals_of}
+use Rattle.kb_tenants.specs.Tenants.{AreKept, HasNothingRefused, IsKeptIn, hosted, parts_of, shelf_is_honest, state_of, strays_of}
 use Rattle.kb_tenants.specs.declared.tenants.Tenant.{Tenant}
 use Rattle.kb_tenants.specs.declared.tenants.Tenants.{Tenants}
-use Rattle.kb_tenants.proofs.Answered.{both}
 
 module _ {L : Type 0} (log : L → Log) (files : Files) where
   named_in : (ts : List (Tenant L)) → ((t : ℕ) (x : Tenant L) → slice_get ts t ≡ Some x → string_bytes x.parts.tenant ≡ string_bytes x.name)
@@ -33,30 +31,33 @@ module _ {L : Type 0} (log : L → Log) (files : Files) where
   logs_in (x ∷ ts) zero p at = let same : x.parts ≡ p = cc in ap (λ (v : Parts L). logs_of log (entries v) files) same
   logs_in (x ∷ ts) (suc t) p at = logs_in ts t p at
 
-  nothing_refused : (ts : List (Tenant L)) → all_calm (map (state_of log files) ts) ≡ true → HaveNothingRefused (parts_of ts)
-  nothing_refused [] calm t p at = absurd cc
-  nothing_refused (x ∷ ts) calm zero p at =
-      let same : x.parts ≡ p = cc in
-      let each = both (eqb x.parts.refusals 0) (all_calm (map (state_of log files) ts)) calm in
-      ap (λ (v : Parts L). v.refusals) (sym same) ∙ eqb-true x.parts.refusals 0 each.0
-  nothing_refused (x ∷ ts) calm (suc t) p at =
-      let each = both (eqb x.parts.refusals 0) (all_calm (map (state_of log files) ts)) calm in
-      nothing_refused ts each.1 t p at
+  parts_in : (ts : List (Tenant L)) (t : ℕ) → t < length (map (state_of log files) ts) → (p : Parts L) × (slice_get (parts_of ts) t ≡ Some p)
+  parts_in [] t lt = absurd (omega (arith, lt))
+  parts_in (x ∷ ts) zero lt = (x.parts, refl)
+  parts_in (x ∷ ts) (suc t) lt = parts_in ts t (omega (arith, lt))
+
+  nothing_refused : (ts : List (Tenant L)) (t : ℕ) → refusals_of (map (state_of log files) ts) t ≡ 0 → HasNothingRefused (parts_of ts) t
+  nothing_refused [] t calm p at = absurd cc
+  nothing_refused (x ∷ ts) zero calm p at = let same : x.parts ≡ p = cc in ap (λ (v : Parts L). v.refusals) (sym same) ∙ calm
+  nothing_refused (x ∷ ts) (suc t) calm p at = nothing_refused ts t calm p at
 
 -- where it is known which files are left alone
-pub are_kept_in : {L S : Type 0} (log : L → Log) (disk : S → Disk) (ts : Tenants L S) → AreKept log disk ts → shelf_is_honest disk ts → IsSome ts.strays → all_calm (hosted log disk ts) ≡ true
-    → AreKeptIn log (disk ts.shelf.store) (strays_of ts.strays) (hosted log disk ts)
-are_kept_in log disk ts kept honest known calm =
+pub is_kept_in : {L S : Type 0} (log : L → Log) (disk : S → Disk) (ts : Tenants L S) → AreKept log disk ts → shelf_is_honest disk ts → IsSome ts.strays → (t : ℕ) → t < length (hosted log disk ts)
+    → refusals_of (hosted log disk ts) t ≡ 0 → IsKeptIn log (disk ts.shelf.store) (strays_of ts.strays) (hosted log disk ts) t
+is_kept_in log disk ts kept honest known t lt calm =
     let files = (disk ts.shelf.store).files in
     let items = ts.tenants.items in
+    let own = parts_in log files items t lt in
     record {
       parts = parts_of items;
       next = ts.shelf.next;
       sound = kept.sound;
       agree = kept.agree honest;
-      settled = kept.settled known (nothing_refused log files items calm);
       apart = kept.apart;
       named = named_in log files items kept.named;
-      known_is = known_in log files items;
-      logs_are = logs_in log files items;
+      own = own.0;
+      at = own.1;
+      settled = kept.settled known t (nothing_refused log files items t calm);
+      known_is = known_in log files items t own.0 own.1;
+      logs_are = logs_in log files items t own.0 own.1;
     }

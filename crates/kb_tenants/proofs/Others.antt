@@ -1,9 +1,9 @@
 -- What a tenant's own call leaves of the other tenants, and of the files that are left alone.
 use Rattle.std.proofs.Common.{◌≡◌, ◌∙◌, ◌⊎◌, ⊎_elim, inl, inr, ◌≤◌, ◌<◌, ℕ, zero, suc, List, [], ◌∷◌, Option, Some, None, sym, ap, refl, subst, arith, length, get_or}
-use Rattle.std.specs.Prelude.{slice_get, slice_set, option_map}
+use Rattle.std.specs.Prelude.{slice_get, slice_set, option_map, string_bytes, unwrap_or, Contains}
 use Rattle.kb_tenant_state.specs.Partitions.{AreExact}
 use Rattle.std.specs.FinMap.{get}
-use Rattle.kb_store.specs.Disk.{Disk}
+use Rattle.kb_store.specs.Disk.{Disk, IsThere, bytes_of}
 use Rattle.kb_batch.specs.Batch.{natural}
 use Rattle.kb_log.specs.OnShelf.{Log, IsLawfulLog}
 use Rattle.kb_topics.specs.Catalog.{known, meta_log}
@@ -14,12 +14,13 @@ use Rattle.kb_tenant_state.specs.RetentionTime.{AreAllKept}
 use Rattle.kb_tenant_state.specs.Stored.{IsTold, stored_in, up_to_end}
 use Rattle.kb_tenant_state.specs.Parts as parts
 use Rattle.kb_tenant_state.specs.Parts.{IsSound, Agrees, Owns, entries, meta, world_of}
-use Rattle.kb_tenant_state.specs.Counts.{END, IsCalm}
+use Rattle.kb_tenant_state.specs.Counts.{IsCalm}
+use Rattle.kb_tenant_state.specs.Scene.{HadFile}
 use Rattle.kb_tenant_state.specs.Steps.{Meets}
 use Rattle.kb_tenant_state.specs.World.{World}
 use Rattle.kb_tenant_state.specs.declared.parts.Parts.{Parts}
 use Rattle.kb_tenant_state.proofs.Spared as spared
-use Rattle.kb_tenants.specs.Tenants.{AreSettled, AllAreSound, HaveNothingRefused, IsLeftAlone}
+use Rattle.kb_tenants.specs.Tenants.{AllAgree, AllAreSound, AreAccountedFor, CalmAreSettled, HasNothingRefused, IsLeftAlone, IsOfAnother, IsOfSome, IsSettledFor}
 use Rattle.kb_tenants.specs.Turns.{IsShelfTurn, IsShelfMet}
 use Rattle.kb_tenants.proofs.Change.{IsChange}
 use Rattle.kb_tenant.proofs.LogMoves.{same_or_not}
@@ -195,43 +196,90 @@ module _ {L : Type 0} (log : L → Log) (law : (l : L) → IsLawfulLog (log l)) 
   pub bytes_stay : e.honest → (file : ℕ) → IsLeftAlone log ps next file → get e.files file ≡ get d.files file
   bytes_stay honest file alone = step.frame.others.contents honest file alone.given_out (not_own file alone)
 
-  -- ---- what is in the files, where nothing was ever refused
+  -- ---- what is in the files, where nothing was ever refused to a tenant
 
-  nothing_before : HaveNothingRefused (slice_set ps t p') → HaveNothingRefused ps
-  nothing_before none u q here = ⊎_elim
-      (λ is. let more : p.refusals ≤ p'.refusals = step.grows in
-      let now = none t p' (put_here ps t p p' at) in
-      ap (λ (v : Parts L). v.refusals) (sym (same_item ps t u p q at here is)) ∙ omega (arith, more, now))
-      (λ ne. none u q (other_at ps t u p' ne ∙ here))
-      (same_or_not u t)
+  -- a file that was another's is another's still
+  still_another : (u file : ℕ) (bytes : List ℕ) → IsOfAnother log ps u file bytes → IsOfAnother log (slice_set ps t p') u file bytes
+  still_another u file bytes o = ⊎_elim
+      (λ is. record {
+        other = t;
+        parts = p';
+        at = put_here ps t p p' at;
+        apart = λ same. o.apart (is ∙ same);
+        had = subst (λ who. HadFile log who file bytes) (ap (λ (v : Parts L). string_bytes v.tenant) (sym (same_item ps t o.other p o.parts at o.at is)) ∙ sym step.named) o.had;
+      })
+      (λ ne. record { other = o.other; parts = o.parts; at = other_at ps t o.other p' ne ∙ o.at; apart = o.apart; had = o.had })
+      (same_or_not o.other t)
 
-  calm_step : HaveNothingRefused (slice_set ps t p') → IsCalm p.refusals p'.refusals
-  calm_step none =
-      let now = none t p' (put_here ps t p p' at) in
-      let was = nothing_before none t p at in
-      record { same = now ∙ sym was; below = omega (arith, was) }
+  -- a file of no log, which was not the tenant's, was of no log
+  nobodys_before : (file : ℕ) → (Owns log p file → ⊥) → (IsOfSome log (slice_set ps t p') file → ⊥) → IsOfSome log ps file → ⊥
+  nobodys_before file free not some = ⊎_elim
+      (λ is. free (subst (λ (v : Parts L). Owns log v file) (sym (same_item ps t some.tenant p some.parts at some.at is)) some.owns))
+      (λ ne. not (record { tenant = some.tenant; parts = some.parts; at = other_at ps t some.tenant p' ne ∙ some.at; owns = some.owns }))
+      (same_or_not some.tenant t)
 
-  pub settled_stays : (strays : List ℕ) → HaveNothingRefused (slice_set ps t p') → (HaveNothingRefused ps → AreSettled log ps strays d) → AreSettled log (slice_set ps t p') strays e
-  settled_stays strays none before =
-      let old = before (nothing_before none) in
-      let settles = step.settles (calm_step none) in
-      let own = settles.exact (old.meta_exact t p at, old.exact t p at) in
-      record {
-        accounts = λ file there not.
-            let was = settles.accounts file there (λ mine. not (record { tenant = t; parts = p'; at = put_here ps t p p' at; owns = mine })) in
-            old.accounts file was.0 (λ some. ⊎_elim
-            (λ is. was.1 (subst (λ (v : Parts L). Owns log v file) (sym (same_item ps t some.tenant p some.parts at some.at is)) some.owns))
-            (λ ne. not (record { tenant = some.tenant; parts = some.parts; at = other_at ps t some.tenant p' ne ∙ some.at; owns = some.owns }))
-            (same_or_not some.tenant t));
-        meta_exact = λ u q here. ⊎_elim
-            (λ s. subst (λ (v : Parts L). (meta log v).exact e.table) (sym s.1) own.0)
-            (λ o. still_exact log law q d e next last (sound.each u q o.1) step.frame.others.later (lengths u q o.1 o.0) (contents u q o.1 o.0) (old.meta_exact u q o.1))
-            (either u q here);
-        exact = λ u q here. ⊎_elim
-            (λ s. subst (λ (v : Parts L). AreExact log (entries v) e.table) (sym s.1) own.1)
-            (λ o. still_exact_logs log law q d e next last (sound.each u q o.1) step.frame.others.later (lengths u q o.1 o.0) (contents u q o.1 o.0) (old.exact u q o.1))
-            (either u q here);
-      }
+  -- it is not the tenant's now
+  not_now : (file : ℕ) → (IsOfSome log (slice_set ps t p') file → ⊥) → Owns log p' file → ⊥
+  not_now file not mine = not (record { tenant = t; parts = p'; at = put_here ps t p p' at; owns = mine })
+
+  module _ (agree : d.honest → AllAgree log ps d.files) (strays : List ℕ) where
+    -- a file that was there as it is, and was not the tenant's, is accounted for as it was
+    accounted_before : (u file : ℕ) → AreAccountedFor log ps strays d u → d.honest → IsThere d file × (get e.files file ≡ get d.files file) × (Owns log p file → ⊥)
+        → (IsOfSome log (slice_set ps t p') file → ⊥) → (bytes_of e file ≡ [] → ⊥) → (IsOfAnother log (slice_set ps t p') u file (bytes_of e file) → ⊥) → Contains strays file
+    accounted_before u file before honest was not full none =
+        let bytes : bytes_of e file ≡ bytes_of d file = ap (λ (o : Option (List ℕ)). unwrap_or o []) was.1 in
+        before honest file was.0 (nobodys_before file was.2 not) (λ empty. full (bytes ∙ empty))
+        (λ o. none (subst (IsOfAnother log (slice_set ps t p') u file) (sym bytes) (still_another u file (bytes_of d file) o)))
+
+    -- a step that was refused nothing leaves nothing behind
+    own_accounts : IsCalm p.refusals p'.refusals → AreAccountedFor log ps strays d t → AreAccountedFor log (slice_set ps t p') strays e t
+    own_accounts calm before honest file there not full =
+        let settles = step.settles calm in
+        let was = settles.accounts file there (not_now file not) in
+        let same = settles.writes honest file there (not_now file not) full in
+        accounted_before t file before (step.frame.others.honest honest) (was.0, same.1, was.1) not full
+
+    -- at another place what it left behind is another's
+    other_accounts : (u : ℕ) → (u ≡ t → ⊥) → AreAccountedFor log ps strays d u → AreAccountedFor log (slice_set ps t p') strays e u
+    other_accounts u ne before honest file there not full none =
+        let past : d.honest = step.frame.others.honest honest in
+        let was = step.leaves honest (agree past t p at) file there (not_now file not) full
+        (λ left. none (record { other = t; parts = p'; at = put_here ps t p p' at; apart = λ is. ne (sym is); had = left })) in
+        accounted_before u file before past was not full none
+
+    -- the tenant's own place
+    own_settled : CalmAreSettled log ps strays d → HasNothingRefused (slice_set ps t p') t → IsSettledFor log (slice_set ps t p') strays e t
+    own_settled before none =
+        let now : slice_get (slice_set ps t p') t ≡ Some p' = put_here ps t p p' at in
+        let count : p'.refusals ≡ 0 = none p' now in
+        let more : p.refusals ≤ p'.refusals = step.grows in
+        let was : p.refusals ≡ 0 = omega (arith, more, count) in
+        let calm : IsCalm p.refusals p'.refusals = record { same = count ∙ sym was; below = omega (arith, was) } in
+        let old = before t (λ q here. ap (λ (v : Parts L). v.refusals) (one_item q p (sym here ∙ at)) ∙ was) in
+        let exact = (step.settles calm).exact (old.meta_exact p at, old.exact p at) in
+        record {
+          accounts = own_accounts calm old.accounts;
+          meta_exact = λ q here. subst (λ (v : Parts L). (meta log v).exact e.table) (one_item p' q (sym now ∙ here)) exact.0;
+          exact = λ q here. subst (λ (v : Parts L). AreExact log (entries v) e.table) (one_item p' q (sym now ∙ here)) exact.1;
+        }
+
+    -- another place
+    other_settled : (u : ℕ) → (u ≡ t → ⊥) → IsSettledFor log ps strays d u → IsSettledFor log (slice_set ps t p') strays e u
+    other_settled u ne old = record {
+      accounts = other_accounts u ne old.accounts;
+      meta_exact = λ q here.
+          let was = sym (other_at ps t u p' ne) ∙ here in
+          still_exact log law q d e next last (sound.each u q was) step.frame.others.later (lengths u q was ne) (contents u q was ne) (old.meta_exact q was);
+      exact = λ q here.
+          let was = sym (other_at ps t u p' ne) ∙ here in
+          still_exact_logs log law q d e next last (sound.each u q was) step.frame.others.later (lengths u q was ne) (contents u q was ne) (old.exact q was);
+    }
+
+    pub settled_stays : CalmAreSettled log ps strays d → CalmAreSettled log (slice_set ps t p') strays e
+    settled_stays before u none = ⊎_elim
+        (λ is. subst (IsSettledFor log (slice_set ps t p') strays e) (sym is) (own_settled before (λ q here. none q (ap (slice_get (slice_set ps t p')) is ∙ here))))
+        (λ ne. other_settled u ne (before u (λ q here. none q (other_at ps t u p' ne ∙ here))))
+        (same_or_not u t)
 
   -- what the step meets is what the turn meets
   pub met : (P : World → World → Type 0) → Meets (parts.scene_on log p d next) (parts.scene_on log p' e last) (P (world_of log p d.files) (world_of log p' e.files)) → IsShelfMet log t ps (slice_set ps t p') d e next last P

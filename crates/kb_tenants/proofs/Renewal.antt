@@ -21,7 +21,7 @@ use Rattle.kb_tenant_state.proofs.Put.{get_put}
 use Rattle.kb_tenant_api.specs.Hosted.{kept_of, refusals_of}
 use Rattle.kb_tenant_api.specs.Turns.{IsAccounted, IsTurn}
 use Rattle.kb_tenants.specs.Renewal.{IsLookedAt, IsRenewedIfDue, IsShortenedFor, MAX_SNAPSHOT, MIN_COMMANDS, is_due, limit, next_look, renew_at_of, snapshot_of}
-use Rattle.kb_tenants.specs.Tenants.{AreKept, AreSettled, AllAreSound, AllAgree, HaveNothingRefused, IsIdleUntil, IsLeftAlone, all_commands, commands_of, hosted, parts_of, shelf_is_honest, state_of, strays_of}
+use Rattle.kb_tenants.specs.Tenants.{AreKept, AllAreSound, AllAgree, CalmAreSettled, IsIdleUntil, IsLeftAlone, commands_of, hosted, parts_of, shelf_is_honest, state_of, strays_of}
 use Rattle.kb_tenants.specs.declared.counts.Counts.{Counts}
 use Rattle.kb_tenants.specs.declared.tenants.Tenant.{Tenant}
 use Rattle.kb_tenants.specs.declared.tenants.Tenants.{Tenants}
@@ -58,7 +58,7 @@ look_clipped commands len lt = by (nat_lt (limit (min len END)) commands) (nat_l
 -- ---- a renewal
 
 pub renewed : {a b : Scene Seen} → IsRenewal a b → IsChange a b
-renewed r = record { frame = r.frame; named = r.named; grows = r.grows; settles = r.settles }
+renewed r = record { frame = r.frame; named = r.named; grows = r.grows; settles = r.settles; wrote = r.wrote; leaves = r.leaves }
 
 -- one refusal, and what the store refused meanwhile
 counted_more : (before after m refused : ℕ) → refused ≡ m → after ≡ max (counted_once before) (min (before + m) END) → after ≡ counted_by (max 1 refused) before
@@ -201,7 +201,7 @@ module _ {L S : Type 0} (log : L → Log) (disk : S → Disk) (ts : Tenants L S)
               (λ o. kept.named u y o.1)
               (get_put ts.tenants.items t u x (record x { renew_at = n }) y (stands log disk ts t x lt read) at);
           apart = λ file stray. subst (λ ps. IsLeftAlone log ps ts.shelf.next file) (sym parts_timed) (kept.apart file stray);
-          settled = λ known. subst (λ ps. HaveNothingRefused ps → AreSettled log ps (strays_of ts.strays) d) (sym parts_timed) (kept.settled known);
+          settled = λ known. subst (λ ps. CalmAreSettled log ps (strays_of ts.strays) d) (sym parts_timed) (kept.settled known);
           agree = λ honest. subst (λ ps. AllAgree log ps d.files) (sym parts_timed) (kept.agree honest);
           until = λ honest. subst (λ xs. IsIdleUntil ts.next_retention_time xs) (sym hosted_timed) (kept.until honest);
         }

@@ -6,7 +6,7 @@ use Rattle.std.specs.FinMap.{get}
 use Rattle.std.specs.Int.{int_min}
 use Rattle.std.specs.declared.alloc.Global.{Global}
 use Rattle.std.specs.declared.vec.Vec.{Vec}
-use Rattle.kb_store.specs.Disk.{Disk, Table, Files, IsThere}
+use Rattle.kb_store.specs.Disk.{Disk, Table, Files, IsThere, bytes_of}
 use Rattle.kb_log.specs.OnShelf.{Log}
 use Rattle.kb_coordinator.specs.Calls as groups
 use Rattle.kb_coordinator.specs.Groups.{Groups, earliest, none}
@@ -15,6 +15,7 @@ use Rattle.kb_tenant_state.specs.Calls.{retain_all}
 use Rattle.kb_topics.specs.Catalog.{known}
 use Rattle.kb_tenant_state.specs.Partitions.{AreExact, logs_of}
 use Rattle.kb_tenant_state.specs.Parts.{IsSound, Agrees, Owns, entries, meta, world_of}
+use Rattle.kb_tenant_state.specs.Scene.{HadFile}
 use Rattle.kb_tenant_state.specs.Counts.{IsCalm}
 use Rattle.kb_tenant_state.specs.declared.parts.Parts.{Parts}
 use Rattle.kb_tenant_state.specs.declared.topic_partition.TopicPartition.{TopicPartition}
@@ -194,32 +195,59 @@ pub record AreSettled {L : Type 0} (log : L → Log) (ps : List (Parts L)) (stra
   pub meta_exact : (t : ℕ) (p : Parts L) → slice_get ps t ≡ Some p → (meta log p).exact disk.table
   pub exact : (t : ℕ) (p : Parts L) → slice_get ps t ≡ Some p → AreExact log (entries p) disk.table
 
--- nothing was ever refused to any of them
-abbrev pub HaveNothingRefused : {L : Type 0} → List (Parts L) → Type 0
-HaveNothingRefused {L} ps = (t : ℕ) (p : Parts L) → slice_get ps t ≡ Some p → p.refusals ≡ 0
+-- A log of another tenant had the file, with those bytes.
+pub record IsOfAnother {L : Type 0} (log : L → Log) (ps : List (Parts L)) (t file : ℕ) (bytes : List ℕ) : Type 0 where
+  pub other : ℕ
+  pub parts : Parts L
+  pub at : slice_get ps other ≡ Some parts
+  pub apart : other ≡ t → ⊥
+  pub had : HadFile log (string_bytes parts.tenant) file bytes
 
--- What tenants have is in the files of a disk, on which some are left alone: each has what its parts come to, and nothing else is there.
-pub record AreKeptIn {L : Type 0} (log : L → Log) (disk : Disk) (strays : List ℕ) (ts : List TenantState) : Type 0 where
+-- Each file that is there and of no log is left alone, unless it is empty, or a log of another tenant than the one at that place had it with
+-- the bytes that it has.
+abbrev pub AreAccountedFor : {L : Type 0} → (L → Log) → List (Parts L) → List ℕ → Disk → ℕ → Type 0
+AreAccountedFor log ps strays disk t = disk.honest → (file : ℕ) → IsThere disk file → (IsOfSome log ps file → ⊥)
+    → (bytes_of disk file ≡ [] → ⊥) → (IsOfAnother log ps t file (bytes_of disk file) → ⊥) → Contains strays file
+
+-- The files are accounted for at the place of a tenant; and nothing but its batches is in the files of a log of the tenant there, whose
+-- memory tells what retention asks of its first batch.
+pub record IsSettledFor {L : Type 0} (log : L → Log) (ps : List (Parts L)) (strays : List ℕ) (disk : Disk) (t : ℕ) : Type 0 where
+  pub accounts : AreAccountedFor log ps strays disk t
+  pub meta_exact : (p : Parts L) → slice_get ps t ≡ Some p → (meta log p).exact disk.table
+  pub exact : (p : Parts L) → slice_get ps t ≡ Some p → AreExact log (entries p) disk.table
+
+-- nothing was ever refused to the tenant at a place, if there is one
+abbrev pub HasNothingRefused : {L : Type 0} → List (Parts L) → ℕ → Type 0
+HasNothingRefused {L} ps t = (p : Parts L) → slice_get ps t ≡ Some p → p.refusals ≡ 0
+
+-- each such place is settled
+abbrev pub CalmAreSettled : {L : Type 0} → (L → Log) → List (Parts L) → List ℕ → Disk → Type 0
+CalmAreSettled {L} log ps strays disk = (t : ℕ) → HasNothingRefused ps t → IsSettledFor log ps strays disk t
+
+-- What the tenant at a place has is in the files of a disk, on which some are left alone: it has what its parts come to, and its place is
+-- settled. Beside its parts stand all tenants', which are sound and agree with their files.
+pub record IsKeptIn {L : Type 0} (log : L → Log) (disk : Disk) (strays : List ℕ) (ts : List TenantState) (t : ℕ) : Type 0 where
   pub parts : List (Parts L)
   pub next : ℕ
   pub sound : AllAreSound log parts disk.table next
   pub agree : AllAgree log parts disk.files
-  pub settled : AreSettled log parts strays disk
   pub apart : (file : ℕ) → Contains strays file → IsLeftAlone log parts next file
   pub named : names_of ts ≡ map (λ p. string_bytes p.tenant) parts
-  pub known_is : (t : ℕ) (p : Parts L) → slice_get parts t ≡ Some p → (kept_of ts t).world.known ≡ known p.catalog
-  pub logs_are : (t : ℕ) (p : Parts L) → slice_get parts t ≡ Some p → (kept_of ts t).world.logs ≡ logs_of log (entries p) disk.files
+  pub own : Parts L
+  pub at : slice_get parts t ≡ Some own
+  pub settled : IsSettledFor log parts strays disk t
+  pub known_is : (kept_of ts t).world.known ≡ known own.catalog
+  pub logs_are : (kept_of ts t).world.logs ≡ logs_of log (entries own) disk.files
 
 -- ---- between the calls
 
 -- What holds between the calls: the parts are sound on the shelf, each under its tenant's name; on an honest store they agree with
--- their files, and up to a clock a moment leaves each tenant what it keeps. The files that are left alone are no tenant's; and where
--- they are known, and nothing was ever refused, each other file is of a log, and has nothing but its batches.
+-- their files, and up to a clock a moment leaves each tenant what it keeps. The files that are left alone are no tenant's. Where they are
+-- known, the place of each tenant to which nothing was ever refused is settled, whatever was refused to others.
 pub record AreKept {L S : Type 0} (log : L → Log) (disk : S → Disk) (ts : Tenants L S) : Type 0 where
   pub sound : AllAreSound log (parts_of ts.tenants.items) (disk ts.shelf.store).table ts.shelf.next
   pub named : (t : ℕ) (x : Tenant L) → slice_get ts.tenants.items t ≡ Some x → string_bytes x.parts.tenant ≡ string_bytes x.name
   pub apart : (file : ℕ) → Contains (strays_of ts.strays) file → IsLeftAlone log (parts_of ts.tenants.items) ts.shelf.next file
-  pub settled : IsSome ts.strays → HaveNothingRefused (parts_of ts.tenants.items)
-      → AreSettled log (parts_of ts.tenants.items) (strays_of ts.strays) (disk ts.shelf.store)
+  pub settled : IsSome ts.strays → CalmAreSettled log (parts_of ts.tenants.items) (strays_of ts.strays) (disk ts.shelf.store)
   pub agree : shelf_is_honest disk ts → AllAgree log (parts_of ts.tenants.items) (disk ts.shelf.store).files
   pub until : shelf_is_honest disk ts → IsIdleUntil ts.next_retention_time (hosted log disk ts)

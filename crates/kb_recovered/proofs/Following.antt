@@ -1,46 +1,46 @@
--- Each tenant of a broker has after any number of commits, losses and starts what it had.
+-- A tenant of a broker has after any number of commits, losses and starts what it had.
 use Rattle.std.proofs.Common.{◌⊎◌, ◌∷◌, [], ℕ, List, sym, subst, ⊎_elim}
 use Rattle.kb_store.specs.Disk.{Files}
-use Rattle.kb_tenant_api.specs.Hosted.{TenantState, kept_of}
+use Rattle.kb_tenant_api.specs.Hosted.{Kept}
 use Rattle.kb_tenant_state.specs.World.{World}
-use Rattle.kb_restart.specs.Restart.{AreReopened, owners_of}
+use Rattle.kb_restart.specs.Restart.{IsReopened, owners_of}
 use Rattle.kb_loss.specs.Since.{Touched, AreLeft}
 use Rattle.kb_loss.specs.Tenant.{HasWhatWas}
 use Rattle.kb_loss.proofs.Commits.{what_is, what_was_then}
 use Rattle.kb_loss.proofs.Owned.{named_owners}
 use Rattle.kb_loss.proofs.Tenant.{what_was_left}
-use Rattle.kb_recovered.specs.Commits.{TenantsAt, AreLeftOf, AreOpenedFrom, FollowOn, last_at}
-use Rattle.kb_recovered.specs.Recovered.{AreAll, AreWritten, HaveWhatWas}
-use Rattle.kb_recovered.proofs.Recovered.{have_what_was}
+use Rattle.kb_recovered.specs.Commits.{TenantAt, IsLeftOf, IsOpenedFrom, FollowOn, last_at}
+use Rattle.kb_recovered.specs.Recovered.{AreAll, IsWrittenSince, KeepsWhatWas}
+use Rattle.kb_recovered.proofs.Recovered.{keeps_what_was}
 
-module _ (names : List (List ℕ)) where
-  have_what_is : (a : TenantsAt names) → HaveWhatWas names a.tenants a.tenants
-  have_what_is a = λ t name at. what_is a.files (owners_of a.files a.numbers name) (kept_of a.tenants t).world.known (kept_of a.tenants t).world.logs (a.found.each t name at)
+module _ (name : List ℕ) where
+  keeps_itself : (a : TenantAt name) → KeepsWhatWas a.kept a.kept
+  keeps_itself a = what_is a.files (owners_of a.files a.numbers name) a.kept.world.known a.kept.world.logs a.found.opened
 
-  have_then : (a : TenantsAt names) (us vs : List TenantState) → HaveWhatWas names a.tenants us → HaveWhatWas names us vs → HaveWhatWas names a.tenants vs
-  have_then a us vs first then = λ t name at.
-      what_was_then a.files (owners_of a.files a.numbers name) (kept_of a.tenants t).world.known (kept_of a.tenants t).world.logs (a.found.each t name at)
-      (kept_of us t).world.known (kept_of us t).world.logs (kept_of vs t).world.known (kept_of vs t).world.logs (first t name at) (then t name at)
+  keeps_then : (a : TenantAt name) (mid new : Kept) → KeepsWhatWas a.kept mid → KeepsWhatWas mid new → KeepsWhatWas a.kept new
+  keeps_then a mid new first then =
+      what_was_then a.files (owners_of a.files a.numbers name) a.kept.world.known a.kept.world.logs a.found.opened
+      mid.world.known mid.world.logs new.world.known new.world.logs first then
 
-  left_of : (a b : TenantsAt names) → AreLeftOf a b → HaveWhatWas names a.tenants b.tenants
-  left_of a b l = λ t name at.
-      what_was_left a.files (owners_of a.files a.numbers name) (kept_of a.tenants t).world.known (kept_of a.tenants t).world.logs (a.found.each t name at) name l.touched l.waiting b.files l.left (owners_of b.files b.numbers name)
+  left_of : (a b : TenantAt name) → IsLeftOf a b → KeepsWhatWas a.kept b.kept
+  left_of a b l =
+      what_was_left a.files (owners_of a.files a.numbers name) a.kept.world.known a.kept.world.logs a.found.opened name l.touched l.waiting b.files l.left (owners_of b.files b.numbers name)
       (named_owners a.files a.numbers name a.all.once a.all.all) (named_owners b.files b.numbers name b.all.once b.all.all)
-      (kept_of b.tenants t).world.known (kept_of b.tenants t).world.logs (l.written.read t name at) (l.written.written t name at) (b.found.each t name at)
+      b.kept.world.known b.kept.world.logs l.written.read l.written.written b.found.opened
 
-  opened_from : (a b : TenantsAt names) → AreOpenedFrom a b → HaveWhatWas names a.tenants b.tenants
-  opened_from a b o = λ t name at.
-      subst (λ (w : World). HasWhatWas (kept_of a.tenants t).world.known (kept_of a.tenants t).world.logs w.known w.logs) (sym (o.same t)) (have_what_is a t name at)
+  opened_from : (a b : TenantAt name) → IsOpenedFrom a b → KeepsWhatWas a.kept b.kept
+  opened_from a b o =
+      subst (λ (w : World). HasWhatWas a.kept.world.known a.kept.world.logs w.known w.logs) (sym o.same) (keeps_itself a)
 
-  pub all_follow : (a : TenantsAt names) (bs : List (TenantsAt names)) → FollowOn a bs → HaveWhatWas names a.tenants (last_at a bs).tenants
-  all_follow a [] f = have_what_is a
-  all_follow a (b ∷ bs) f = have_then a b.tenants (last_at b bs).tenants
-      (⊎_elim (λ (l : AreLeftOf a b). left_of a b l) (λ (o : AreOpenedFrom a b). opened_from a b o) f.0)
+  pub all_follow : (a : TenantAt name) (bs : List (TenantAt name)) → FollowOn a bs → KeepsWhatWas a.kept (last_at a bs).kept
+  all_follow a [] f = keeps_itself a
+  all_follow a (b ∷ bs) f = keeps_then a b.kept (last_at b bs).kept
+      (⊎_elim (λ (l : IsLeftOf a b). left_of a b l) (λ (o : IsOpenedFrom a b). opened_from a b o) f.0)
       (all_follow b bs f.1)
 
   -- and after a further loss
-  pub all_follow_lost : (a : TenantsAt names) (bs : List (TenantsAt names)) → FollowOn a bs → (touched : Touched) (waiting : List ℕ) (found : Files) → AreLeft (last_at a bs).files touched waiting found → (there : List ℕ) → AreAll found there → (us : List TenantState)
-      → AreReopened found there names us → AreWritten (last_at a bs).found touched waiting found there us → HaveWhatWas names a.tenants us
-  all_follow_lost a bs f touched waiting found left there all us opened written =
+  pub all_follow_lost : (a : TenantAt name) (bs : List (TenantAt name)) → FollowOn a bs → (touched : Touched) (waiting : List ℕ) (found : Files) → AreLeft (last_at a bs).files touched waiting found → (there : List ℕ) → AreAll found there → (new : Kept)
+      → IsReopened found there name new → IsWrittenSince (last_at a bs).found touched waiting found there new → KeepsWhatWas a.kept new
+  all_follow_lost a bs f touched waiting found left there all new opened written =
       let last = last_at a bs in
-      have_then a last.tenants us (all_follow a bs f) (have_what_was last.files last.numbers names last.tenants last.found last.all touched waiting found left there all us opened written)
+      keeps_then a last.kept new (all_follow a bs f) (keeps_what_was last.files last.numbers name last.kept last.found last.all touched waiting found left there all new opened written)

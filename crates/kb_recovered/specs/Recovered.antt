@@ -1,10 +1,10 @@
--- What the tenants of a broker have after a loss of power.
-use Rattle.std.specs.Prelude.{◌≡◌, ℕ, List, Some, IsSome, nat_eq, slice_get}
+-- What a tenant of a broker has after a loss of power.
+use Rattle.std.specs.Prelude.{ℕ, List, IsSome, nat_eq}
 use Rattle.std.specs.FinMap.{get}
 use Rattle.std.specs.List.{Contains, IsDistinct}
 use Rattle.kb_store.specs.Disk.{Files}
-use Rattle.kb_tenant_api.specs.Hosted.{TenantState, kept_of}
-use Rattle.kb_restart.specs.Again.{AreFound}
+use Rattle.kb_tenant_api.specs.Hosted.{Kept}
+use Rattle.kb_restart.specs.Again.{IsFound}
 use Rattle.kb_restart.specs.Restart.{owners_of}
 use Rattle.kb_loss.specs.Since.{Touched}
 use Rattle.kb_loss.specs.Tenant.{IsReadAgain, TenantIsWritten, HasWhatWas}
@@ -14,16 +14,12 @@ pub record AreAll (files : Files) (numbers : List ℕ) : Type 0 where
   pub once : IsDistinct nat_eq numbers
   pub all : (n : ℕ) → IsSome (get files n) → Contains numbers n
 
--- The logs of each named tenant were written in order since a commit, and what is left of its catalog can be read.
-pub record AreWritten {files : Files} {numbers : List ℕ} {names : List (List ℕ)} {ts : List TenantState}
-    (was : AreFound files numbers names ts) (touched : Touched) (waiting : List ℕ) (found : Files) (there : List ℕ)
-    (us : List TenantState) : Type 0 where
-  pub read : (t : ℕ) (name : List ℕ) (at : slice_get names t ≡ Some name)
-      → IsReadAgain (was.each t name at) found (owners_of found there name)
-  pub written : (t : ℕ) (name : List ℕ) (at : slice_get names t ≡ Some name)
-      → TenantIsWritten (was.each t name at) name touched waiting found (owners_of found there name) (kept_of us t).world.known
+-- The logs of a named tenant were written in order since a commit, and what is left of its catalog can be read.
+pub record IsWrittenSince {files : Files} {numbers name : List ℕ} {old : Kept} (was : IsFound files numbers name old) (touched : Touched)
+    (waiting : List ℕ) (found : Files) (there : List ℕ) (new : Kept) : Type 0 where
+  pub read : IsReadAgain was.opened found (owners_of found there name)
+  pub written : TenantIsWritten was.opened name touched waiting found (owners_of found there name) new.world.known
 
--- Each named tenant has what it had.
-abbrev pub HaveWhatWas : List (List ℕ) → List TenantState → List TenantState → Type 0
-HaveWhatWas names ts us = (t : ℕ) (name : List ℕ) → slice_get names t ≡ Some name
-    → HasWhatWas (kept_of ts t).world.known (kept_of ts t).world.logs (kept_of us t).world.known (kept_of us t).world.logs
+-- The tenant keeps what it kept.
+abbrev pub KeepsWhatWas : Kept → Kept → Type 0
+KeepsWhatWas old new = HasWhatWas old.world.known old.world.logs new.world.known new.world.logs

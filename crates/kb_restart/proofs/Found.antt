@@ -1,6 +1,6 @@
--- What tenants have whose files are accounted for is what their files come to.
+-- What a tenant has whose files are accounted for is what its files come to.
 use Rattle.std.proofs.Common.{◌≡◌, ◌∙◌, ◌<◌, ◌^◌, ◌⊎◌, inl, inr, ⊎_elim, ℕ, zero, suc, Bool, true, false, not, cond, List, [], ◌∷◌, Option, Some, None, refl, sym, ap, subst, eqb-true, arith}
-use Rattle.std.specs.Prelude.{ℤ, pos, ◌&&◌, IfOk, Result, Ok, Err, slice_get, map, max, nat_eq, IsSome, option_map, length, string_bytes}
+use Rattle.std.specs.Prelude.{ℤ, pos, ◌&&◌, IfOk, Result, Ok, Err, slice_get, nat_eq, IsSome, option_map, unwrap_or, length, string_bytes}
 use Rattle.std.specs.FinMap.{get, keys, contains_key-keys}
 use Rattle.std.specs.Bool.{Decides}
 use Rattle.std.specs.Cmp.{unsigned_tied}
@@ -19,27 +19,29 @@ use Rattle.std.proofs.lemmas.List.{append-nil}
 use Rattle.std.proofs.lemmas.Map.Made.{is_member-Decides, lookup-map_values}
 use Rattle.std.proofs.lemmas.Option.{none-some, slice_get-map, slice_get_within}
 use Rattle.std.proofs.lemmas.Slice.Eq.{bytes_eq-Decides}
-use Rattle.kb_store.specs.Disk.{Disk, Files, IsLawfulDisk, IsThere, Table}
+use Rattle.kb_store.specs.Disk.{Disk, Files, IsLawfulDisk, IsThere, Table, bytes_of}
 use Rattle.kb_batch.specs.Batch.{is_natural, natural}
 use Rattle.kb_segment.specs.Header.{Header, header_in}
 use Rattle.kb_segment.specs.declared.segment.Segment.{Segment}
 use Rattle.kb_log.specs.OnShelf.{Identity}
-use Rattle.kb_segment_log.specs.SegmentLog.{bytes_at, segment_log, whose, IsFileOf, IsHeaded, IsKept, IsNamed}
+use Rattle.kb_segment_log.specs.SegmentLog.{bytes_at, segment_log, whose, IsFileOf, IsHeaded, IsKept, IsNamed, Names}
 use Rattle.kb_segment_log.specs.Chain.{ComesTo}
 use Rattle.kb_segment_log.specs.Reopened.{AreFilesOf}
 use Rattle.kb_segment_log.specs.declared.log.SegmentLog.{SegmentLog}
+use Rattle.kb_segment_log.proofs.Fronts.{header_within}
 use Rattle.kb_segment_log.proofs.Reopens.{reopens_exact}
 use Rattle.kb_topics.specs.Catalog.{known, meta_log, catalog_identity}
 use Rattle.kb_topics.specs.Known.{Known, PartitionState, TopicState, partition_at, topic_at}
 use Rattle.kb_tenant_state.specs.Partitions.{log_state, logs_of, partition_identity}
 use Rattle.kb_tenant_state.specs.Partitions as partitions
+use Rattle.kb_tenant_state.specs.Scene.{HadFile}
 use Rattle.kb_tenant_state.specs.declared.partition.Partition.{Partition}
 use Rattle.kb_tenant_state.proofs.Changed.{log_at_is}
 use Rattle.kb_tenant_state.specs.Parts.{IsSound, Agrees, entries, meta, start_said}
 use Rattle.kb_tenant_state.specs.Tied.{counted, partition_count}
 use Rattle.kb_tenant_state.specs.declared.parts.Parts.{Parts}
 use Rattle.kb_tenant_api.specs.Hosted.{TenantState, kept_of, names_of}
-use Rattle.kb_tenants.specs.Tenants.{AreKeptIn, IsOfSome}
+use Rattle.kb_tenants.specs.Tenants.{IsKeptIn, IsOfAnother, IsOfSome}
 use Rattle.kb_opening.specs.Opened.{Owners, ComesToKnown, IsInUse, IsLogOf, IsLongestFold, IsOpened, NoneAbove}
 use Rattle.kb_opening.specs.Tenant.{generation_of}
 use Rattle.kb_opening.proofs.Generations.{nothing_whole}
@@ -48,7 +50,7 @@ use Rattle.kb_opening.proofs.Counted.{logs_counted}
 use Rattle.kb_opening.proofs.Named.{Rises, at_place, is_place}
 use Rattle.kb_opening.proofs.Owned.{generation_told, small_in}
 use Rattle.kb_opening.specs.Owners.{place_among, catalog_of, partition_of, strays_of, is_of_catalog, is_of_partition, is_of_one, passes, says}
-use Rattle.kb_restart.specs.Again.{AreApart, AreFound, AreStillStrays}
+use Rattle.kb_restart.specs.Again.{AreApart, AreStillStrays, IsFound}
 use Rattle.kb_restart.specs.Restart.{IsOfLater, IsUnknown, owners_of}
 use Rattle.kb_restart.proofs.Headed.{not_both, number_is}
 use Rattle.kb_restart.proofs.Listed.{all_listed, listed_apart}
@@ -58,19 +60,14 @@ use Rattle.kb_restart.proofs.Read.{both_true, catalog_one, in_filter, of_filter,
 
 -- ---- answers
 
-pub ok_all : {T E : Type 0} {P Q R X : T → Type 0} (r : Result T E) → ((x : T) → P x → Q x → R x → X x) → IfOk r P → IfOk r Q → IfOk r R → IfOk r X
-ok_all (Ok x) f p q s = f x p q s
-ok_all (Err e) f p q s = tt
+pub ok_both : {T E : Type 0} {P Q X : T → Type 0} (r : Result T E) → ((x : T) → P x → Q x → X x) → IfOk r P → IfOk r Q → IfOk r X
+ok_both (Ok x) f p q = f x p q
+ok_both (Err e) f p q = tt
 
 -- ---- lists
 
 some_is : {A : Type 0} {x y : A} → Some x ≡ Some y → x ≡ y
 some_is {A} {x} {y} e = cc
-
--- what stands in a list of which each item was mapped
-mapped : {A B : Type 0} (f : A → B) (o : Option A) (y : B) → option_map f o ≡ Some y → (x : A) × (o ≡ Some x) × (f x ≡ y)
-mapped f None y e = absurd (none-some y e)
-mapped f (Some x) y e = (x, refl, some_is e)
 
 distinct_filter : (p : ℕ → Bool) (xs : List ℕ) → IsDistinct nat_eq xs → IsDistinct nat_eq (filter p xs)
 distinct_filter p [] d = d
@@ -126,13 +123,30 @@ of_keys d file has = All-contains (λ n. IsThere d n) (keys d.table) file (all_l
 
 -- ---- whose a file is
 
--- each file of a log that is exact begins with a header that names the log
+-- each file of a log's segments begins with a header that names the log
 headed_of : (who : Identity) (files : Files) (ss : List Segment) (file : ℕ) → AllByRecursion (IsHeaded who files) ss → IsFileOf ss file → IsNamed who files file
 headed_of who files [] file h own = absurd own
 headed_of who files (s ∷ ss) file h own = ⊎_elim
     (λ (is : s.file ≡ file). subst (IsNamed who files) is (record { header = h.0.header; read = h.0.read; names = h.0.names }))
     (λ (rest : IsFileOf ss file). headed_of who files ss file h.1 rest)
     own
+
+-- so does one whose begin was refused, where its header can be read
+pub names_owner : (l : SegmentLog) (files : Files) (file : ℕ) (h : Header) → (segment_log l).agrees files → (segment_log l).owns file → header_in (bytes_at files file) ≡ Some h → Names (whose l) h
+names_owner l files file h agrees own read = ⊎_elim
+    (λ (of : IsFileOf l.segments.items file).
+    let n = headed_of (whose l) files l.segments.items file agrees.headed of in
+    subst (Names (whose l)) (some_is (sym n.read ∙ read)) n.names)
+    (λ (spare : l.spare ≡ Some file). ((agrees.recovered.beside file spare).next h read).names)
+    own
+
+-- and so does a file that a log had
+names_had : (tenant : List ℕ) (file : ℕ) (bytes : List ℕ) (h : Header) → HadFile segment_log tenant file bytes → header_in bytes ≡ Some h → h.tenant ≡ tenant
+names_had tenant file bytes h had read =
+    (names_owner had.of had.files file h had.agrees had.owns (ap (λ o. header_in (unwrap_or o [])) had.had ∙ read)).tenant ∙ had.tenants
+
+no_header : (h : Header) → header_in [] ≡ Some h → ⊥
+no_header h read = let w = header_within [] h read in omega (arith, w.0, w.1)
 
 there_of : (table : Table) (next : ℕ) (ss : List Segment) (file : ℕ) → AllByRecursion (IsKept table next) ss → IsFileOf ss file → IsSome (get table file)
 there_of table next [] file k own = absurd own
@@ -154,6 +168,14 @@ module _ (l : SegmentLog) (d : Disk) (next : ℕ) (exact : (segment_log l).exact
 -- what is said of a file's header is said of the one that was read
 said : (files : Files) (test : Header → Bool) (file : ℕ) (h : Header) → header_in (bytes_at files file) ≡ Some h → says files test file ≡ true → test h ≡ true
 said files test file h read is = sym (ap (passes test) read) ∙ is
+
+-- a header that passes a test can be read
+read_of : (files : Files) (test : Header → Bool) (file : ℕ) → says files test file ≡ true → (h : Header) × (header_in (bytes_at files file) ≡ Some h)
+read_of files test file is = by (header_in (bytes_at files file)) refl
+  where
+    by : (found : Option Header) → header_in (bytes_at files file) ≡ found → (h : Header) × (header_in (bytes_at files file) ≡ Some h)
+    by None e = absurd (false≢true (sym (ap (passes test) e) ∙ is))
+    by (Some h) e = (h, e)
 
 same_bytes : (a b : List ℕ) → a ≡ b → bytes_eq a b ≡ true
 same_bytes a b e = (bytes_eq-Decides a b).1 e
@@ -255,327 +277,330 @@ record UseBelow (files : Files) (of : Owners) (k : Known) (g : ℕ) : Type 0 whe
   in_use : IsInUse files of generation k
   below : generation < g
 
--- ---- the tenants
+-- ---- the tenant
 
-module _ (d : Disk) (lawful : IsLawfulDisk d) (honest : d.honest) (strays : List ℕ) (ts : List TenantState) (k : AreKeptIn segment_log d strays ts)
-    (apart : AreApart (names_of ts)) (left : AreStillStrays d.files (keys d.table) (names_of ts) ts strays) where
+module _ (d : Disk) (lawful : IsLawfulDisk d) (honest : d.honest) (strays : List ℕ) (ts : List TenantState) (t : ℕ) (k : IsKeptIn segment_log d strays ts t) (apart : AreApart (names_of ts)) where
   abbrev names : List (List ℕ)
   names = names_of ts
 
   abbrev numbers : List ℕ
   numbers = keys d.table
 
-  name_at : (t : ℕ) (p : Parts SegmentLog) → slice_get k.parts t ≡ Some p → slice_get names t ≡ Some (string_bytes p.tenant)
-  name_at t p at = ap (λ ns. slice_get ns t) k.named ∙ slice_get-map (λ (p : Parts SegmentLog). string_bytes p.tenant) k.parts t ∙ ap (option_map (λ (p : Parts SegmentLog). string_bytes p.tenant)) at
+  abbrev its : Parts SegmentLog
+  its = k.own
 
-  parts_at : (t : ℕ) (name : List ℕ) → slice_get names t ≡ Some name → (p : Parts SegmentLog) × (slice_get k.parts t ≡ Some p) × (string_bytes p.tenant ≡ name)
-  parts_at t name at = mapped (λ (p : Parts SegmentLog). string_bytes p.tenant) (slice_get k.parts t) name
-      (sym (slice_get-map (λ (p : Parts SegmentLog). string_bytes p.tenant) k.parts t) ∙ sym (ap (λ ns. slice_get ns t) k.named) ∙ at)
+  abbrev name : List ℕ
+  name = string_bytes k.own.tenant
 
-  -- the tenants of one name are one
-  one_tenant : (t u : ℕ) (p q : Parts SegmentLog) → slice_get k.parts t ≡ Some p → slice_get k.parts u ≡ Some q → string_bytes q.tenant ≡ string_bytes p.tenant → q ≡ p
-  one_tenant t u p q at there same =
-      let place : t ≡ u = apart t u (string_bytes p.tenant) (name_at t p at) (name_at u q there ∙ ap Some same) in
-      some_is (sym there ∙ ap (λ n. slice_get k.parts n) (sym place) ∙ at)
+  name_at : (u : ℕ) (q : Parts SegmentLog) → slice_get k.parts u ≡ Some q → slice_get names u ≡ Some (string_bytes q.tenant)
+  name_at u q at = ap (λ ns. slice_get ns u) k.named ∙ slice_get-map (λ (p : Parts SegmentLog). string_bytes p.tenant) k.parts u ∙ ap (option_map (λ (p : Parts SegmentLog). string_bytes p.tenant)) at
 
-  -- ---- one tenant's files
+  own_name : slice_get names t ≡ Some name
+  own_name = name_at t its k.at
 
-  module _ (t : ℕ) (p : Parts SegmentLog) (at : slice_get k.parts t ≡ Some p) where
-    abbrev name : List ℕ
-    name = string_bytes p.tenant
+  -- its name stands nowhere else
+  one_place : (u : ℕ) (other : List ℕ) → slice_get names u ≡ Some other → other ≡ name → t ≡ u
+  one_place u other at same = apart t u name own_name (at ∙ ap Some same)
 
-    sound : IsSound segment_log p d.table k.next
-    sound = k.sound.each t p at
+  one_tenant : (u : ℕ) (q : Parts SegmentLog) → slice_get k.parts u ≡ Some q → string_bytes q.tenant ≡ name → q ≡ its
+  one_tenant u q at same = some_is (sym at ∙ ap (λ n. slice_get k.parts n) (sym (one_place u (string_bytes q.tenant) (name_at u q at) same)) ∙ k.at)
 
-    agrees : Agrees segment_log p d.files
-    agrees = k.agree t p at
+  sound : IsSound segment_log its d.table k.next
+  sound = k.sound.each t its k.at
 
-    abbrev generation : ℕ
-    generation = generation_of p
+  agrees : Agrees segment_log its d.files
+  agrees = k.agree t its k.at
 
-    meta_named : (file : ℕ) → (meta segment_log p).owns file → IsNamed (catalog_identity name (pos generation) p.segment_bytes) d.files file
-    meta_named file own =
-        let z = (meta segment_log p).identity.generation in
-        let n : IsNamed (catalog_identity name z p.segment_bytes) d.files file = subst (λ who. IsNamed who d.files file) sound.catalog_named (owned_named (meta_log p.catalog) d k.next (k.settled.meta_exact t p at) file own agrees.catalog) in
-        let h = n.header in
-        let told = generation_told h (legal_in (bytes_at d.files file) h n.read) (ap (is_natural 0) n.names.kind) in
-        record {
-          header = h;
-          read = n.read;
-          names = record {
-            tenant = n.names.tenant;
-            kind = n.names.kind;
-            instance = n.names.instance;
-            partition = n.names.partition;
-            generation = number_is (natural h.generation) h.generation (own_number h.generation told) ∙ ap (λ v. pos (natural v)) n.names.generation;
-          };
-        }
+  abbrev generation : ℕ
+  generation = generation_of its
 
-    log_named : (i n : ℕ) (x : Partition SegmentLog) → partitions.partition_at i n (entries p) ≡ Some x → (file : ℕ) → (segment_log x.log).owns file → IsNamed (partition_identity name i n p.segment_bytes) d.files file
-    log_named i n x there file own = subst (λ who. IsNamed who d.files file) (sound.logs_named i n x there) (owned_named x.log d k.next (k.settled.exact t p at i n x there).0 file own (agrees.logs.each i n x there))
+  -- ---- its files' headers
 
-  -- a file that is not left alone is a log's, if each tenant that has it has it by that log
-  of_log : (l : SegmentLog) (file : ℕ) → l.spare ≡ None → Contains numbers file → (Contains strays file → ⊥) → (IsOfSome segment_log k.parts file → (segment_log l).owns file) → (segment_log l).owns file
-  of_log l file none has free by = ⊎_elim
-      (λ (own : (segment_log l).owns file). own)
-      (λ (not : (segment_log l).owns file → ⊥). absurd (free (k.settled.accounts file (of_keys d file has) (λ some. not (by some)))))
-      (owns_or_not l file none)
+  meta_named : (file : ℕ) → (meta segment_log its).owns file → IsNamed (catalog_identity name (pos generation) its.segment_bytes) d.files file
+  meta_named file own =
+      let z = (meta segment_log its).identity.generation in
+      let n : IsNamed (catalog_identity name z its.segment_bytes) d.files file = subst (λ who. IsNamed who d.files file) sound.catalog_named (owned_named (meta_log its.catalog) d k.next (k.settled.meta_exact its k.at) file own agrees.catalog) in
+      let h = n.header in
+      let told = generation_told h (legal_in (bytes_at d.files file) h n.read) (ap (is_natural 0) n.names.kind) in
+      record {
+        header = h;
+        read = n.read;
+        names = record {
+          tenant = n.names.tenant;
+          kind = n.names.kind;
+          instance = n.names.instance;
+          partition = n.names.partition;
+          generation = number_is (natural h.generation) h.generation (own_number h.generation told) ∙ ap (λ v. pos (natural v)) n.names.generation;
+        };
+      }
 
-  module _ (t : ℕ) (p : Parts SegmentLog) (at : slice_get k.parts t ≡ Some p) where
+  log_named : (i n : ℕ) (x : Partition SegmentLog) → partitions.partition_at i n (entries its) ≡ Some x → (file : ℕ) → (segment_log x.log).owns file → IsNamed (partition_identity name i n its.segment_bytes) d.files file
+  log_named i n x there file own = subst (λ who. IsNamed who d.files file) (sound.logs_named i n x there) (owned_named x.log d k.next (k.settled.exact its k.at i n x there).0 file own (agrees.logs.each i n x there))
+
+  -- ---- any tenant's
+
+  module _ (file : ℕ) (h : Header) (read : header_in (bytes_at d.files file) ≡ Some h) where
+    meta_names : (u : ℕ) (q : Parts SegmentLog) → slice_get k.parts u ≡ Some q → (meta segment_log q).owns file → Names (catalog_identity (string_bytes q.tenant) (meta segment_log q).identity.generation q.segment_bytes) h
+    meta_names u q at own = subst (λ who. Names who h) (k.sound.each u q at).catalog_named (names_owner (meta_log q.catalog) d.files file h (k.agree u q at).catalog own read)
+
+    log_names : (u : ℕ) (q : Parts SegmentLog) → slice_get k.parts u ≡ Some q → (i n : ℕ) (x : Partition SegmentLog) → partitions.partition_at i n (entries q) ≡ Some x → (segment_log x.log).owns file → Names (partition_identity (string_bytes q.tenant) i n q.segment_bytes) h
+    log_names u q at i n x there own = subst (λ who. Names who h) ((k.sound.each u q at).logs_named i n x there) (names_owner x.log d.files file h ((k.agree u q at).logs.each i n x there) own read)
+
+    -- a file that names the tenant and is of no log is left alone
+    left_alone : h.tenant ≡ name → Contains numbers file → (IsOfSome segment_log k.parts file → ⊥) → Contains strays file
+    left_alone of has nobodys =
+        k.settled.accounts honest file (of_keys d file has) nobodys
+        (λ none. no_header h (sym (ap header_in none) ∙ read))
+        (λ (o : IsOfAnother segment_log k.parts t file (bytes_of d file)).
+        let theirs = names_had (string_bytes o.parts.tenant) file (bytes_of d file) h o.had read in
+        o.apart (sym (one_place o.other (string_bytes o.parts.tenant) (name_at o.other o.parts o.at) (sym theirs ∙ of))))
+
+  module _ (left : AreStillStrays d.files (keys d.table) (names_of ts) ts (string_bytes k.own.tenant) strays) where
     -- a generation below one is in use and comes to what the tenant knows
     abbrev Below : ℕ → Type 0
-    Below g = UseBelow d.files (owners_of d.files numbers (name t p at)) (known p.catalog) g
+    Below g = UseBelow d.files (owners_of d.files numbers name) (known its.catalog) g
 
     -- ---- the catalog's
 
-    catalog_listed : (file : ℕ) → (meta segment_log p).owns file → Contains (catalog_of d.files (name t p at) (generation t p at) numbers) file
+    catalog_listed : (file : ℕ) → (meta segment_log its).owns file → Contains (catalog_of d.files name generation numbers) file
     catalog_listed file own =
-        in_filter (says d.files (is_of_catalog (name t p at) (generation t p at))) numbers file
-        (in_keys d.table file (owned_there (meta_log p.catalog) d k.next (k.settled.meta_exact t p at) file own (sound t p at).catalog))
-        (says_catalog d.files (name t p at) (generation t p at) p.segment_bytes file (meta_named t p at file own))
+        in_filter (says d.files (is_of_catalog name generation)) numbers file
+        (in_keys d.table file (owned_there (meta_log its.catalog) d k.next (k.settled.meta_exact its k.at) file own sound.catalog))
+        (says_catalog d.files name generation its.segment_bytes file (meta_named file own))
 
     -- a file of a generation of the catalog
-    module _ (g : ℕ) (file : ℕ) (has : Contains (catalog_of d.files (name t p at) g numbers) file) where
-      catalog_said : says d.files (is_of_catalog (name t p at) g) file ≡ true
-      catalog_said = (of_filter (says d.files (is_of_catalog (name t p at) g)) numbers file has).1
+    module _ (g : ℕ) (file : ℕ) (has : Contains (catalog_of d.files name g numbers) file) where
+      catalog_said : says d.files (is_of_catalog name g) file ≡ true
+      catalog_said = (of_filter (says d.files (is_of_catalog name g)) numbers file has).1
 
-      says_of : (h : Header) → header_in (bytes_at d.files file) ≡ Some h → IsCatalogs (name t p at) g h
-      says_of h read = catalogs (name t p at) g h (said d.files (is_of_catalog (name t p at) g) file h read catalog_said)
+      says_of : (h : Header) → header_in (bytes_at d.files file) ≡ Some h → IsCatalogs name g h
+      says_of h read = catalogs name g h (said d.files (is_of_catalog name g) file h read catalog_said)
+
+      abbrev header : Header
+      header = (read_of d.files (is_of_catalog name g) file catalog_said).0
+
+      read : header_in (bytes_at d.files file) ≡ Some header
+      read = (read_of d.files (is_of_catalog name g) file catalog_said).1
+
+      tells : IsCatalogs name g header
+      tells = says_of header read
+
+      by_own : (meta segment_log its).owns file → generation ≡ g
+      by_own own =
+          let n = meta_named file own in
+          one_number g generation n.header.generation n.names.generation (says_of n.header n.read).generation
 
       -- is of no other log than that of this generation
-      owned_by : IsOfSome segment_log k.parts file → (meta segment_log p).owns file × (generation t p at ≡ g)
+      owned_by : IsOfSome segment_log k.parts file → (meta segment_log its).owns file
       owned_by some = ⊎_elim
           (λ (own : (meta segment_log some.parts).owns file).
-          let n = meta_named some.tenant some.parts some.at file own in
-          let same : some.parts ≡ p = one_tenant t some.tenant p some.parts at some.at (sym n.names.tenant ∙ (says_of n.header n.read).tenant) in
-          (subst (λ q. (meta segment_log q).owns file) same own, ap (λ (q : Parts SegmentLog). generation_of q) (sym same) ∙ one_number g (generation_of some.parts) n.header.generation n.names.generation (says_of n.header n.read).generation))
+          let n = meta_names file header read some.tenant some.parts some.at own in
+          subst (λ q. (meta segment_log q).owns file) (one_tenant some.tenant some.parts some.at (sym n.tenant ∙ tells.tenant)) own)
           (λ (own : partitions.Owned segment_log (entries some.parts) file).
-          let n = log_named some.tenant some.parts some.at own.instance own.number own.partition own.at file own.own in
-          absurd (not_both n.header.kind (is_number 0 n.header.kind n.names.kind) (says_of n.header n.read).kind))
+          let n = log_names file header read some.tenant some.parts some.at own.instance own.number own.partition own.at own.own in
+          absurd (not_both header.kind (is_number 0 header.kind n.kind) tells.kind))
           some.owns
 
       -- where it is left alone, the generation in use comes to what the tenant knows, and this one is above it
       later_of : Contains strays file → Below g
       later_of stray = ⊎_elim
-          (λ (s : Contains (strays_of d.files names numbers) file). absurd (not_stray d.files names numbers (is_of_catalog (name t p at) g) (catalog_one names t g (name t p at) (name_at t p at)) file catalog_said s))
+          (λ (s : Contains (strays_of d.files names numbers) file). absurd (not_stray d.files names numbers (is_of_catalog name g) (catalog_one names t g name own_name) file catalog_said s))
           (λ more. ⊎_elim
           (λ (u : IsUnknown d.files numbers names ts file). absurd (no_partition u))
           (λ (l : IsOfLater d.files numbers names ts file). by_later l)
           more)
-          (left file stray)
+          (left file stray (passes_weaker (is_of_catalog name g) (is_of_one (name ∷ [])) (catalog_one (name ∷ []) 0 g name refl) (header_in (bytes_at d.files file)) catalog_said))
         where
           no_partition : IsUnknown d.files numbers names ts file → ⊥
-          no_partition u = by (header_in (bytes_at d.files file)) refl
-            where
-              other : says d.files (is_of_partition u.name u.instance u.partition) file ≡ true
-              other = (of_filter (says d.files (is_of_partition u.name u.instance u.partition)) numbers file u.has).1
-
-              by : (found : Option Header) → header_in (bytes_at d.files file) ≡ found → ⊥
-              by None e = false≢true (sym (ap (passes (is_of_catalog (name t p at) g)) e) ∙ catalog_said)
-              by (Some h) e = not_both h.kind (partitions_are u.name u.instance u.partition h (said d.files (is_of_partition u.name u.instance u.partition) file h e other)).kind (says_of h e).kind
+          no_partition u =
+              let other = (of_filter (says d.files (is_of_partition u.name u.instance u.partition)) numbers file u.has).1 in
+              not_both header.kind (partitions_are u.name u.instance u.partition header (said d.files (is_of_partition u.name u.instance u.partition) file header read other)).kind tells.kind
 
           by_later : IsOfLater d.files numbers names ts file → Below g
-          by_later l = by (header_in (bytes_at d.files file)) refl
-            where
-              other : says d.files (is_of_catalog l.name l.later) file ≡ true
-              other = (of_filter (says d.files (is_of_catalog l.name l.later)) numbers file l.has).1
-
-              by : (found : Option Header) → header_in (bytes_at d.files file) ≡ found → Below g
-              by None e = absurd (false≢true (sym (ap (passes (is_of_catalog (name t p at) g)) e) ∙ catalog_said))
-              by (Some h) e =
-                  let a = says_of h e in
-                  let b = catalogs l.name l.later h (said d.files (is_of_catalog l.name l.later) file h e other) in
-                  let one : l.name ≡ name t p at = sym b.tenant ∙ a.tenant in
-                  let place : t ≡ l.tenant = apart t l.tenant (name t p at) (name_at t p at) (l.named ∙ ap Some one) in
-                  let knows : (kept_of ts l.tenant).world.known ≡ known p.catalog = ap (λ v. (kept_of ts v).world.known) (sym place) ∙ k.known_is t p at in
-                  let is : l.later ≡ g = one_number g l.later h.generation (number_is l.later h.generation b.generation) a.generation in
-                  record {
-                    generation = l.generation;
-                    in_use = subst (λ w. IsInUse d.files (owners_of d.files numbers (name t p at)) l.generation w) knows
-                        (subst (λ n. IsInUse d.files (owners_of d.files numbers n) l.generation (kept_of ts l.tenant).world.known) one l.in_use);
-                    below = subst (λ n. l.generation < n) is l.above;
-                  }
+          by_later l =
+              let other = (of_filter (says d.files (is_of_catalog l.name l.later)) numbers file l.has).1 in
+              let b = catalogs l.name l.later header (said d.files (is_of_catalog l.name l.later) file header read other) in
+              let one : l.name ≡ name = sym b.tenant ∙ tells.tenant in
+              let place : t ≡ l.tenant = one_place l.tenant l.name l.named one in
+              let knows : (kept_of ts l.tenant).world.known ≡ known its.catalog = ap (λ v. (kept_of ts v).world.known) (sym place) ∙ k.known_is in
+              let is : l.later ≡ g = one_number g l.later header.generation (number_is l.later header.generation b.generation) tells.generation in
+              record {
+                generation = l.generation;
+                in_use = subst (λ w. IsInUse d.files (owners_of d.files numbers name) l.generation w) knows
+                    (subst (λ n. IsInUse d.files (owners_of d.files numbers n) l.generation (kept_of ts l.tenant).world.known) one l.in_use);
+                below = subst (λ n. l.generation < n) is l.above;
+              }
 
       -- it is the log's own, or left alone
-      own_or_left : ((meta segment_log p).owns file × (generation t p at ≡ g)) ⊎ Below g
+      own_or_left : ((meta segment_log its).owns file × (generation ≡ g)) ⊎ Below g
       own_or_left = ⊎_elim
-          (λ (own : (meta segment_log p).owns file). inl (own, (by_own own)))
-          (λ (not : (meta segment_log p).owns file → ⊥).
-          let listed = (of_filter (says d.files (is_of_catalog (name t p at) g)) numbers file has).0 in
-          inr (later_of (k.settled.accounts file (of_keys d file listed) (λ some. not (owned_by some).0))))
-          (owns_or_not (meta_log p.catalog) file (k.settled.meta_exact t p at).none)
-        where
-          by_own : (meta segment_log p).owns file → generation t p at ≡ g
-          by_own own =
-              let n = meta_named t p at file own in
-              one_number g (generation t p at) n.header.generation n.names.generation (says_of n.header n.read).generation
+          (λ (own : (meta segment_log its).owns file). inl (own, by_own own))
+          (λ (not : (meta segment_log its).owns file → ⊥).
+          let listed = (of_filter (says d.files (is_of_catalog name g)) numbers file has).0 in
+          inr (later_of (left_alone file header read tells.tenant listed (λ some. not (owned_by some)))))
+          (owns_or_not (meta_log its.catalog) file (k.settled.meta_exact its k.at).none)
 
     -- no generation above that of the catalog is whole
-    greatest : NoneAbove d.files (owners_of d.files numbers (name t p at)) (generation t p at)
-    greatest g above small j whole = by (catalog_of d.files (name t p at) g numbers) refl
+    greatest : NoneAbove d.files (owners_of d.files numbers name) generation
+    greatest g above small j whole = by (catalog_of d.files name g numbers) refl
       where
-        by : (xs : List ℕ) → catalog_of d.files (name t p at) g numbers ≡ xs → ⊥
+        by : (xs : List ℕ) → catalog_of d.files name g numbers ≡ xs → ⊥
         by [] e = nothing_whole d.files g j (omega (arith, above)) (subst (λ ns. ComesToKnown d.files ns g j) e whole)
         by (file ∷ xs) e =
-            let has : Contains (catalog_of d.files (name t p at) g numbers) file = subst (λ ns. Contains ns file) (sym e) (0, omega arith, refl) in
+            let has : Contains (catalog_of d.files name g numbers) file = subst (λ ns. Contains ns file) (sym e) (0, omega arith, refl) in
             ⊎_elim
-            (λ (own : (meta segment_log p).owns file × (generation t p at ≡ g)). let is = own.1 in absurd (omega (arith, is, above)))
+            (λ (own : (meta segment_log its).owns file × (generation ≡ g)). let is = own.1 in absurd (omega (arith, is, above)))
             (λ (later : Below g). later.in_use.greatest g later.below small j whole)
             (own_or_left g file has)
 
     -- each file of the catalog's generation is its own, or another generation is in use
-    all_own : (xs : List ℕ) → ((file : ℕ) → Contains xs file → Contains (catalog_of d.files (name t p at) (generation t p at) numbers) file)
-        → ((file : ℕ) → Contains xs file → (meta segment_log p).owns file) ⊎ Below (generation t p at)
+    all_own : (xs : List ℕ) → ((file : ℕ) → Contains xs file → Contains (catalog_of d.files name generation numbers) file)
+        → ((file : ℕ) → Contains xs file → (meta segment_log its).owns file) ⊎ Below generation
     all_own [] among = inl (λ file has. let lt = has.1 in absurd (omega (arith, lt)))
     all_own (x ∷ xs) among = ⊎_elim
-        (λ (own : (meta segment_log p).owns x × (generation t p at ≡ generation t p at)). ⊎_elim
-        (λ (rest : (file : ℕ) → Contains xs file → (meta segment_log p).owns file). inl (λ file has. each own.0 rest file has))
-        (λ (later : Below (generation t p at)). inr later)
+        (λ (own : (meta segment_log its).owns x × (generation ≡ generation)). ⊎_elim
+        (λ (rest : (file : ℕ) → Contains xs file → (meta segment_log its).owns file). inl (λ file has. each own.0 rest file has))
+        (λ (later : Below generation). inr later)
         (all_own xs (λ file has. among file (behind file has))))
-        (λ (later : Below (generation t p at)). inr later)
-        (own_or_left (generation t p at) x (among x (0, omega arith, refl)))
+        (λ (later : Below generation). inr later)
+        (own_or_left generation x (among x (0, omega arith, refl)))
       where
         behind : (file : ℕ) → Contains xs file → Contains (x ∷ xs) file
         behind file (k, l, e) = (suc k, omega (arith, l), e)
 
-        each : (meta segment_log p).owns x → ((file : ℕ) → Contains xs file → (meta segment_log p).owns file) → (file : ℕ) → Contains (x ∷ xs) file → (meta segment_log p).owns file
-        each own rest file (zero, l, e) = subst (λ n. (meta segment_log p).owns n) e own
+        each : (meta segment_log its).owns x → ((file : ℕ) → Contains xs file → (meta segment_log its).owns file) → (file : ℕ) → Contains (x ∷ xs) file → (meta segment_log its).owns file
+        each own rest file (zero, l, e) = subst (λ n. (meta segment_log its).owns n) e own
         each own rest file (suc k, l, e) = rest file (k, omega (arith, l), e)
 
-    module _ (catalog_owned : (file : ℕ) → Contains (catalog_of d.files (name t p at) (generation t p at) numbers) file → (meta segment_log p).owns file) where
-      catalog_files : AreFilesOf (meta segment_log p) (catalog_of d.files (name t p at) (generation t p at) numbers)
+    module _ (catalog_owned : (file : ℕ) → Contains (catalog_of d.files name generation numbers) file → (meta segment_log its).owns file) where
+      catalog_files : AreFilesOf (meta segment_log its) (catalog_of d.files name generation numbers)
       catalog_files = record {
-        apart = distinct_filter (says d.files (is_of_catalog (name t p at) (generation t p at))) numbers (listed_apart d numbers refl);
+        apart = distinct_filter (says d.files (is_of_catalog name generation)) numbers (listed_apart d numbers refl);
         these = λ file. (catalog_listed file, catalog_owned file);
       }
 
-      catalog_comes : ComesTo d.files (catalog_of d.files (name t p at) (generation t p at) numbers) 0 (meta segment_log p).start (meta segment_log p).end ((meta segment_log p).batches d.files)
-      catalog_comes = reopens_exact (meta_log p.catalog) d k.next 0 (catalog_of d.files (name t p at) (generation t p at) numbers) lawful honest catalog_files (sound t p at).catalog (agrees t p at).catalog (k.settled.meta_exact t p at) (agrees t p at).meta_started
+      catalog_comes : ComesTo d.files (catalog_of d.files name generation numbers) 0 (meta segment_log its).start (meta segment_log its).end ((meta segment_log its).batches d.files)
+      catalog_comes = reopens_exact (meta_log its.catalog) d k.next 0 (catalog_of d.files name generation numbers) lawful honest catalog_files sound.catalog agrees.catalog (k.settled.meta_exact its k.at) agrees.meta_started
 
       -- all batches of the catalog's chain are its commands
-      whole_list : IsLongestFold (generation t p at) ((meta segment_log p).batches d.files) (known p.catalog)
+      whole_list : IsLongestFold generation ((meta segment_log its).batches d.files) (known its.catalog)
       whole_list = record {
-        before = (meta segment_log p).batches d.files;
+        before = (meta segment_log its).batches d.files;
         behind = [];
-        split = sym (append-nil ((meta segment_log p).batches d.files));
-        fold = (agrees t p at).fold;
+        split = sym (append-nil ((meta segment_log its).batches d.files));
+        fold = agrees.fold;
         ends = tt;
       }
 
-      own_whole : ComesToKnown d.files (catalog_of d.files (name t p at) (generation t p at) numbers) (generation t p at) (known p.catalog)
-      own_whole = known_of d.files (catalog_of d.files (name t p at) (generation t p at) numbers) (meta segment_log p).start (meta segment_log p).end ((meta segment_log p).batches d.files) (generation t p at) (known p.catalog) catalog_comes whole_list
+      own_whole : ComesToKnown d.files (catalog_of d.files name generation numbers) generation (known its.catalog)
+      own_whole = known_of d.files (catalog_of d.files name generation numbers) (meta segment_log its).start (meta segment_log its).end ((meta segment_log its).batches d.files) generation (known its.catalog) catalog_comes whole_list
 
-      own_small : generation t p at < 2 ^ 63
-      own_small = by (catalog_of d.files (name t p at) (generation t p at) numbers) refl
+      own_small : generation < 2 ^ 63
+      own_small = by (catalog_of d.files name generation numbers) refl
         where
-          by : (xs : List ℕ) → catalog_of d.files (name t p at) (generation t p at) numbers ≡ xs → generation t p at < 2 ^ 63
-          by [] e = elim (cases_lt 0 (generation t p at)) [
-            | inl above ↦ absurd (nothing_whole d.files (generation t p at) (known p.catalog) above (subst (λ ns. ComesToKnown d.files ns (generation t p at) (known p.catalog)) e own_whole))
+          by : (xs : List ℕ) → catalog_of d.files name generation numbers ≡ xs → generation < 2 ^ 63
+          by [] e = elim (cases_lt 0 generation) [
+            | inl above ↦ absurd (nothing_whole d.files generation (known its.catalog) above (subst (λ ns. ComesToKnown d.files ns generation (known its.catalog)) e own_whole))
             | inr none ↦ omega (arith, none)
           ]
-          by (file ∷ xs) e = header_small (header_in (bytes_at d.files file)) refl
-            where
-              has : Contains (catalog_of d.files (name t p at) (generation t p at) numbers) file
-              has = subst (λ ns. Contains ns file) (sym e) (0, omega arith, refl)
+          by (file ∷ xs) e =
+              let has : Contains (catalog_of d.files name generation numbers) file = subst (λ ns. Contains ns file) (sym e) (0, omega arith, refl) in
+              let h = header generation file has in
+              let is : natural h.generation ≡ generation = ap natural (number_is generation h.generation (tells generation file has).generation) in
+              let small = small_in (bytes_at d.files file) h (read generation file has) in
+              omega (arith, is, small)
 
-              header_small : (found : Option Header) → header_in (bytes_at d.files file) ≡ found → generation t p at < 2 ^ 63
-              header_small None e = absurd (false≢true (sym (ap (passes (is_of_catalog (name t p at) (generation t p at))) e) ∙ catalog_said (generation t p at) file has))
-              header_small (Some h) e =
-                  let is : natural h.generation ≡ generation t p at = ap natural (number_is (generation t p at) h.generation (says_of (generation t p at) file has h e).generation) in
-                  let small = small_in (bytes_at d.files file) h e in
-                  omega (arith, is, small)
-
-      own_use : IsInUse d.files (owners_of d.files numbers (name t p at)) (generation t p at) (known p.catalog)
+      own_use : IsInUse d.files (owners_of d.files numbers name) generation (known its.catalog)
       own_use = record { small = own_small; whole = own_whole; greatest = greatest }
 
     -- a generation comes to what the tenant knows
-    use_found : (h : ℕ) × IsInUse d.files (owners_of d.files numbers (name t p at)) h (known p.catalog)
+    use_found : (h : ℕ) × IsInUse d.files (owners_of d.files numbers name) h (known its.catalog)
     use_found = ⊎_elim
-        (λ own. (generation t p at, own_use own))
-        (λ (later : Below (generation t p at)). (later.generation, later.in_use))
-        (all_own (catalog_of d.files (name t p at) (generation t p at) numbers) (λ file has. has))
+        (λ own. (generation, own_use own))
+        (λ (later : Below generation). (later.generation, later.in_use))
+        (all_own (catalog_of d.files name generation numbers) (λ file has. has))
 
     -- ---- a partition's
 
-    module _ (i n : ℕ) (x : Partition SegmentLog) (there : partitions.partition_at i n (entries p) ≡ Some x) (part : PartitionState) (known_at : partition_at (known p.catalog) (pos i) (pos n) ≡ Some part) where
+    module _ (i n : ℕ) (x : Partition SegmentLog) (there : partitions.partition_at i n (entries its) ≡ Some x) (part : PartitionState) (known_at : partition_at (known its.catalog) (pos i) (pos n) ≡ Some part) where
       abbrev list : List ℕ
-      list = partition_of d.files (name t p at) i n numbers
+      list = partition_of d.files name i n numbers
 
       abbrev test : Header → Bool
-      test = is_of_partition (name t p at) i n
+      test = is_of_partition name i n
 
       log_listed : (file : ℕ) → (segment_log x.log).owns file → Contains list file
       log_listed file own =
           in_filter (says d.files test) numbers file
-          (in_keys d.table file (owned_there x.log d k.next (k.settled.exact t p at i n x there).0 file own ((sound t p at).logs.each i n x there)))
-          (says_partition d.files (name t p at) i n p.segment_bytes file (log_named t p at i n x there file own))
+          (in_keys d.table file (owned_there x.log d k.next (k.settled.exact its k.at i n x there).0 file own (sound.logs.each i n x there)))
+          (says_partition d.files name i n its.segment_bytes file (log_named i n x there file own))
 
       module _ (file : ℕ) (has : Contains list file) where
         partition_said : says d.files test file ≡ true
         partition_said = (of_filter (says d.files test) numbers file has).1
 
-        tells : (h : Header) → header_in (bytes_at d.files file) ≡ Some h → IsPartitions (name t p at) i n h
-        tells h read = partitions_are (name t p at) i n h (said d.files test file h read partition_said)
+        abbrev part_header : Header
+        part_header = (read_of d.files test file partition_said).0
+
+        part_read : header_in (bytes_at d.files file) ≡ Some part_header
+        part_read = (read_of d.files test file partition_said).1
+
+        part_tells : IsPartitions name i n part_header
+        part_tells = partitions_are name i n part_header (said d.files test file part_header part_read partition_said)
 
         log_no_stray : Contains strays file → ⊥
         log_no_stray stray = ⊎_elim
-            (λ (s : Contains (strays_of d.files names numbers) file). not_stray d.files names numbers test (partition_one names t i n (name t p at) (name_at t p at)) file partition_said s)
+            (λ (s : Contains (strays_of d.files names numbers) file). not_stray d.files names numbers test (partition_one names t i n name own_name) file partition_said s)
             (λ more. ⊎_elim
             (λ (u : IsUnknown d.files numbers names ts file). is_known u)
             (λ (l : IsOfLater d.files numbers names ts file). no_catalog l)
             more)
-            (left file stray)
+            (left file stray (passes_weaker test (is_of_one (name ∷ [])) (partition_one (name ∷ []) 0 i n name refl) (header_in (bytes_at d.files file)) partition_said))
           where
             no_catalog : IsOfLater d.files numbers names ts file → ⊥
-            no_catalog l = by (header_in (bytes_at d.files file)) refl
-              where
-                other : says d.files (is_of_catalog l.name l.later) file ≡ true
-                other = (of_filter (says d.files (is_of_catalog l.name l.later)) numbers file l.has).1
-
-                by : (found : Option Header) → header_in (bytes_at d.files file) ≡ found → ⊥
-                by None e = false≢true (sym (ap (passes test) e) ∙ partition_said)
-                by (Some h) e = not_both h.kind (tells h e).kind (catalogs l.name l.later h (said d.files (is_of_catalog l.name l.later) file h e other)).kind
+            no_catalog l =
+                let other = (of_filter (says d.files (is_of_catalog l.name l.later)) numbers file l.has).1 in
+                not_both part_header.kind part_tells.kind (catalogs l.name l.later part_header (said d.files (is_of_catalog l.name l.later) file part_header part_read other)).kind
 
             is_known : IsUnknown d.files numbers names ts file → ⊥
-            is_known u = by (header_in (bytes_at d.files file)) refl
-              where
-                other : says d.files (is_of_partition u.name u.instance u.partition) file ≡ true
-                other = (of_filter (says d.files (is_of_partition u.name u.instance u.partition)) numbers file u.has).1
+            is_known u =
+                let h = part_header in
+                let a = part_tells in
+                let other = (of_filter (says d.files (is_of_partition u.name u.instance u.partition)) numbers file u.has).1 in
+                let b = partitions_are u.name u.instance u.partition h (said d.files (is_of_partition u.name u.instance u.partition) file h part_read other) in
+                let place : t ≡ u.tenant = one_place u.tenant u.name u.named (sym b.tenant ∙ a.tenant) in
+                let instance : u.instance ≡ i = one_number i u.instance h.instance (number_is u.instance h.instance b.instance) a.instance in
+                let number : u.partition ≡ n = one_number n u.partition h.partition (number_is u.partition h.partition b.partition) a.partition in
+                let none : partition_at (known its.catalog) (pos i) (pos n) ≡ None =
+                ap (λ w. partition_at w (pos i) (pos n)) (sym k.known_is) ∙ ap (λ v. partition_at (kept_of ts v).world.known (pos i) (pos n)) place
+                ∙ ap (λ j. partition_at (kept_of ts u.tenant).world.known (pos j) (pos n)) (sym instance) ∙ ap (λ m. partition_at (kept_of ts u.tenant).world.known (pos u.instance) (pos m)) (sym number) ∙ u.unknown in
+                none-some part (sym none ∙ known_at)
 
-                by : (found : Option Header) → header_in (bytes_at d.files file) ≡ found → ⊥
-                by None e = false≢true (sym (ap (passes test) e) ∙ partition_said)
-                by (Some h) e =
-                    let a = tells h e in
-                    let b = partitions_are u.name u.instance u.partition h (said d.files (is_of_partition u.name u.instance u.partition) file h e other) in
-                    let one : u.name ≡ name t p at = sym b.tenant ∙ a.tenant in
-                    let place : t ≡ u.tenant = apart t u.tenant (name t p at) (name_at t p at) (u.named ∙ ap Some one) in
-                    let instance : u.instance ≡ i = one_number i u.instance h.instance (number_is u.instance h.instance b.instance) a.instance in
-                    let number : u.partition ≡ n = one_number n u.partition h.partition (number_is u.partition h.partition b.partition) a.partition in
-                    let same : (kept_of ts t).world.known ≡ known p.catalog = k.known_is t p at in
-                    let none : partition_at (known p.catalog) (pos i) (pos n) ≡ None =
-                    ap (λ w. partition_at w (pos i) (pos n)) (sym same) ∙ ap (λ v. partition_at (kept_of ts v).world.known (pos i) (pos n)) place
-                    ∙ ap (λ j. partition_at (kept_of ts u.tenant).world.known (pos j) (pos n)) (sym instance) ∙ ap (λ m. partition_at (kept_of ts u.tenant).world.known (pos u.instance) (pos m)) (sym number) ∙ u.unknown in
-                    none-some part (sym none ∙ known_at)
+        -- who has it has it by this log
+        log_owned_by : IsOfSome segment_log k.parts file → (segment_log x.log).owns file
+        log_owned_by some = ⊎_elim
+            (λ (own : (meta segment_log some.parts).owns file).
+            let m = meta_names file part_header part_read some.tenant some.parts some.at own in
+            absurd (not_both part_header.kind part_tells.kind (is_number 1 part_header.kind m.kind)))
+            (λ (own : partitions.Owned segment_log (entries some.parts) file).
+            let h = part_header in
+            let a = part_tells in
+            let m = log_names file h part_read some.tenant some.parts some.at own.instance own.number own.partition own.at own.own in
+            let same : some.parts ≡ its = one_tenant some.tenant some.parts some.at (sym m.tenant ∙ a.tenant) in
+            let instance : own.instance ≡ i = one_number i own.instance h.instance m.instance a.instance in
+            let number : own.number ≡ n = one_number n own.number h.partition m.partition a.partition in
+            let found : Some own.partition ≡ Some x =
+            sym own.at ∙ ap (λ (q : Parts SegmentLog). partitions.partition_at own.instance own.number (entries q)) same
+            ∙ ap (λ j. partitions.partition_at j own.number (entries its)) instance ∙ ap (λ m. partitions.partition_at i m (entries its)) number ∙ there in
+            subst (λ (y : Partition SegmentLog). (segment_log y.log).owns file) (some_is found) own.own)
+            some.owns
 
         log_owned : (segment_log x.log).owns file
-        log_owned = of_log x.log file (k.settled.exact t p at i n x there).0.none (of_filter (says d.files test) numbers file has).0 log_no_stray by
-          where
-            by : IsOfSome segment_log k.parts file → (segment_log x.log).owns file
-            by some = ⊎_elim
-                (λ (own : (meta segment_log some.parts).owns file).
-                let m = meta_named some.tenant some.parts some.at file own in
-                absurd (not_both m.header.kind (tells m.header m.read).kind (is_number 1 m.header.kind m.names.kind)))
-                (λ (own : partitions.Owned segment_log (entries some.parts) file).
-                let m = log_named some.tenant some.parts some.at own.instance own.number own.partition own.at file own.own in
-                let a = tells m.header m.read in
-                let same : some.parts ≡ p = one_tenant t some.tenant p some.parts at some.at (sym m.names.tenant ∙ a.tenant) in
-                let instance : own.instance ≡ i = one_number i own.instance m.header.instance m.names.instance a.instance in
-                let number : own.number ≡ n = one_number n own.number m.header.partition m.names.partition a.partition in
-                let found : Some own.partition ≡ Some x =
-                sym own.at ∙ ap (λ (q : Parts SegmentLog). partitions.partition_at own.instance own.number (entries q)) same
-                ∙ ap (λ j. partitions.partition_at j own.number (entries p)) instance ∙ ap (λ m. partitions.partition_at i m (entries p)) number ∙ there in
-                subst (λ (y : Partition SegmentLog). (segment_log y.log).owns file) (some_is found) own.own)
-                some.owns
+        log_owned = ⊎_elim
+            (λ (own : (segment_log x.log).owns file). own)
+            (λ (not : (segment_log x.log).owns file → ⊥).
+            absurd (log_no_stray (left_alone file part_header part_read part_tells.tenant (of_filter (says d.files test) numbers file has).0 (λ some. not (log_owned_by some)))))
+            (owns_or_not x.log file (k.settled.exact its k.at i n x there).0.none)
 
       log_files : AreFilesOf (segment_log x.log) list
       log_files = record { apart = distinct_filter (says d.files test) numbers (listed_apart d numbers refl); these = λ file. (log_listed file, log_owned file) }
@@ -583,32 +608,33 @@ module _ (d : Disk) (lawful : IsLawfulDisk d) (honest : d.honest) (strays : List
       log_comes : IsLogOf d.files list (natural part.start) (log_state (segment_log x.log) d.files)
       log_comes =
           let recorded = ap start_said known_at in
-          let c = reopens_exact x.log d k.next (natural part.start) list lawful honest log_files ((sound t p at).logs.each i n x there) ((agrees t p at).logs.each i n x there) (k.settled.exact t p at i n x there).0
-          (subst (λ start. (segment_log x.log).resumes start) recorded ((agrees t p at).started i n x there)) in
+          let c = reopens_exact x.log d k.next (natural part.start) list lawful honest log_files (sound.logs.each i n x there) (agrees.logs.each i n x there) (k.settled.exact its k.at i n x there).0
+          (subst (λ start. (segment_log x.log).resumes start) recorded (agrees.started i n x there)) in
           record { bs = c.bs; chain = c.chain; starts = c.starts; ends = c.ends; batches = c.batches }
 
-    -- ---- the tenant
+    -- ---- all of it
 
-    is_found : IsOpened d.files (owners_of d.files numbers (name t p at)) (known p.catalog) (logs_of segment_log (entries p) d.files)
-    is_found =
-        let tied = (sound t p at).tied in
+    is_opened : IsOpened d.files (owners_of d.files numbers name) (known its.catalog) (logs_of segment_log (entries its) d.files)
+    is_opened =
+        let tied = sound.tied in
         record {
           generation = use_found.0;
           in_use = use_found.1;
           has = record {
-            tied = logs_counted segment_log (entries p) d.files ∙ tied;
+            tied = logs_counted segment_log (entries its) d.files ∙ tied;
             each = λ i n part known_at.
-                let x = known_there (entries p) (known p.catalog) tied i n part known_at in
-                (log_state (segment_log x.0.log) d.files, log_at_is segment_log (entries p) i n d.files ∙ ap (option_map (λ (x : Partition SegmentLog). log_state (segment_log x.log) d.files)) x.1, log_comes i n x.0 x.1 part known_at);
+                let x = known_there (entries its) (known its.catalog) tied i n part known_at in
+                (log_state (segment_log x.0.log) d.files, log_at_is segment_log (entries its) i n d.files ∙ ap (option_map (λ (x : Partition SegmentLog). log_state (segment_log x.log) d.files)) x.1, log_comes i n x.0 x.1 part known_at);
           };
         }
 
-  pub are_found : AreFound d.files numbers names ts
-  are_found = record {
-    names_are = refl;
-    each = λ t name at.
-        let p = parts_at t name at in
-        subst (λ n. IsOpened d.files (owners_of d.files numbers n) (kept_of ts t).world.known (kept_of ts t).world.logs) p.2
-        (subst (λ w. IsOpened d.files (owners_of d.files numbers (string_bytes p.0.tenant)) w (kept_of ts t).world.logs) (sym (k.known_is t p.0 p.1))
-        (subst (λ ls. IsOpened d.files (owners_of d.files numbers (string_bytes p.0.tenant)) (known p.0.catalog) ls) (sym (k.logs_are t p.0 p.1)) (is_found t p.0 p.1)));
-  }
+    kept_opened : IsFound d.files numbers name (kept_of ts t)
+    kept_opened = record {
+      opened = subst (λ w. IsOpened d.files (owners_of d.files numbers name) w (kept_of ts t).world.logs) (sym k.known_is)
+          (subst (λ ls. IsOpened d.files (owners_of d.files numbers name) (known its.catalog) ls) (sym k.logs_are) is_opened);
+    }
+
+  pub is_found : (own : List ℕ) → slice_get (names_of ts) t ≡ Some own → AreStillStrays d.files (keys d.table) (names_of ts) ts own strays → IsFound d.files (keys d.table) own (kept_of ts t)
+  is_found own at left =
+      let same : own ≡ name = some_is (sym at ∙ own_name) in
+      subst (λ n. IsFound d.files numbers n (kept_of ts t)) (sym same) (kept_opened (subst (λ n. AreStillStrays d.files numbers names ts n strays) same left))

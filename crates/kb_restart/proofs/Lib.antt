@@ -1,11 +1,15 @@
 pub mod Accounted
+pub mod Alone
 pub mod Blamed
 pub mod Counted
 pub mod Drops
 pub mod Found
+pub mod FromFiles
 pub mod Headed
 pub mod Hosting
 pub mod Listed
+pub mod Numbers
+pub mod OneWorld
 pub mod Read
 pub mod Reopened
 pub mod Restored

@@ -1,4 +1,5 @@
 pub mod Again
+pub mod Alone
 pub mod Counts
 pub mod Lengths
 pub mod Restart

@@ -1,10 +1,9 @@
 //! A broker that is stopped and opened again.
-ghost use Rattle.std.specs.Prelude.{◌≡◌, ℕ, List, Some, true, IfOk};
+ghost use Rattle.std.specs.Prelude.{◌≡◌, ℕ, List, Some, slice_get, IfOk};
 ghost use Rattle.std.specs.FinMap.{keys};
-ghost use Rattle.kb_tenant_api.specs.Hosted.{names_of};
-ghost use Rattle.kb_tenant_api.specs.Turns.{all_calm};
+ghost use Rattle.kb_tenant_api.specs.Hosted.{names_of, refusals_of};
 ghost use Rattle.kb_broker.specs.Opening.{tenants_of};
-ghost use Rattle.kb_restart.specs.Again.{AreStillStrays, HaveSame};
+ghost use Rattle.kb_restart.specs.Again.{AreStillStrays, HasSame};
 
 use crate::opening::{Restarted, open_broker};
 use kb_broker::{Broker, Listing, OpenRefused, Settings};
@@ -14,9 +13,9 @@ use std::alloc::Global;
 
 /// Stops a broker, and opens one with the files that it leaves, under the same settings.
 ///
-/// Where nothing was ever refused to a tenant, and the tenants' topics took none of the files that the first one left alone, each
-/// tenant finds what it had: its topics with their settings, starts and committed offsets, how many producer ids were given out,
-/// and the log of each partition. What it does not find is its groups' members.
+/// A tenant to which nothing was ever refused finds what it had, whatever was refused to others, where its topics took none of the
+/// files that the first one left alone. It finds its topics with their settings, starts and committed offsets, how many producer ids
+/// were given out, and the log of each partition. What it does not find is its groups' members.
 ///
 /// Refused as `open_broker` is.
 pub fn reopen<S: Store>(
@@ -26,10 +25,11 @@ pub fn reopen<S: Store>(
     listing: Listing,
 ) -> Result<Restarted<S>, OpenRefused<S>>
     ensures same { IfOk result (λ opened. (S.disk opened.broker.store).honest → (strays : List ℕ) → broker.strays ≡ Some strays
-        → all_calm broker.state.tenants ≡ true → names_of broker.state.tenants ≡ tenants_of settings.now.users.items
+        → names_of broker.state.tenants ≡ tenants_of settings.now.users.items
+        → (t : ℕ) (name : List ℕ) → slice_get (names_of broker.state.tenants) t ≡ Some name → refusals_of broker.state.tenants t ≡ 0
         → AreStillStrays (S.disk broker.store).files (keys (S.disk broker.store).table)
-        (names_of broker.state.tenants) broker.state.tenants strays
-        → HaveSame opened.broker.state.tenants broker.state.tenants) }
+        (names_of broker.state.tenants) broker.state.tenants name strays
+        → HasSame opened.broker.state.tenants broker.state.tenants t) }
 {
     open_broker(alloc, settings, listing, broker.into_store())
 }

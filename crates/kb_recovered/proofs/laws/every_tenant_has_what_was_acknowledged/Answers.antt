@@ -1,5 +1,5 @@
-use Rattle.kb_recovered.proofs.Recovered.{have_what_was}
+use Rattle.kb_recovered.proofs.Recovered.{keeps_what_was}
 use Rattle.kb_recovered.proofs.laws.every_tenant_has_what_was_acknowledged.Goals as goal
 
 pub returns : goal.returns
-returns c = have_what_was
+returns c = keeps_what_was

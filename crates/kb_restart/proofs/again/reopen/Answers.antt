@@ -1,13 +1,15 @@
-use Rattle.std.proofs.Common.{◌≡◌, ◌∙◌, ℕ, List, Some, true, sym, ap, subst}
+use Rattle.std.proofs.Common.{◌≡◌, ◌∙◌, ◌<◌, Some, length, sym, ap, subst}
 use Rattle.std.specs.Prelude.{map, slice_get, IfOk}
 use Rattle.std.specs.FinMap.{keys}
+use Rattle.std.proofs.lemmas.List.{length-map}
+use Rattle.std.proofs.lemmas.Option.{slice_get_within}
 use Rattle.kb_segment_log.specs.SegmentLog.{Clears}
-use Rattle.kb_tenant_api.specs.Hosted.{names_of}
+use Rattle.kb_tenant_api.specs.Hosted.{TenantState, names_of}
 use Rattle.kb_settings.proofs.NamesInOrder.{rises-in_order}
 use Rattle.kb_broker.specs.Opening.{tenant_of, tenants_of}
 use Rattle.kb_restart.specs.Again.{AreApart}
-use Rattle.kb_restart.specs.Restart.{AreOnly, AreReopened, IsOfLog}
-use Rattle.kb_restart.proofs.Found.{apart_of, are_found, ok_all}
+use Rattle.kb_restart.specs.Restart.{AreOnly, IsOfLog}
+use Rattle.kb_restart.proofs.Found.{apart_of, is_found, ok_both}
 use Rattle.kb_restart.proofs.again.reopen.Goals as goal
 
 pub returns : goal.returns
@@ -18,14 +20,14 @@ returns g c =
     let names = tenants_of c.args.settings.now.users.items in
     let store = c.into_store.ensures.store in
     record {
-      same = ok_all c.open_broker.result
-          (λ opened only state others honest strays is calm named left t name at.
+      same = ok_both c.open_broker.result
+          (λ opened only others honest strays is named t name at none left.
           let was = (others honest).honest honest in
           let apart : AreApart (names_of old) = subst AreApart (sym named) (apart_of names (rises-in_order (map tenant_of c.args.settings.now.users.items))) in
-          let here : slice_get names t ≡ Some name = ap (λ ns. slice_get ns t) (sym (state honest).names_are) ∙ at in
-          let found = are_found d (g.met.S.Store.lawful c.args.broker.store) was strays old (c.into_store.ensures.in_files was strays is calm) apart left in
-          only honest t name here _ _ (found.each t name (ap (λ ns. slice_get ns t) named ∙ here)))
+          let here : slice_get names t ≡ Some name = ap (λ ns. slice_get ns t) (sym named) ∙ at in
+          let within : t < length old = subst (λ n. t < n) (length-map old (λ (x : TenantState). x.name)) (slice_get_within (names_of old) t name at) in
+          let kept = c.into_store.ensures.in_files was strays is t within none in
+          only honest t name here _ _ (is_found d (g.met.S.Store.lawful c.args.broker.store) was strays old t kept apart name at left).opened)
           (subst (λ s. IfOk c.open_broker.result (λ opened. (disk opened.broker.store).honest → AreOnly (disk s).files (keys (disk s).table) names opened.broker.state.tenants)) store c.open_broker.ensures.only)
-          (subst (λ s. IfOk c.open_broker.result (λ opened. (disk opened.broker.store).honest → AreReopened (disk s).files (keys (disk s).table) names opened.broker.state.tenants)) store c.open_broker.ensures.state)
           (subst (λ s. IfOk c.open_broker.result (λ opened. (disk opened.broker.store).honest → Clears (IsOfLog (disk s).files (keys (disk s).table) names) (disk s) (disk opened.broker.store))) store c.open_broker.ensures.others);
     }

@@ -1,5 +1,5 @@
 -- For whom the open sockets are counted.
-use Rattle.std.specs.Prelude.{◌≡◌, ◌≢◌, ◌++◌, ℕ, List, [], ◌∷◌, Bool, not, ◌||◌, nat_eq, nat_lt, if◌then◌else◌, Option, Some, None}
+use Rattle.std.specs.Prelude.{◌≡◌, ◌≢◌, ◌+◌, ◌-◌, ◌^◌, ◌++◌, min, slice_index_or, slice_set, ℕ, List, [], ◌∷◌, Bool, not, ◌||◌, nat_eq, nat_lt, if◌then◌else◌, Option, Some, None}
 use Rattle.std.specs.List.{sum_by}
 use Rattle.std.specs.List.Sorted.{IsStrictlySortedBy}
 use Rattle.std.specs.Map.{keys_of, lookup, remove_entry, values_of}
@@ -13,11 +13,13 @@ use Rattle.kb_shares.specs.declared.share.Share.{Share}
 abbrev pub Counted : Type 0
 Counted = List (ℕ × ℕ)
 
--- What the holders have of all sockets, and which. The tenants with a share come first, and behind them those that have not logged in.
+-- What the holders have of all sockets, and which. The tenants with a share come first, and behind them those that have not logged in. Of
+-- each tenant it is counted how many sockets were closed for want of room.
 pub record Seats : Type 0 where
   pub pool : Pool
   pub sockets : Counted
   pub tenants : ℕ
+  pub refused : List ℕ
 
 -- what settings let the tenant of that name have of the sockets
 abbrev pub share_named : Values → List ℕ → Share
@@ -54,6 +56,12 @@ abbrev pub released : ℕ → Seats → Seats
 released connection s = record s {
   pool = pool_without (holder_of connection s.sockets) s.pool;
   sockets = without_socket connection s.sockets;
+}
+
+-- one socket more of a tenant was closed for want of room; its count stays at 2^64 - 1
+abbrev pub with_refusal : ℕ → Seats → Seats
+with_refusal tenant s = record s {
+  refused = slice_set s.refused tenant (min (slice_index_or s.refused tenant 0 + 1) (2 ^ 64 - 1));
 }
 
 -- A tenant may have the socket that logs in for it: it has no share, or there is room for it once the socket is counted no longer as one

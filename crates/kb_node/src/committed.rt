@@ -2,7 +2,6 @@
 
 ghost use Rattle.std.specs.Prelude.{◌≡◌, ◌≤◌, ◌<◌, ◌+◌, ◌-◌, ◌^◌, ◌⊎◌, true, false, max, None, Some, Err, IfSome, IfErr, OnErr, OnOk};
 ghost use Rattle.kb_wire.specs.declared.clock.TheConstants.{MAX_CLOCK};
-ghost use Rattle.kb_isolation_spec.specs.Broker.{Rising};
 ghost use Rattle.kb_isolation_spec.specs.Machine.{Opens, Comes, Closes, Moment};
 ghost use Rattle.kb_isolation_spec.specs.Calls.{closed, output_taken, output_of, opened, IsRefusedUnbound};
 ghost use Rattle.kb_broker.specs.Places.{numbers};
@@ -145,8 +144,7 @@ impl<S: Store, L: PartitionLog + Drop> Committed<S, L> {
 
     /// Whether a connection has something to say, or was shut.
     pub fn speaks(&self, number: u64) -> bool
-        ensures { Rising 0 self.now.broker.state.last self.now.broker.state.lines
-            → result ≡ speaks_of number self.now.broker.state }
+        ensures { result ≡ speaks_of number self.now.broker.state }
     {
         self.broker.speakers().binary_search(&number).is_ok()
     }

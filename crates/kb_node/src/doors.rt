@@ -1,6 +1,7 @@
 //! The listeners of an edge.
 
-ghost use Rattle.std.specs.Prelude.{◌≡◌};
+ghost use Rattle.std.specs.Prelude.{◌≡◌, ◌<◌, vec_len, IfOk, OnErr, OnOk};
+ghost use Rattle.kb_node.specs.Doors.{first_port};
 
 use crate::watch::Watch;
 use std::alloc::{AllocError, AllocFailed, Global};
@@ -61,7 +62,10 @@ impl<R: Net> Doors<R> {
         alloc: Global,
         address: &str,
         watch: &Option<Watch>,
-    ) -> Result<Doors<R>, DoorFault> {
+    ) -> Result<Doors<R>, DoorFault>
+        ensures some { IfOk result (λ doors. 0 < vec_len doors.listeners) }
+        ensures paired { IfOk result (λ doors. vec_len doors.addresses ≡ vec_len doors.listeners) }
+    {
         let found = match address.to_socket_addrs(net) {
             Ok(found) => found,
             Err(e) => return Err(not_bound(None, e)),
@@ -89,7 +93,13 @@ impl<R: Net> Doors<R> {
         net: &R,
         mut address: SocketAddr,
         watch: &Option<Watch>,
-    ) -> Result<(), DoorFault> {
+    ) -> Result<(), DoorFault>
+        ensures paired { vec_len self.old.addresses ≡ vec_len self.old.listeners
+            → vec_len self.new.addresses ≡ vec_len self.new.listeners }
+        ensures listens { OnOk result (0 < vec_len self.new.addresses) }
+        ensures refused { OnErr result ((self.new.listeners.items ≡ self.old.listeners.items)
+            × (self.new.addresses.items ≡ self.old.addresses.items)) }
+    {
         if address.port() == 0 {
             address.set_port(self.port());
         }
@@ -100,8 +110,8 @@ impl<R: Net> Doors<R> {
         self.addresses.reserve(1)?;
         match listen(net, address, watch) {
             Ok((listener, address)) => {
-                self.listeners.push(listener)?;
-                self.addresses.push(address)?;
+                self.listeners.push_reserved(listener);
+                self.addresses.push_reserved(address);
                 Ok(())
             }
             Err(e) => Err(not_bound(Some(address), e)),
@@ -109,7 +119,9 @@ impl<R: Net> Doors<R> {
     }
 
     /// The port of all of them, or 0 where there is none.
-    pub fn port(&self) -> u16 {
+    pub fn port(&self) -> u16
+        ensures { result ≡ first_port self.now.addresses.items }
+    {
         self.addresses.first().map_or(0, |address| address.port())
     }
 

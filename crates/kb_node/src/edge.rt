@@ -295,7 +295,9 @@ impl<R: Net, S: Store, L: PartitionLog + Drop> Edge<R, S, L> {
     }
 
     /// How many sockets were closed so far since their tenant may have no more, by the tenants' places.
-    pub fn refused_sockets(&self) -> &[u64] {
+    pub fn refused_sockets(&self) -> &[u64]
+        ensures { result.now ≡ self.now.shares.refused }
+    {
         self.shares.refused()
     }
 

@@ -1,6 +1,6 @@
 //! What happened in a turn and is told one by one: logins, and connections that the broker shut.
 
-ghost use Rattle.std.specs.Prelude.{◌≡◌, []};
+ghost use Rattle.std.specs.Prelude.{◌≡◌, [], IfOk};
 
 use crate::closed::Closed;
 use crate::firsts::Firsts;
@@ -30,7 +30,11 @@ pub struct News {
 
 impl News {
     /// None.
-    pub fn new(alloc: Global) -> Result<Self, AllocError> {
+    pub fn new(alloc: Global) -> Result<Self, AllocError>
+        ensures logins { IfOk result (λ news. (news.logins.first.items ≡ []) × (news.logins.more ≡ 0)) }
+        ensures denied { IfOk result (λ news. (news.denied.first.items ≡ []) × (news.denied.more ≡ 0)) }
+        ensures closed { IfOk result (λ news. (news.closed.first.items ≡ []) × (news.closed.more ≡ 0)) }
+    {
         Ok(News {
             logins: Firsts::new(alloc)?,
             denied: Firsts::new(alloc)?,

@@ -4,7 +4,7 @@ ghost use Rattle.std.specs.Prelude.{◌≡◌, ◌≢◌, ◌≤◌, ◌<◌, �
 ghost use Rattle.std.specs.Prelude.{None, Some, IfSome};
 ghost use Rattle.std.specs.BTreeMap.{insert_entry};
 ghost use Rattle.std.specs.Ordering.{nat_cmp};
-ghost use Rattle.kb_isolation_spec.specs.Broker.{bound_to, Rising};
+ghost use Rattle.kb_isolation_spec.specs.Broker.{bound_to};
 ghost use Rattle.kb_node.specs.Requests.{awaited};
 ghost use Rattle.kb_node.specs.Sockets.{can_ask, is_denial, is_done, is_held};
 ghost use Rattle.kb_node.specs.SocketShares.{may_bind, without_socket};
@@ -228,8 +228,7 @@ impl<T: Read + Write + Drop> Socket<T> {
         ensures open { result ≡ true → can_ask self.now.is_over (vec_len self.now.output - self.now.written) self.now.connection
             host.now.broker.state ≡ true }
         ensures asking { result ≡ true → is_asking self.now ≡ true }
-        ensures rests { Rising 0 host.now.broker.state.last host.now.broker.state.lines
-            → result ≡ (is_quiet self.now host.now.broker.state && is_asking self.now) }
+        ensures rests { result ≡ (is_quiet self.now host.now.broker.state && is_asking self.now) }
     {
         self.can_ask(host.broker()) && !host.speaks(self.connection) && self.is_asking()
     }
@@ -247,7 +246,7 @@ impl<T: Read + Write + Drop> Socket<T> {
         ensures between { result ≡ true → self.now.input.progress.left ≡ 0 }
         ensures quiet { result ≡ true → can_ask self.now.is_over (vec_len self.now.output - self.now.written) self.now.connection
             host.now.broker.state ≡ true }
-        ensures idle { Rising 0 host.now.broker.state.last host.now.broker.state.lines → result ≡ is_idle self.now host.now.broker.state }
+        ensures idle { result ≡ is_idle self.now host.now.broker.state }
     {
         self.is_bound
             && self.can_ask(host.broker())

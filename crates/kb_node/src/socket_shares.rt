@@ -1,6 +1,6 @@
 //! For whom the open sockets are counted.
 
-ghost use Rattle.std.specs.Prelude.{◌≡◌, [], true, false, IfOk, OnErr, OnOk, None, Some, map, nat_lt, length, if◌then◌else◌};
+ghost use Rattle.std.specs.Prelude.{◌≡◌, [], true, false, IfOk, OnErr, OnOk, None, Some, map, nat_lt, length, replicate, if◌then◌else◌};
 ghost use Rattle.std.specs.BTreeMap.{insert_entry};
 ghost use Rattle.std.specs.List.Sorted.{IsStrictlySortedBy};
 ghost use Rattle.std.specs.Map.{keys_of};
@@ -9,8 +9,8 @@ ghost use Rattle.kb_settings.specs.Values.{values_of};
 ghost use Rattle.kb_broker.specs.Opening.{tenants_of};
 ghost use Rattle.kb_shares.specs.Shares.{idle_pool};
 ghost use Rattle.kb_node.specs.Replies.{holder_place};
-ghost use Rattle.kb_node.specs.SocketShares.{count_of, holder_of, may_bind, released, seat_among, share_named, with_strangers};
-ghost use Rattle.kb_node.specs.SocketShares.{without_socket};
+ghost use Rattle.kb_node.specs.SocketShares.{count_of, holder_of, may_bind, released, seat_among, share_named};
+ghost use Rattle.kb_node.specs.SocketShares.{with_refusal, with_strangers, without_socket};
 ghost use Rattle.kb_node.specs.SocketShares.{IsSeated};
 
 use kb_settings::{Settings, tenant_names};
@@ -37,7 +37,7 @@ impl Model for SocketShares {
 
     ghost Value = { Seats };
 
-    ghost view = { λ s. record { pool = s.budget; sockets = s.holders.entries; tenants = s.tenants } };
+    ghost view = { λ s. record { pool = s.budget; sockets = s.holders.entries; tenants = s.tenants; refused = s.refused.items } };
 
     ghost invariant = { λ s. CountsSockets s.budget s.holders.entries };
 }
@@ -47,12 +47,11 @@ impl SocketShares {
     pub fn new(alloc: Global, sockets: u64, shares: &[Share]) -> Result<SocketShares, BudgetFault>
         ensures none { IfOk result (λ it. (it.tenants ≡ length shares.now) × (it.sockets ≡ [])) }
         ensures pool { IfOk result (λ it. it.pool ≡ idle_pool sockets (with_strangers sockets shares.now)) }
+        ensures refused { IfOk result (λ it. it.refused ≡ replicate (length shares.now) 0) }
     {
         let mut all = Vec::with_capacity(alloc, shares.len().saturating_add(1))?;
-        let mut refused = Vec::with_capacity(alloc, shares.len())?;
         for share in shares {
             all.push(*share)?;
-            refused.push(0)?;
         }
         // the sockets that have not logged in have no share, and are let in all the same
         all.push(Share {
@@ -63,7 +62,7 @@ impl SocketShares {
             budget: Budget::new(alloc, sockets, &all)?,
             tenants: shares.len(),
             holders: BTreeMap::new(alloc),
-            refused,
+            refused: vec![in alloc; 0; shares.len()]?,
         })
     }
 
@@ -113,7 +112,9 @@ impl SocketShares {
     }
 
     /// How many sockets were closed so far for want of room, by tenant.
-    pub fn refused(&self) -> &[u64] {
+    pub fn refused(&self) -> &[u64]
+        ensures { result.now ≡ self.now.refused }
+    {
         &self.refused
     }
 
@@ -147,7 +148,7 @@ impl SocketShares {
         ensures answer { IfOk result (λ is_in. is_in ≡ may_bind connection tenant self.old) }
         ensures bound { IfOk result (λ is_in. is_in ≡ true → nat_lt tenant self.old.tenants ≡ true
             → self.new.sockets ≡ insert_entry nat_cmp (without_socket connection self.old.sockets) connection tenant) }
-        ensures refused { IfOk result (λ is_in. is_in ≡ false → self.new ≡ released connection self.old) }
+        ensures refused { IfOk result (λ is_in. is_in ≡ false → self.new ≡ with_refusal tenant (released connection self.old)) }
         ensures no_memory { OnErr result (self.new.sockets ≡ without_socket connection self.old.sockets) }
         ensures seat { IfOk result (λ is_in. IsSeated connection (seat_among self.old.tenants (if is_in then Some tenant else None))
             self.old self.new) }
@@ -183,7 +184,7 @@ impl SocketShares {
 
     /// One socket more was closed for want of room.
     fn count_refused(&mut self, tenant: usize)
-        ensures { self.new ≡ self.old }
+        ensures { self.new ≡ with_refusal tenant self.old }
     {
         if let Some(count) = self.refused.get_mut(tenant) {
             *count = count.saturating_add(1);

@@ -10,7 +10,7 @@ pub loop-at-preserved : goal.loop-at-preserved
 loop-at-preserved g c =
     let was = c.loop-at.invariant in let old = c.args.self.now in let mid = c.loop-at.self in let new = c.hear_speaker.new.self in
     let all = speakers old.host.broker.state.lines in
-    let said : c.speakers-count.result.now ≡ all = c.speakers-count.ensures ∙ ap (λ b. speakers b.state.lines) c.broker.ensures in
+    let said : c.speakers-count.result.now ≡ all = c.speakers-count.ensures.is ∙ ap (λ b. speakers b.state.lines) c.broker.ensures in
     record {
       stays = c.hear_speaker.ensures.seen ∙ was.stays;
       lanes = c.hear_speaker.ensures.lanes ∙ was.lanes;
@@ -25,7 +25,7 @@ pub returns-clause-called : goal.returns-clause-called
 returns-clause-called g c = λ more. λ room.
     let old = c.args.self.now in let mid = c.loop-at.self in
     let all = speakers old.host.broker.state.lines in
-    let said : c.speakers-count.result.now ≡ all = c.speakers-count.ensures ∙ ap (λ b. speakers b.state.lines) c.broker.ensures in
+    let said : c.speakers-count.result.now ≡ all = c.speakers-count.ensures.is ∙ ap (λ b. speakers b.state.lines) c.broker.ensures in
     called_all old.host.tried c.loop-at.at all (ready_of old.ready old.sockets.items) (ready_of mid.ready mid.sockets.items)
     (rising old.host old.sockets.items old.seated.in_order) (subst (λ ns. length ns ≤ c.loop-at.at) said c.loop-at-test.false)
     c.loop-at.invariant.heard room

@@ -1,18 +1,12 @@
 /* A plain server over poll(2) on a port of the system's choice, which it prints: each request is a size, the size of its reply
    (its own 4 bytes included) and any bytes, and the reply is a size and zeros. */
-#include <arpa/inet.h>
 #include <errno.h>
-#include <fcntl.h>
-#include <netinet/tcp.h>
-#include <poll.h>
-#include <signal.h>
 #include <stdint.h>
-#include <stdio.h>
 #include <stdlib.h>
 #include <string.h>
 #include <unistd.h>
 
-enum { MOST = 1025, PIECE = 65536 };
+enum { PIECE = 65536 };
 
 /* A connection: the head of the request that comes now and how many of its bytes are still to come, and what is to be written. */
 struct line {
@@ -21,10 +15,6 @@ struct line {
     uint8_t *output;
     size_t written, size, room;
 };
-
-static struct pollfd polls[MOST];
-
-static struct line lines[MOST];
 
 static uint32_t big(const uint8_t *p) {
     return (uint32_t)p[0] << 24 | p[1] << 16 | p[2] << 8 | p[3];
@@ -78,37 +68,16 @@ static int serve(int fd, struct line *l) {
     return 1;
 }
 
+static int waits(const struct line *l) {
+    return l->size > 0;
+}
+
+static void drop(struct line *l) {
+    free(l->output);
+}
+
+#include "polls.h"
+
 int main(void) {
-    struct sockaddr_in at = {.sin_family = AF_INET, .sin_addr.s_addr = htonl(INADDR_LOOPBACK)};
-    socklen_t size = sizeof at;
-    int listener = socket(AF_INET, SOCK_STREAM, 0), count = 1, one = 1;
-    if (bind(listener, (struct sockaddr *)&at, size) || listen(listener, 128))
-        return 1;
-    signal(SIGPIPE, SIG_IGN);
-    getsockname(listener, (struct sockaddr *)&at, &size);
-    printf("%d\n", ntohs(at.sin_port));
-    fflush(stdout);
-    polls[0] = (struct pollfd){listener, POLLIN, 0};
-    while (poll(polls, count, -1) > 0) {
-        for (int i = count; --i;) {
-            if (!polls[i].revents)
-                continue;
-            if (serve(polls[i].fd, &lines[i])) {
-                polls[i].events = lines[i].size ? POLLOUT : POLLIN;
-                continue;
-            }
-            close(polls[i].fd);
-            free(lines[i].output);
-            polls[i] = polls[--count];
-            lines[i] = lines[count];
-        }
-        if (polls[0].revents && count < MOST) {
-            int fd = accept(listener, NULL, NULL);
-            fcntl(fd, F_SETFL, O_NONBLOCK);
-            setsockopt(fd, IPPROTO_TCP, TCP_NODELAY, &one, sizeof one);
-            polls[count] = (struct pollfd){fd, POLLIN, 0};
-            lines[count++] = (struct line){0};
-        }
-    }
-    return 1;
+    return run();
 }

@@ -1,10 +1,11 @@
 /* Puts a load on a server over the loopback, and prints a line for each figure: what, and its two numbers, between bars.
 
-       load PORT PID broker|echo [waits|brief]
+       load PORT PID broker|echo [waits|brief|produce]
 
    The server is `kbroker serve` with the user `ann`, or echo.c, which answers with as many bytes as it is asked for: then each
    request has the broker's size, and the size of the broker's reply in the place of its key and version. With `waits` there are
-   only the figures in which others wait. With `brief` there are a few figures, each of one run. */
+   only the figures in which others wait. With `brief` there are a few figures, each of one run. With `produce` there are those of
+   Produce alone, each of one run: floor.c understands these requests, too. */
 #include <arpa/inet.h>
 #include <netinet/tcp.h>
 #include <stdint.h>
@@ -205,6 +206,16 @@ static void throughput(int bytes) {
     print_rate("Fetch, 1 MB of messages", bytes, best[2] * MESSAGES);
 }
 
+/* The same of Produce alone, in one run. */
+static void produced(int bytes) {
+    static struct request make;
+    int answered = 0;
+    produce(&make, MESSAGES, bytes);
+    topic(1);
+    print_rate("Produce, 100 messages", bytes, rate(&make, 0, 0, &answered) * MESSAGES);
+    topic(0);
+}
+
 static int by_size(const void *a, const void *b) {
     float x = *(const float *)a, y = *(const float *)b;
     return (x > y) - (x < y);
@@ -353,7 +364,7 @@ static void idle(const char *what) {
 
 int main(int count, char **words) {
     if (count != 4 && count != 5)
-        fail("load PORT PID broker|echo [waits|brief]");
+        fail("load PORT PID broker|echo [waits|brief|produce]");
     port = atoi(words[1]);
     pid = atoi(words[2]);
     echo = !strcmp(words[3], "echo");
@@ -368,6 +379,12 @@ int main(int count, char **words) {
         open_to(100);
         latency("100 connections, all in turn", 100, 0);
         topic(0);
+        return 0;
+    }
+    if (count == 5 && !strcmp(words[4], "produce")) {
+        open_to(1);
+        produced(100);
+        produced(1000);
         return 0;
     }
     if (count == 5) {

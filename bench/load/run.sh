@@ -1,5 +1,6 @@
 #!/bin/sh
-# Puts a load on `kbroker serve` over the loopback, and the same load on a plain C server, and prints both with their ratios.
+# Puts a load on `kbroker serve` over the loopback, and the same load on a plain C server, and prints both with their ratios; and then
+# what Produce comes to beside a server that does what a broker has to do and nothing else (floor.sh).
 # The broker's executable is the first argument, or crates/kbroker/out/kbroker. Everything else goes into a new folder.
 set -eu
 here=$(cd "$(dirname "$0")" && pwd)
@@ -36,3 +37,6 @@ echo "what | broker: messages/s, MB/s; or p50, p99 in us; or % of a processor | 
 paste -d '|' broker.txt echo.txt | awk -F '|' '
     function ratio(a, b) { return b + 0 ? sprintf("%.2f", a / b) : "" }
     { printf "%s | %s | %s | %s | %s | %s | %s\n", $1, $2, $3, $5, $6, ratio($2, $5), ratio($3, $6) }'
+
+echo
+"$here/floor.sh" "$broker"

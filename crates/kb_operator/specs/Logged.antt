@@ -12,6 +12,11 @@ abbrev pub text_in : {A E : Type 0} → Result (String A) E → Option (List ℕ
 text_in (Ok text) = Some (string_bytes text)
 text_in (Err e) = None
 
+-- its bytes, and none where there was no memory for it
+abbrev pub bytes_or_none : {A E : Type 0} → Result (String A) E → List ℕ
+bytes_or_none (Ok text) = string_bytes text
+bytes_or_none (Err e) = []
+
 -- known lines grow by some
 abbrev pub Grows : Option (List LogLine) → Option (List LogLine) → List LogLine → Type 0
 Grows None new lines = Unit {0}

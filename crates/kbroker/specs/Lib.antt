@@ -1,4 +1,5 @@
 pub mod Causes
+pub mod Counted
 pub mod Dumped
 pub mod Ended
 pub mod Found

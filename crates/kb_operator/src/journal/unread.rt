@@ -1,7 +1,8 @@
 //! Tenants that wait for those that read their replies, as they are told.
 
-ghost use Rattle.std.specs.Prelude.{◌≡◌, false, true, map, string_bytes, IfOk};
+ghost use Rattle.std.specs.Prelude.{◌≡◌, map, string_bytes, IfOk};
 ghost use Rattle.kb_operator.specs.Logged.{TellsTexts, MakesText};
+ghost use Rattle.kb_operator.specs.Refused.{TellsUnread};
 ghost use Rattle.kb_operator.specs.Unread.{with_unread, unread_text, unread_texts, waits_line};
 
 use crate::counts::RefusalCounts;
@@ -12,17 +13,8 @@ use std::alloc::{AllocError, Global};
 impl<T: LineLog> Journal<T> {
     /// Which tenants waited since the last line for those that read their replies: a line for each.
     pub(super) fn tell_unread<B: RefusalCounts>(&mut self, alloc: Global, now: u64, broker: &B)
-        ensures quiet { self.old.is_quiet ≡ true → self.new ≡ self.old }
-        ensures lines { self.old.is_quiet ≡ false
-            → TellsTexts now (unread_texts (B.unread broker.now) self.old.tenants.items)
-            (T.logged self.old.lines) (T.logged self.new.lines) }
-        ensures told { self.old.is_quiet ≡ false
-            → self.new.tenants.items ≡ map (with_unread (B.unread broker.now)) self.old.tenants.items }
-        ensures others { self.new ≡ record self.old { tenants = self.new.tenants; lines = self.new.lines } }
+        ensures { TellsUnread T.logged now (B.counts broker.now).unread self.old self.new }
     {
-        if self.is_quiet {
-            return;
-        }
         tell_each(alloc, now, &mut self.tenants, broker, &mut self.lines);
     }
 }
@@ -35,8 +27,8 @@ fn tell_each<B: RefusalCounts, T: LineLog>(
     broker: &B,
     lines: &mut T,
 )
-    ensures lines { TellsTexts now (unread_texts (B.unread broker.now) tenants.old) (T.logged lines.old) (T.logged lines.new) }
-    ensures told { tenants.new ≡ map (with_unread (B.unread broker.now)) tenants.old }
+    ensures lines { TellsTexts now (unread_texts (B.counts broker.now).unread tenants.old) (T.logged lines.old) (T.logged lines.new) }
+    ensures told { tenants.new ≡ map (with_unread (B.counts broker.now).unread) tenants.old }
 {
     for tenant in tenants.iter_mut() {
         tell_if(now, unread_text(alloc, tenant, broker), lines);
@@ -49,8 +41,8 @@ fn unread_text<B: RefusalCounts>(
     tenant: &mut Tenant,
     broker: &B,
 ) -> Result<Option<String>, AllocError>
-    ensures text { MakesText (unread_text (B.unread broker.now tenant.old.place) tenant.old) result }
-    ensures told { tenant.new ≡ with_unread (B.unread broker.now) tenant.old }
+    ensures text { MakesText (unread_text ((B.counts broker.now).unread tenant.old.place) tenant.old) result }
+    ensures told { tenant.new ≡ with_unread (B.counts broker.now).unread tenant.old }
 {
     let unread = broker.unread_of_tenant(tenant.place);
     if tenant.waits.grown(unread.waits) == 0 {

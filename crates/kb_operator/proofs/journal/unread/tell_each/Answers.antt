@@ -10,7 +10,7 @@ use Rattle.kb_operator.proofs.journal.unread.tell_each.Goals as goal
 pub loop-tenant-preserved : goal.loop-tenant-preserved
 loop-tenant-preserved g c =
     let before = c.loop-tenant in
-    let unread = g.B.RefusalCounts.unread c.args.broker.now in
+    let unread = (g.B.RefusalCounts.counts c.args.broker.now).unread in
     let tell : Tenant → Tenant = with_unread unread in
     let tenants = c.args.tenants.now in
     let i = before.tenant-index in

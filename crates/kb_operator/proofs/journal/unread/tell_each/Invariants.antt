@@ -6,7 +6,7 @@ use Rattle.kb_operator.proofs.journal.unread.tell_each.Given as goal
 -- the tenants so far are told of, each by its own text
 abbrev pub invariant-loop-tenant : goal.invariant-loop-tenant
 invariant-loop-tenant g l =
-    let unread = g.B.RefusalCounts.unread l.broker in
+    let unread = (g.B.RefusalCounts.counts l.broker).unread in
     record {
       told : l.tenants ≡ map (with_unread unread) (take l.tenant-index l.fn.tenants) ++ drop l.tenant-index l.fn.tenants;
       lines : TellsTexts l.now (unread_texts unread (take l.tenant-index l.fn.tenants)) (g.T.LineLog.logged l.fn.lines) (g.T.LineLog.logged l.lines);

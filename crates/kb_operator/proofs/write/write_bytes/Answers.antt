@@ -1,8 +1,8 @@
 use Rattle.std.proofs.Common.{◌≡◌, ◌++◌, take, drop, sym, ap, ◌∙◌, arith, rules, append_assoc, take-append-drop}
 use Rattle.std.proofs.lemmas.Grind.{common_steps}
 use Rattle.std.proofs.KnownBytes.{Appends-trans, Appends-kept}
-use Rattle.kb_operator.proofs.write.write_text.Goals as goal
-use Rattle.kb_operator.proofs.write.write_text.Goals.{in-Ok, in-Err+else-ne}
+use Rattle.kb_operator.proofs.write.write_bytes.Goals as goal
+use Rattle.kb_operator.proofs.write.write_bytes.Goals.{in-Ok, in-Err+else-ne}
 
 pub loop-preserved : goal.loop-preserved
 loop-preserved g c =

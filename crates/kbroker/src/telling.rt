@@ -5,7 +5,8 @@ ghost use Rattle.kb_wire.specs.declared.clock.TheConstants.{MAX_CLOCK};
 ghost use Rattle.kb_operator.specs.Speaks.{Announces};
 ghost use Rattle.kbroker.specs.Counted.{told_counts};
 ghost use Rattle.kbroker.specs.Refusals.{refusals_at};
-ghost use Rattle.kbroker.specs.Telling.{length_lines, notice_lines, silent_in, TellsDenied, TellsUser};
+ghost use Rattle.kbroker.specs.Telling.{length_lines, notice_lines, silent_in, TellsDenied, TellsRight, TellsShuts};
+ghost use Rattle.kbroker.specs.Telling.{TellsTurn, TellsUser, TellsWrong};
 ghost use Rattle.kbroker.specs.Unread.{unread_at};
 
 use crate::causes::text_of;
@@ -105,6 +106,9 @@ pub fn tell_turn<T: LineLog, R: Net, S: Store, L: PartitionLog + Drop>(
     tick: Tick,
 )
     requires { tick.moment ≤ MAX_CLOCK }
+    ensures { (now : ℕ) × TellsTurn T.logged now tick.moment edge.now.news tick.told turn.now
+        (told_counts edge.now.host.broker.state edge.now.host.broker.counts (S.disk edge.now.host.broker.store).failures
+        edge.now.shares.refused edge.now.reader_waits.items) journal.old journal.new }
 {
     let (alloc, now) = (rt.alloc(), now(rt));
     let second = tick.moment / SECOND;
@@ -187,7 +191,9 @@ fn tell_logins<T: LineLog>(
     second: u64,
     logins: &Firsts<LoginAttempt>,
     journal: &mut Journal<T>,
-) {
+)
+    ensures { TellsRight T.logged now second logins.now journal.old journal.new }
+{
     let attempts = logins.first();
     for attempt in attempts {
         tell_right(alloc, now, second, attempt, journal);
@@ -217,7 +223,9 @@ fn tell_denied<T: LineLog>(
     second: u64,
     denied: &Firsts<LoginAttempt>,
     journal: &mut Journal<T>,
-) {
+)
+    ensures { TellsWrong T.logged now second denied.now journal.old journal.new }
+{
     let attempts = denied.first();
     for attempt in attempts {
         tell_wrong(alloc, now, second, attempt, journal);
@@ -248,7 +256,9 @@ fn tell_closed<T: LineLog>(
     shut: &Firsts<kb_node::Closed>,
     request_bytes: u32,
     journal: &mut Journal<T>,
-) {
+)
+    ensures { TellsShuts T.logged now second shut.now journal.old journal.new }
+{
     let connections = shut.first();
     for closed in connections {
         let cause = text_of(alloc, closed.cause, request_bytes);

@@ -24,19 +24,24 @@ frontend clients
 """
 
 
+def value(it):
+    """A value in TOML. It is JSON's, but that no character is written there as two halves, nor DEL as itself."""
+    return json.dumps(it, ensure_ascii=False).replace("\x7f", "\\u007f")
+
+
 def broker_settings(fleet, name, address):
     """The settings of a broker, as text."""
     host, port = address.rsplit(":", 1)
     lines = [f'host = "{host}"', f"port = {port}", f'data = "{fleet["data"]}"', "stock_clients = true"]
-    lines += [f'advertise = "{address}"', f'metrics = "{host}:9644"', f'metrics_token = {json.dumps(fleet["metrics_token"])}']
+    lines += [f'advertise = "{address}"', f'metrics = "{host}:9644"', f'metrics_token = {value(fleet["metrics_token"])}']
     for tenant, table in fleet["tenants"].items():
         if table["broker"] == name:
             words = {"name": tenant, "advertise": f'{table["host"]}:{fleet["clients"]}'}
             words |= {key: it for key, it in table.items() if key not in ("broker", "host", "users")}
-            lines += ["", "[[tenant]]", *(f"{key} = {json.dumps(it)}" for key, it in words.items())]
+            lines += ["", "[[tenant]]", *(f"{key} = {value(it)}" for key, it in words.items())]
             for user, password in table["users"].items():
                 words = {"name": user, "password": password, "tenant": tenant}
-                lines += ["", "[[user]]", *(f"{key} = {json.dumps(it)}" for key, it in words.items())]
+                lines += ["", "[[user]]", *(f"{key} = {value(it)}" for key, it in words.items())]
     return "\n".join(lines) + "\n"
 
 
@@ -67,7 +72,7 @@ def main(path, out):
     files = {f"{name}.toml": broker_settings(fleet, name, address) for name, address in fleet["brokers"].items()}
     proxy = PROXY.format(port=fleet["clients"], folder=os.path.abspath(out))
     files["haproxy.cfg"] = proxy + "".join(f"backend {name}\n    server {name} {at}\n" for name, at in fleet["brokers"].items())
-    files["brokers.map"] = "".join(f'{it["host"]} {it["broker"]}\n' for it in fleet["tenants"].values())
+    files["brokers.map"] = "".join(f'{it["host"].lower()} {it["broker"]}\n' for it in fleet["tenants"].values())
     targets = json.dumps([f'{at.rsplit(":", 1)[0]}:9644' for at in fleet["brokers"].values()])
     token = json.dumps(fleet["metrics_token"])
     files["prometheus.yml"] = (f"scrape_configs:\n  - job_name: kbroker\n    authorization: {{credentials: {token}}}\n"

@@ -21,9 +21,12 @@ pid="" data=$(realpath "$2") to=$3
 # On the file system of DATA, as links need. It is the mark of a backup under way, too.
 moment=$data.moment
 
+# (`find` takes a pattern)
+named=$(printf %s "$data" | sed 's/[][*?\\]/\\&/g')
+
 # Whether a process serves DATA: it alone holds the lock of the folder, which it has open.
 serves() {
-    for fd in $(find "/proc/$1/fd" -lname "$data" -printf '%f ' 2> /dev/null); do
+    for fd in $(find "/proc/$1/fd" -lname "$named" -printf '%f ' 2> /dev/null); do
         ! grep -qs '^lock:.*FLOCK.*WRITE' "/proc/$1/fdinfo/$fd" || return 0
     done
     return 1
@@ -35,6 +38,7 @@ done
 [ "$pid" ] || fail "process $1 does not serve $data"
 ! find "$data" -maxdepth 1 -name '*.seg' -type l | grep . >&2 || fail "these files are links: copy the folder with the broker stopped"
 [ ! -e "$to" ] || fail "$to is there already"
+[ -d "$(dirname "$to")" ] || fail "there is no folder $(dirname "$to")"
 mkdir "$moment" 2> /dev/null ||
     fail "$moment is there: another backup runs, or one was cut off (then kill -CONT $pid, and remove that folder)"
 

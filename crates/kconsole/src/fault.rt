@@ -12,8 +12,8 @@ use std::{fmt, io};
 pub enum Fault {
     /// The command line, or a call for help.
     Words(clap::Error),
-    /// There is no connection after the retries.
-    Connect,
+    /// There is no connection to this address after the retries.
+    Connect(String),
     /// What a client ended with.
     Client(ClientFault),
     /// The line of this number has more than 1,000,000 bytes.
@@ -32,7 +32,7 @@ impl Display for Fault {
     fn fmt<W: Write>(&self, f: &mut Formatter<W>) -> fmt::Result {
         match self {
             Fault::Words(e) => write!(f, "{e}"),
-            Fault::Connect => f.write_str("cannot connect"),
+            Fault::Connect(address) => write!(f, "cannot connect to {address}"),
             Fault::Client(fault) => {
                 write!(f, "{fault}")?;
                 f.write_str(meaning(*fault))

@@ -12,6 +12,9 @@ use std::time::Duration;
 /// How long it waits before it tries again where there is no broker, in milliseconds.
 const PAUSE_MS: u64 = 200;
 
+/// How long it waits for bytes, in seconds. A broker that is silent for longer is taken for one that is gone.
+const PATIENCE_S: u64 = 30;
+
 /// A connection to a broker, or none.
 #[derive(Drop)]
 pub struct Link {
@@ -44,6 +47,7 @@ impl Link {
             self.tries = self.tries.saturating_sub(1);
             if let Ok(stream) = TcpStream::connect(rt, self.address.as_str()) {
                 let _ = stream.set_nodelay(true);
+                let _ = stream.set_read_timeout(Some(Duration::from_secs(PATIENCE_S)));
                 self.stream = Some(stream);
                 return Ok(true);
             }
@@ -51,7 +55,8 @@ impl Link {
                 let _ = thread::sleep(rt, Duration::from_millis(PAUSE_MS));
             }
         }
-        Err(Fault::Connect)
+        let address = String::from_str(rt.alloc(), &self.address)?;
+        Err(Fault::Connect(address))
     }
 
     /// Sends bytes. `false`: the connection ended.
@@ -66,7 +71,7 @@ impl Link {
         sent
     }
 
-    /// Waits for bytes, and puts them in front of the buffer. 0: the connection ended.
+    /// Waits for bytes, and puts them in front of the buffer. 0: the connection ended, or nothing came.
     pub fn receive(&mut self, buffer: &mut [u8]) -> usize
         ensures { result ≤ length buffer.new }
     {

@@ -145,21 +145,21 @@ dated-waiting : (t : ℕ) (st : Stage) (head : Head) (awaited : Awaited) → st 
 dated-waiting t st head awaited e = ap (λ x. deadline_at (waiting (record { head = head; awaited = awaited }) x)) e
 
 pub dated-answered : {A E : Type 0} (setup : Setup) (result : Result A E) (q p : Queue) (t n : ℕ) (l new : Line) (r : Answer) (key version : ℤ) (head : Head) (body : List ℕ) → IsParkedBy q p t n r → l.session.stage ≡ BoundTo t None → IsAsked setup l.session key version head body
-    → ((key version : ℤ) (head : Head) (body : List ℕ) (reaction : Reaction) → IsAsked setup l.session key version head body → IsAnswer head.correlation_id reaction r → OnOk result (new ≡ with_session l (after_reaction reaction head version body (without_front l.session))))
+    → ((key version : ℤ) (head : Head) (body : List ℕ) (reaction : Reaction) → IsAsked setup l.session key version head body → IsAnswer head.correlation_id reaction r → OnOk result (new ≡ with_session l (after_reaction reaction head (without_front l.session))))
     → (is_wait r ≡ false → is_free l.session.stage ≡ true → is_free new.session.stage ≡ true) → is_err result ≡ false → until_of (fin.get p n) ≡ deadline_at new.session.stage
 dated-answered setup result q p t n l new r key version head body parked bound asks ok free good = ap until_of parked.own ∙ by r ok free
   where
-    by : (r : Answer) → ((key version : ℤ) (head : Head) (body : List ℕ) (reaction : Reaction) → IsAsked setup l.session key version head body → IsAnswer head.correlation_id reaction r → OnOk result (new ≡ with_session l (after_reaction reaction head version body (without_front l.session))))
+    by : (r : Answer) → ((key version : ℤ) (head : Head) (body : List ℕ) (reaction : Reaction) → IsAsked setup l.session key version head body → IsAnswer head.correlation_id reaction r → OnOk result (new ≡ with_session l (after_reaction reaction head (without_front l.session))))
         → (is_wait r ≡ false → is_free l.session.stage ≡ true → is_free new.session.stage ≡ true) → until_of (parked_for t r) ≡ deadline_at new.session.stage
     by (answers.Plain (plain.Reply reply)) ok free = sym (deadline-free new.session.stage (free refl (ap is_free bound)))
-    by (answers.Plain (plain.Wait deadline limit places)) ok free =
-        let reaction : Reaction = Plain (Waits deadline limit places.items) in
-        let is = from_ok result false (new ≡ with_session l (after_reaction reaction head version body (without_front l.session))) (sym good) refl (ok key version head body reaction asks (refl, refl, refl)) in
-        sym (ap (λ (x : Line). deadline_at x.session.stage) is ∙ dated-waiting t l.session.stage head (Records version body deadline limit) bound)
+    by (answers.Plain (plain.Wait deadline fetch places)) ok free =
+        let reaction : Reaction = Plain (Waits deadline fetch places.items) in
+        let is = from_ok result false (new ≡ with_session l (after_reaction reaction head (without_front l.session))) (sym good) refl (ok key version head body reaction asks (refl, refl, refl)) in
+        sym (ap (λ (x : Line). deadline_at x.session.stage) is ∙ dated-waiting t l.session.stage head (Records fetch.version fetch.body deadline fetch.limit) bound)
     by (answers.Plain plain.NoReply) ok free = sym (deadline-free new.session.stage (free refl (ap is_free bound)))
     by (answers.Plain plain.Shut) ok free = sym (deadline-free new.session.stage (free refl (ap is_free bound)))
     by answers.Rebalance ok free =
-        let is = from_ok result false (new ≡ with_session l (after_reaction Rebalances head version body (without_front l.session))) (sym good) refl (ok key version head body Rebalances asks tt) in
+        let is = from_ok result false (new ≡ with_session l (after_reaction Rebalances head (without_front l.session))) (sym good) refl (ok key version head body Rebalances asks tt) in
         sym (ap (λ (x : Line). deadline_at x.session.stage) is ∙ dated-waiting t l.session.stage head Group bound)
 
 -- and it stands there under its tenant
@@ -172,7 +172,7 @@ owned-by t deadline places (BoundTo u (Some w)) o parked bound =
 
 pub owned-answered : (t : ℕ) (st : Stage) (r : Answer) (o : Option queue.Wait) → o ≡ parked_for t r → without_wait st ≡ BoundTo t None → (is_wait r ≡ false → is_free st ≡ true) → IsOwnedAt st o
 owned-answered t st (answers.Plain (plain.Reply reply)) o parked bound free = owned-none st o (free refl)
-owned-answered t st (answers.Plain (plain.Wait deadline limit places)) o parked bound free = owned-by t deadline places.items st o parked bound
+owned-answered t st (answers.Plain (plain.Wait deadline fetch places)) o parked bound free = owned-by t deadline places.items st o parked bound
 owned-answered t st (answers.Plain plain.NoReply) o parked bound free = owned-none st o (free refl)
 owned-answered t st (answers.Plain plain.Shut) o parked bound free = owned-none st o (free refl)
 owned-answered t st answers.Rebalance o parked bound free = owned-by t (until Group) [] st o parked bound
@@ -194,16 +194,16 @@ keyed-waiting : (us : List TenantState) (t n : ℕ) (st : Stage) (w : Wait) (o :
 keyed-waiting us t n st w o bound is = subst (λ x. IsKeyedAt us n (waiting w x) o) (sym bound) (λ calm silent. is)
 
 keyed-by : (node : Node) (us : List TenantState) (t clock n : ℕ) (k : Kept) (key version : ℤ) (head : Head) (body : List ℕ) (s : Session) (is : Reaction) (r : Answer) → reaction_to node k clock n key version body ≡ is → kept_of us t ≡ kept_after node k clock n key version body → s.stage ≡ BoundTo t None
-    → IsAnswer head.correlation_id is r → IsKeyedAt us n (after_reaction is head version body s).stage (parked_for t r)
+    → IsAnswer head.correlation_id is r → IsKeyedAt us n (after_reaction is head s).stage (parked_for t r)
 keyed-by node us t clock n k key version head body s (Plain (Replies reply)) r e kept bound told = keyed-none us n _ (parked_for t r) (free-replied head reply s (ap is_free bound))
-keyed-by node us t clock n k key version head body s (Plain (Waits deadline limit places)) (answers.Plain (plain.Reply reply)) e kept bound told = absurd told
-keyed-by node us t clock n k key version head body s (Plain (Waits deadline limit places)) (answers.Plain (plain.Wait late kept_limit parts)) e kept bound told =
-    let w : Wait = record { head = head; awaited = Records version body deadline limit } in
-    keyed-waiting us t n s.stage w (parked_for t (answers.Plain (plain.Wait late kept_limit parts))) bound
-    (ap (λ ps. Some (keys_for t ps)) (told.2 ∙ (asked-parks node k clock n key version body deadline limit places head e ∙ ap (λ x. asked x w) (sym kept))))
-keyed-by node us t clock n k key version head body s (Plain (Waits deadline limit places)) (answers.Plain plain.NoReply) e kept bound told = absurd told
-keyed-by node us t clock n k key version head body s (Plain (Waits deadline limit places)) (answers.Plain plain.Shut) e kept bound told = absurd told
-keyed-by node us t clock n k key version head body s (Plain (Waits deadline limit places)) answers.Rebalance e kept bound told = absurd told
+keyed-by node us t clock n k key version head body s (Plain (Waits deadline fetch places)) (answers.Plain (plain.Reply reply)) e kept bound told = absurd told
+keyed-by node us t clock n k key version head body s (Plain (Waits deadline fetch places)) (answers.Plain (plain.Wait late kept_fetch parts)) e kept bound told =
+    let w : Wait = record { head = head; awaited = Records fetch.version fetch.body deadline fetch.limit } in
+    keyed-waiting us t n s.stage w (parked_for t (answers.Plain (plain.Wait late kept_fetch parts))) bound
+    (ap (λ ps. Some (keys_for t ps)) (told.2 ∙ (asked-parks node k clock n key version body deadline fetch places head e ∙ ap (λ x. asked x w) (sym kept))))
+keyed-by node us t clock n k key version head body s (Plain (Waits deadline fetch places)) (answers.Plain plain.NoReply) e kept bound told = absurd told
+keyed-by node us t clock n k key version head body s (Plain (Waits deadline fetch places)) (answers.Plain plain.Shut) e kept bound told = absurd told
+keyed-by node us t clock n k key version head body s (Plain (Waits deadline fetch places)) answers.Rebalance e kept bound told = absurd told
 keyed-by node us t clock n k key version head body s (Plain Silent) r e kept bound told = keyed-none us n _ (parked_for t r) (ap is_free bound)
 keyed-by node us t clock n k key version head body s (Plain Shuts) r e kept bound told = keyed-none us n _ (parked_for t r) (free-without s.stage)
 keyed-by node us t clock n k key version head body s Rebalances (answers.Plain a) e kept bound told = absurd told
@@ -213,7 +213,7 @@ keyed-by node us t clock n k key version head body s Rebalances answers.Rebalanc
 -- the connection that was answered stands in the queue under what it asks
 pub keyed-answered : (H : Type 0) → H → (setup : Setup) (t clock n : ℕ) (ts us : List TenantState) (l new : Line) (key version : ℤ) (head : Head) (body : List ℕ) (r : Answer) (o : Option queue.Wait) → l.session.stage ≡ BoundTo t None → IsSpent l.session new.session → IsAsked setup l.session key version head body → IsTurn t H ts us
     → IsMet t H ts us (λ k m. (m ≡ kept_after (node_of setup t) k clock n key version body) × IsAnswer head.correlation_id (reaction_to (node_of setup t) k clock n key version body) r)
-    → ((key version : ℤ) (head : Head) (body : List ℕ) (reaction : Reaction) → IsAsked setup l.session key version head body → IsAnswer head.correlation_id reaction r → new ≡ with_session l (after_reaction reaction head version body (without_front l.session)))
+    → ((key version : ℤ) (head : Head) (body : List ℕ) (reaction : Reaction) → IsAsked setup l.session key version head body → IsAnswer head.correlation_id reaction r → new ≡ with_session l (after_reaction reaction head (without_front l.session)))
     → o ≡ parked_for t r → IsKeyedAt us n new.session.stage o
 keyed-answered H honest setup t clock n ts us l new key version head body r o bound spent asks turn meets ok parked =
     keyed-calm us t n new.session.stage o (spent.stage t None bound ∙ ap without_wait bound)

@@ -65,7 +65,7 @@ answered-now node k l clock n id key version body touched r h =
 
 -- what stands in front was asked, and answered so: the connection is the machine's
 pub asked-now : (setup : Setup) (t clock n : ℕ) (k m : Kept) (l new : Line) (key version : ℤ) (head : Head) (body : List ℕ) (r : Answer) → IsAsked setup l.session key version head body → m ≡ kept_after (node_of setup t) k clock n key version body → IsAnswer head.correlation_id (reaction_to (node_of setup t) k clock n key version body) r
-    → ((key' version' : ℤ) (head' : Head) (body' : List ℕ) (reaction : Reaction) → IsAsked setup l.session key' version' head' body' → IsAnswer head'.correlation_id reaction r → new ≡ with_session l (after_reaction reaction head' version' body' (without_front l.session)))
+    → ((key' version' : ℤ) (head' : Head) (body' : List ℕ) (reaction : Reaction) → IsAsked setup l.session key' version' head' body' → IsAnswer head'.correlation_id reaction r → new ≡ with_session l (after_reaction reaction head' (without_front l.session)))
     → (new.session ≡ served_by_turn (for_tenant setup t) k clock n l.session) × (m ≡ kept_by_turn (for_tenant setup t) k clock n (in_front l.session))
 asked-now setup t clock n k m l new key version head body r asked kept told ok =
     let is = ok key version head body (reaction_to (node_of setup t) k clock n key version body) asked told in
@@ -168,7 +168,7 @@ spent-greeted (Ok x) setup h l new greets able ok err =
 spent-greeted (Err x) setup h l new greets able ok err = spent-shut l new able err
 
 -- a member more waits on the connection only where the connection waits for its group then
-pub member-told : (t : ℕ) (l new : Line) (r : Answer) (head : Head) (version : ℤ) (body : List ℕ) (P : Type 0) → l.session.stage ≡ BoundTo t None → (r ≡ group.Rebalance → new ≡ with_session l (after_reaction Rebalances head version body (without_front l.session))) → (r ≡ group.Rebalance) ⊎ P → IsMembersAt t new.session.stage ⊎ P
+pub member-told : (t : ℕ) (l new : Line) (r : Answer) (head : Head) (version : ℤ) (body : List ℕ) (P : Type 0) → l.session.stage ≡ BoundTo t None → (r ≡ group.Rebalance → new ≡ with_session l (after_reaction Rebalances head (without_front l.session))) → (r ≡ group.Rebalance) ⊎ P → IsMembersAt t new.session.stage ⊎ P
 member-told t l new r head version body P bound is (inl e) = inl (subst (λ (x : Line). IsMembersAt t x.session.stage) (sym (is e)) (subst (λ st. IsMembersAt t (waiting (record { head = head; awaited = Group }) st)) (sym bound) (refl, refl)))
 member-told t l new r head version body P bound is (inr p) = inr p
 

@@ -202,7 +202,7 @@ IsDoneOrShut defined s r = (r ≡ defined) ⊎ (r ≡ shut_down causes.Memory s)
 -- The request of that head, version and body, which stood in front of a connection, was answered so: it is gone, what was answered stands
 -- behind the output, and the connection waits where the answer says so; or the connection was shut.
 abbrev pub IsPutOut : Head → ℤ → List ℕ → AnyAnswer → Session → Session → Type 0
-IsPutOut head version body answer s r = IsDoneOrShut (with_answer head version body answer (without_front s)) s r
+IsPutOut head version body answer s r = IsDoneOrShut (with_answer head answer (without_front s)) s r
 
 -- The answer to a request of a tenant, which had kept k and keeps l, is the truth of its topics; and its groups are those that the request
 -- makes, or those of before without the last replies, and then the connection is shut. Where groups are deleted some of these may be gone.

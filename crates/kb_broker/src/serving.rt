@@ -299,7 +299,7 @@ fn hand_over(
     ensures parked { (k : ℕ) → k ≢ connection.old.number → fin.get parking.new k ≡ fin.get parking.old k }
     ensures ok { (key version : ℤ) (head : Head) (body : List ℕ) (reaction : Reaction)
         → IsAsked setup.now connection.old.session key version head body → IsAnswer head.correlation_id reaction answer → OnOk result
-        (connection.new ≡ with_session connection.old (after_reaction reaction head version body (without_front connection.old.session))) }
+        (connection.new ≡ with_session connection.old (after_reaction reaction head (without_front connection.old.session))) }
     ensures output { (key version : ℤ) (head : Head) (body : List ℕ) → IsAsked setup.now connection.old.session key version head body
         → IsPutOut head version body answer connection.old.session connection.new.session }
     ensures dated { (key version : ℤ) (head : Head) (body : List ℕ) → IsAsked setup.now connection.old.session key version head body
@@ -313,7 +313,7 @@ fn hand_over(
         connection.shut_down(Shut::Memory);
         return Err(AllocError);
     }
-    let given = connection.answer(alloc, setup, answer);
+    let given = connection.answer(answer);
     if given.is_err() {
         parking.forget(number);
     }
@@ -478,18 +478,11 @@ fn ask_again<L: PartitionLog + Drop, S: Store>(
         (awaited_of waiting.now.awaited) result }
 {
     match &waiting.awaited {
-        Awaited::Records {
-            api_version,
-            body,
-            deadline,
-            limit,
-        } => {
+        Awaited::Records { fetch, deadline } => {
             let wait = Wait {
                 correlation_id: waiting.head.correlation_id,
-                api_version: *api_version,
-                body,
                 deadline: *deadline,
-                limit: *limit,
+                fetch,
             };
             tenants.look(alloc, tenant, clock, &wait)
         }

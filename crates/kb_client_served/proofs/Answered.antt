@@ -124,28 +124,28 @@ asked_by target offset follow typed fits = asked (body_by target offset follow) 
 replied_is : {x y : List ℕ} → Replies x ≡ Replies y → x ≡ y
 replied_is h = cc
 
-reaction_is : (code : ℤ) (kept : Option ℕ) (w : World) (clock : ℕ) (limit : Option ℕ) (target : Target) (offset : ℤ) (follow : Bool) (body : List ℕ) (reply : Option FetchReplyV5) → HasWholeLogs w
+reaction_is : (asks : List ℕ) (kept : Option ℕ) (w : World) (clock : ℕ) (limit : Option ℕ) (target : Target) (offset : ℤ) (follow : Bool) (body : List ℕ) (reply : Option FetchReplyV5) → HasWholeLogs w
     → fetch_answer w clock (bounded limit (plain (fetch_request target offset follow))) (deadline_of clock (bounded limit (plain (fetch_request target offset follow)))) ≡ reply
-    → fetch_reaction (pos 5) code kept w clock (bounded limit (plain (fetch_request target offset follow))) reply ≡ Replies body → IsAnswered w (fetch_by target offset) body
-reaction_is code kept w clock limit target offset follow body None all e is = absurd (cc)
-reaction_is code kept w clock limit target offset follow body (Some reply) all e is =
-    body_is code w clock limit target offset follow (deadline_of clock (bounded limit (plain (fetch_request target offset follow)))) reply body all e (sym (replied_is is))
+    → fetch_reaction (pos 5) asks kept w clock (bounded limit (plain (fetch_request target offset follow))) reply ≡ Replies body → IsAnswered w (fetch_by target offset) body
+reaction_is asks kept w clock limit target offset follow body None all e is = absurd (cc)
+reaction_is asks kept w clock limit target offset follow body (Some reply) all e is =
+    body_is (asked_code (pos 5) asks) w clock limit target offset follow (deadline_of clock (bounded limit (plain (fetch_request target offset follow)))) reply body all e (sym (replied_is is))
 
 pub served_so : (node : Node) (w : World) (clock n : ℕ) (target : Target) (offset : ℤ) (follow : Bool) (body : List ℕ) → HasWholeLogs w → IsTyped target → FitsSigned w64 offset
     → (plainly_served node w clock n FETCH (pos 5) (body_by target offset follow)).reaction ≡ Replies body → IsAnswered w (fetch_by target offset) body
 unfolding plainly_served
 served_so node w clock n target offset follow body all typed fits replies =
     let r = plain (fetch_request target offset follow) in
-    let code = asked_code (pos 5) (body_by target offset follow) in
-    by r code (is_past node.limits.request_entries (fetch_entries r)) refl (sym (ap (λ x. (if_read w (within_limit node.limits.request_entries fetch_entries x) (of_fetch (pos 5) code node.limits.fetch_bytes w clock)).reaction) (asked_by target offset follow typed fits)) ∙ replies)
+    let asks = body_by target offset follow in
+    by r asks (is_past node.limits.request_entries (fetch_entries r)) refl (sym (ap (λ x. (if_read w (within_limit node.limits.request_entries fetch_entries x) (of_fetch (pos 5) asks node.limits.fetch_bytes w clock)).reaction) (asked_by target offset follow typed fits)) ∙ replies)
   where
-    by : (r : FetchRequest) (code : ℤ) (b : Bool) → r ≡ plain (fetch_request target offset follow) → (if_read w (if b then Err faults.Bad else Ok r) (of_fetch (pos 5) code node.limits.fetch_bytes w clock)).reaction ≡ Replies body → IsAnswered w (fetch_by target offset) body
-    by r code true same is = absurd cc
-    by r code false same is =
+    by : (r : FetchRequest) (asks : List ℕ) (b : Bool) → r ≡ plain (fetch_request target offset follow) → (if_read w (if b then Err faults.Bad else Ok r) (of_fetch (pos 5) asks node.limits.fetch_bytes w clock)).reaction ≡ Replies body → IsAnswered w (fetch_by target offset) body
+    by r asks true same is = absurd cc
+    by r asks false same is =
         let q = bounded node.limits.fetch_bytes (plain (fetch_request target offset follow)) in
-        let moved : (of_fetch (pos 5) code node.limits.fetch_bytes w clock (plain (fetch_request target offset follow))).reaction ≡ Replies body =
-        sym (ap (λ (x : FetchRequest). (of_fetch (pos 5) code node.limits.fetch_bytes w clock x).reaction) same) ∙ is in
-        reaction_is code node.limits.fetch_bytes w clock node.limits.fetch_bytes target offset follow body (fetch_answer w clock q (deadline_of clock q)) all refl moved
+        let moved : (of_fetch (pos 5) asks node.limits.fetch_bytes w clock (plain (fetch_request target offset follow))).reaction ≡ Replies body =
+        sym (ap (λ (x : FetchRequest). (of_fetch (pos 5) asks node.limits.fetch_bytes w clock x).reaction) same) ∙ is in
+        reaction_is asks node.limits.fetch_bytes w clock node.limits.fetch_bytes target offset follow body (fetch_answer w clock q (deadline_of clock q)) all refl moved
 
 look_is : (w : World) (clock deadline : ℕ) (limit : Option ℕ) (target : Target) (offset : ℤ) (follow : Bool) (body : List ℕ) (reply : Option FetchReplyV5) → HasWholeLogs w
     → fetch_answer w clock (bounded limit (plain (fetch_request target offset follow))) deadline ≡ reply

@@ -1,5 +1,5 @@
 -- What a tenant's answer makes of its connection.
-use Rattle.std.proofs.Common.{◌≡◌, ◌<◌, ◌≤◌, ◌⊎◌, inl, inr, ℕ, ℤ, List, [], pos, length, ◌++◌, length-append, Bool, true, false, if◌then◌else◌, Option, Some, None, refl, sym, ap}
+use Rattle.std.proofs.Common.{◌≡◌, ◌<◌, ◌≤◌, ◌⊎◌, inl, inr, ℕ, ℤ, List, pos, length, ◌++◌, length-append, Bool, true, false, if◌then◌else◌, Some, refl, sym, ap}
 use Rattle.std.proofs.Common.{◌∙◌, subst, arith, nat_lt, Result, Ok, Err, OnOk, OnErr, Global}
 use Rattle.std.proofs.lemmas.Bool.Decides.{nat_tests}
 use Rattle.std.specs.declared.vec.Vec.{Vec}
@@ -17,17 +17,17 @@ use Rattle.kb_tenant_api.specs.declared.answer.Answer.TheVariants as any
 use Rattle.kb_isolation_spec.specs.declared.shut.Shut.TheVariants as causes
 use Rattle.kb_isolation_spec.specs.declared.head.Head.{Head}
 use Rattle.kb_isolation_spec.specs.Greeting.{Setup}
-use Rattle.kb_isolation_spec.specs.Tenant.{Wait}
-use Rattle.kb_isolation_spec.specs.Session.{Stage, Greets, BoundTo, Session, shut_down, replied, throttled, unanswerable, without_wait, is_free, in_front}
+use Rattle.kb_isolation_spec.specs.Tenant.{Awaited, Records, Group, Wait}
+use Rattle.kb_isolation_spec.specs.Session.{Stage, Greets, BoundTo, Session, shut_down, replied, throttled, unanswerable, waiting, without_wait, is_free, in_front}
 use Rattle.kb_isolation_spec.proofs.Laws.{replied-le}
 use Rattle.kb_isolation_spec.specs.Machine.{Line, after_reaction, plainly, told}
 use Rattle.kb_isolation_spec.proofs.Owners.{stage-replied, stage-shut}
 use Rattle.kb_isolation_spec.proofs.RequestLimits.{limit-replied}
 use Rattle.kb_isolation_spec.proofs.Turns.{free-replied, free-without}
-use Rattle.kb_connection.specs.Fronts.{IsAsked, asked_at, head_at, is_tenants_at}
+use Rattle.kb_connection.specs.Fronts.{IsAsked, head_at, is_tenants_at}
 use Rattle.kb_connection.specs.TenantAnswers.{with_answer, answered_again, body_of, with_final_answer, given_reply, is_quiet, parked}
 use Rattle.kb_connection.specs.View.{with_session, without_front}
-use Rattle.kb_connection.specs.declared.stage.FetchWait.{FetchWait}
+use Rattle.kb_tenant.specs.FetchWait.{FetchWait}
 use Rattle.kb_connection.proofs.Fronts.{fewer-behind, head_asked}
 
 -- 1. A reply
@@ -96,17 +96,17 @@ stage_reply head reply s = by head.is_throttled
 -- 2. To the request in front, but for a wait; s is the connection without it
 
 abbrev pub IsNoWait : Answer → Type 0
-IsNoWait answer = (deadline : ℕ) (limit : Option ℕ) (keys : Vec TopicPartition Global) → answer ≡ answers.Wait deadline limit keys → ⊥
+IsNoWait answer = (deadline : ℕ) (fetch : FetchWait) (keys : Vec TopicPartition Global) → answer ≡ answers.Wait deadline fetch keys → ⊥
 
-answer_is : (head : Head) (version : ℤ) (body : List ℕ) (reaction : Reaction) (answer : Answer) (s : Session) → IsNoWait answer → IsAnswer head.correlation_id reaction answer → with_final_answer head answer s ≡ plainly reaction head version body s
+answer_is : (head : Head) (version : ℤ) (body : List ℕ) (reaction : Reaction) (answer : Answer) (s : Session) → IsNoWait answer → IsAnswer head.correlation_id reaction answer → with_final_answer head answer s ≡ plainly reaction head s
 answer_is head version body (Replies reply) (answers.Reply r) s no_wait h = reply_is head reply r s h
 answer_is head version body (Replies reply) (answers.Wait d x k) s no_wait h = absurd h
 answer_is head version body (Replies reply) answers.NoReply s no_wait h = absurd h
 answer_is head version body (Replies reply) answers.Shut s no_wait h = long_is head reply s h
-answer_is head version body (Waits until limit places) (answers.Reply r) s no_wait h = absurd h
-answer_is head version body (Waits until limit places) (answers.Wait d x k) s no_wait h = absurd (no_wait d x k refl)
-answer_is head version body (Waits until limit places) answers.NoReply s no_wait h = absurd h
-answer_is head version body (Waits until limit places) answers.Shut s no_wait h = absurd h
+answer_is head version body (Waits until fetch places) (answers.Reply r) s no_wait h = absurd h
+answer_is head version body (Waits until fetch places) (answers.Wait d x k) s no_wait h = absurd (no_wait d x k refl)
+answer_is head version body (Waits until fetch places) answers.NoReply s no_wait h = absurd h
+answer_is head version body (Waits until fetch places) answers.Shut s no_wait h = absurd h
 answer_is head version body Silent (answers.Reply r) s no_wait h = absurd h
 answer_is head version body Silent (answers.Wait d x k) s no_wait h = absurd h
 answer_is head version body Silent answers.NoReply s no_wait h = refl
@@ -116,14 +116,14 @@ answer_is head version body Shuts (answers.Wait d x k) s no_wait h = absurd h
 answer_is head version body Shuts answers.NoReply s no_wait h = absurd h
 answer_is head version body Shuts answers.Shut s no_wait h = refl
 
-served_is : (head : Head) (version : ℤ) (body : List ℕ) (reaction : service.Reaction) (answer : Answer) (s : Session) → IsNoWait answer → service.IsAnswer head.correlation_id reaction (any.Plain answer) → with_final_answer head answer s ≡ after_reaction reaction head version body s
+served_is : (head : Head) (version : ℤ) (body : List ℕ) (reaction : service.Reaction) (answer : Answer) (s : Session) → IsNoWait answer → service.IsAnswer head.correlation_id reaction (any.Plain answer) → with_final_answer head answer s ≡ after_reaction reaction head s
 served_is head version body (Plain reaction) answer s no_wait h = answer_is head version body reaction answer s no_wait h
 served_is head version body Rebalances answer s no_wait h = absurd h
 
 pub gives : {E : Type 0} (setup : Setup) (result : Result (Unit {0}) E) (l m new : Line) (key version : ℤ) (head first : Head) (body : List ℕ) (reaction : service.Reaction) (all : AnyAnswer) (answer : Answer) → all ≡ any.Plain answer → IsNoWait answer → m ≡ with_session l (without_front l.session)
     → ((versions : List ApiVersion) → first ≡ head_at versions (in_front l.session))
     → OnOk result (new ≡ with_session m (with_final_answer first answer m.session)) → IsAsked setup l.session key version head body → service.IsAnswer head.correlation_id reaction all
-    → OnOk result (new ≡ with_session l (after_reaction reaction head version body (without_front l.session)))
+    → OnOk result (new ≡ with_session l (after_reaction reaction head (without_front l.session)))
 gives setup (Ok u) l m new key version head first body reaction all answer is no_wait left stands done asks h =
     done ∙ ap (λ (x : Line). with_session x (with_final_answer first answer x.session)) left
     ∙ ap (λ (x : Head). with_session l (with_final_answer x answer (without_front l.session))) (stands setup.versions ∙ head_asked setup l.session key version head body asks)
@@ -135,24 +135,26 @@ gives setup (Err fault) l m new key version head first body reaction all answer 
 less : (versions : List ApiVersion) (l new : Line) → is_tenants_at versions (in_front l.session) ≡ true → length new.session.unread ≤ length (behind (in_front l.session) l.session.unread) → length new.session.unread < length l.session.unread
 less versions l new asks few = let fewer = fewer-behind versions l.session asks in omega arith
 
-unread_parked : (fetch : Option FetchWait) (asked : Option (Head × ℤ × ℤ × List ℕ)) (s : Session) → (parked fetch asked s).unread ≡ s.unread
-unread_parked fetch None s = refl
-unread_parked fetch (Some a) s = refl
+unread_parked : (head : Head) (awaited : Awaited) (s : Session) → (parked head awaited s).unread ≡ s.unread
+unread_parked head awaited s = by s.shut
+  where
+    by : (shut : Bool) → (let x : Session = if shut then s else record s { stage = waiting (record { head = head; awaited = awaited }) s.stage } in x).unread ≡ s.unread
+    by true = refl
+    by false = refl
 
-pub less_parked : {E : Type 0} (versions : List ApiVersion) (result : Result (Unit {0}) E) (l new : Line) (fetch : Option FetchWait) (asked : Option (Head × ℤ × ℤ × List ℕ)) → OnOk result (new ≡ with_session l (parked fetch asked (without_front l.session)))
-    → OnErr result (new ≡ with_session l (shut_down causes.Memory l.session)) → is_tenants_at versions (in_front l.session) ≡ true → length new.session.unread < length l.session.unread
-less_parked versions (Ok u) l new fetch asked ok err asks = less versions l new asks (omega (arith, ap (λ (x : Line). length x.session.unread) ok, ap length (unread_parked fetch asked (without_front l.session))))
-less_parked versions (Err fault) l new fetch asked ok err asks = less versions l new asks (omega (arith, ap (λ (x : Line). length x.session.unread) err))
+pub less_parked : (versions : List ApiVersion) (l new : Line) (head : Head) (awaited : Awaited) → new ≡ with_session l (parked head awaited (without_front l.session))
+    → is_tenants_at versions (in_front l.session) ≡ true → length new.session.unread < length l.session.unread
+less_parked versions l new head awaited ok asks = less versions l new asks (omega (arith, ap (λ (x : Line). length x.session.unread) ok, ap length (unread_parked head awaited (without_front l.session))))
 
 pub unread_given : (head : Head) (answer : Answer) (s : Session) → length (with_final_answer head answer s).unread ≤ length s.unread
 unread_given head (answers.Reply reply) s = unread_reply head reply.items s
-unread_given head (answers.Wait deadline limit keys) s = omega arith
+unread_given head (answers.Wait deadline fetch keys) s = omega arith
 unread_given head answers.NoReply s = omega arith
 unread_given head answers.Shut s = omega arith
 
 pub stage_given : (head : Head) (answer : Answer) (s : Session) → without_wait (with_final_answer head answer s).stage ≡ without_wait s.stage
 stage_given head (answers.Reply reply) s = stage_reply head reply.items s
-stage_given head (answers.Wait deadline limit keys) s = refl
+stage_given head (answers.Wait deadline fetch keys) s = refl
 stage_given head answers.NoReply s = refl
 stage_given head answers.Shut s = stage-shut s
 
@@ -166,7 +168,7 @@ less_given versions (Err fault) l m new head answer left ok err asks = less vers
 
 free_after : (head : Head) (answer : Answer) (s : Session) → is_free s.stage ≡ true → is_free (with_final_answer head answer s).stage ≡ true
 free_after head (answers.Reply reply) s free = free_reply head reply.items s free
-free_after head (answers.Wait deadline limit keys) s free = free
+free_after head (answers.Wait deadline fetch keys) s free = free
 free_after head answers.NoReply s free = free
 free_after head answers.Shut s free = free-without s.stage
 
@@ -180,7 +182,7 @@ free_given (Err fault) l m new head answer left ok err free = ap (λ (x : Line).
 -- a reply ends the wait
 ended_is : (head : Head) (reaction : Reaction) (reply : Vec ℕ Global) (s : Session) → IsAnswer head.correlation_id reaction (answers.Reply reply) → with_final_answer head (answers.Reply reply) (record s { stage = without_wait s.stage }) ≡ told reaction head s
 ended_is head (Replies body) reply s h = reply_is head body reply (record s { stage = without_wait s.stage }) h
-ended_is head (Waits until limit places) reply s h = absurd h
+ended_is head (Waits until fetch places) reply s h = absurd h
 ended_is head Silent reply s h = absurd h
 ended_is head Shuts reply s h = absurd h
 
@@ -202,9 +204,9 @@ told_is head reaction (answers.Reply r) s no_reply h = absurd (no_reply r refl)
 told_is head (Replies reply) (answers.Wait d x k) s no_reply h = absurd h
 told_is head (Replies reply) answers.NoReply s no_reply h = absurd h
 told_is head (Replies reply) answers.Shut s no_reply h = ap (λ st. record (shut_down (unanswerable head) s) { stage = st }) (sym (stage-shut s)) ∙ long_is head reply (record s { stage = without_wait s.stage }) h
-told_is head (Waits until limit places) (answers.Wait d x k) s no_reply h = refl
-told_is head (Waits until limit places) answers.NoReply s no_reply h = absurd h
-told_is head (Waits until limit places) answers.Shut s no_reply h = absurd h
+told_is head (Waits until fetch places) (answers.Wait d x k) s no_reply h = refl
+told_is head (Waits until fetch places) answers.NoReply s no_reply h = absurd h
+told_is head (Waits until fetch places) answers.Shut s no_reply h = absurd h
 told_is head Silent (answers.Wait d x k) s no_reply h = absurd h
 told_is head Silent answers.NoReply s no_reply h = refl
 told_is head Silent answers.Shut s no_reply h = absurd h
@@ -225,11 +227,11 @@ tells (Err fault) l m new tenant wait head reaction answer no_reply left awaits 
 
 -- to a request that stands in front, but for a wait
 abbrev PutsOut : {E : Type 0} → Head → Result (Unit {0}) E → Line → Line → ℤ → List ℕ → AnyAnswer → Type 0
-PutsOut head result l new version body answer = OnOk result (new ≡ with_session l (with_answer head version body answer (without_front l.session)))
+PutsOut head result l new version body answer = OnOk result (new ≡ with_session l (with_answer head answer (without_front l.session)))
 
-given_answered : (head : Head) (version : ℤ) (body : List ℕ) (answer : Answer) (s : Session) → IsNoWait answer → with_final_answer head answer s ≡ with_answer head version body (any.Plain answer) s
+given_answered : (head : Head) (version : ℤ) (body : List ℕ) (answer : Answer) (s : Session) → IsNoWait answer → with_final_answer head answer s ≡ with_answer head (any.Plain answer) s
 given_answered head version body (answers.Reply reply) s no_wait = refl
-given_answered head version body (answers.Wait deadline limit keys) s no_wait = absurd (no_wait deadline limit keys refl)
+given_answered head version body (answers.Wait deadline fetch keys) s no_wait = absurd (no_wait deadline fetch keys refl)
 given_answered head version body answers.NoReply s no_wait = refl
 given_answered head version body answers.Shut s no_wait = refl
 
@@ -244,32 +246,77 @@ pub puts_given : {E : Type 0} (setup : Setup) (result : Result (Unit {0}) E) (l 
     → all ≡ any.Plain answer → IsNoWait answer → m ≡ with_session l (without_front l.session)
     → ((versions : List ApiVersion) → first ≡ head_at versions (in_front l.session))
     → OnOk result (new ≡ with_session m (with_final_answer first answer m.session)) → IsAsked setup l.session key version head body
-    → OnOk result (new ≡ with_session l (with_answer head version body all (without_front l.session)))
+    → OnOk result (new ≡ with_session l (with_answer head all (without_front l.session)))
 puts_given setup result l m new key version head first body all answer is no_wait left stands done asks =
     subst (λ (x : Head). PutsOut x result l new version body all) (stands setup.versions ∙ head_asked setup l.session key version head body asks)
     (subst (PutsOut first result l new version body) (sym is) (puts result l m new first version body answer no_wait left done))
 
 -- and where it is to wait for records, or for its group
-parked_asked : {E : Type 0} (result : Result (Unit {0}) E) (l new : Line) (fetch : Option FetchWait) (asked : Option (Head × ℤ × ℤ × List ℕ)) (key version : ℤ) (head : Head) (body : List ℕ)
-    → asked ≡ Some (head, key, version, body) → OnOk result (new ≡ with_session l (parked fetch asked (without_front l.session)))
-    → OnOk result (new ≡ with_session l (parked fetch (Some (head, key, version, body)) (without_front l.session)))
-parked_asked (Ok u) l new fetch asked key version head body is done = done ∙ ap (λ x. with_session l (parked fetch x (without_front l.session))) is
-parked_asked (Err fault) l new fetch asked key version head body is done = tt
+open_parked : (head : Head) (awaited : Awaited) (s : Session) → s.shut ≡ false → parked head awaited s ≡ record s { stage = waiting (record { head = head; awaited = awaited }) s.stage }
+open_parked head awaited s is_open = ap (λ (shut : Bool). (let x : Session = if shut then s else record s { stage = waiting (record { head = head; awaited = awaited }) s.stage } in x)) is_open
 
-pub puts_records : {E : Type 0} (setup : Setup) (result : Result (Unit {0}) E) (l new : Line) (key version : ℤ) (head : Head) (body : List ℕ) (deadline : ℕ) (limit : Option ℕ) (keys : Vec TopicPartition Global) (all : AnyAnswer)
-    → all ≡ any.Plain (answers.Wait deadline limit keys)
-    → OnOk result (new ≡ with_session l (parked (Some (record { deadline = deadline; limit = limit })) (asked_at setup.versions (in_front l.session)) (without_front l.session)))
-    → IsAsked setup l.session key version head body → OnOk result (new ≡ with_session l (with_answer head version body all (without_front l.session)))
-puts_records setup result l new key version head body deadline limit keys all is done asks =
-    subst (PutsOut head result l new version body) (sym is)
-    (parked_asked result l new (Some (record { deadline = deadline; limit = limit })) (asked_at setup.versions (in_front l.session)) key version head body asks.asked done)
+pub parked_is : (setup : Setup) (l new : Line) (key version : ℤ) (head : Head) (body : List ℕ) (awaited : Awaited)
+    → ((versions : List ApiVersion) → new ≡ with_session l (parked (head_at versions (in_front l.session)) awaited (without_front l.session)))
+    → ((versions : List ApiVersion) → is_tenants_at versions (in_front l.session) ≡ true → l.session.shut ≡ false)
+    → IsAsked setup l.session key version head body
+    → new ≡ with_session l (record (without_front l.session) { stage = waiting (record { head = head; awaited = awaited }) l.session.stage })
+parked_is setup l new key version head body awaited done unshut asks =
+    done setup.versions ∙ ap (λ (x : Head). with_session l (parked x awaited (without_front l.session))) (head_asked setup l.session key version head body asks)
+    ∙ ap (with_session l) (open_parked head awaited (without_front l.session) (unshut setup.versions asks.tenants))
 
-pub puts_group : {E : Type 0} (setup : Setup) (result : Result (Unit {0}) E) (l new : Line) (key version : ℤ) (head : Head) (body : List ℕ) (all : AnyAnswer) → all ≡ any.Rebalance
-    → OnOk result (new ≡ with_session l (parked None (asked_at setup.versions (in_front l.session)) (without_front l.session)))
-    → IsAsked setup l.session key version head body → OnOk result (new ≡ with_session l (with_answer head version body all (without_front l.session)))
-puts_group setup result l new key version head body all is done asks =
-    subst (PutsOut head result l new version body) (sym is)
-    (parked_asked result l new None (asked_at setup.versions (in_front l.session)) key version head body asks.asked done)
+waiting_is : (wait : Wait) (st : Stage) → without_wait (waiting wait st) ≡ without_wait st
+waiting_is wait (Greets greeting) = refl
+waiting_is wait (BoundTo tenant earlier) = refl
+
+pub stage_parked : (l new : Line) (head : Head) (awaited : Awaited) → new ≡ with_session l (parked head awaited (without_front l.session)) → without_wait new.session.stage ≡ without_wait l.session.stage
+stage_parked l new head awaited ok = ap (λ (x : Line). without_wait x.session.stage) ok ∙ by l.session.shut
+  where
+    s : Session
+    s = without_front l.session
+
+    by : (shut : Bool) → without_wait (let x : Session = if shut then s else record s { stage = waiting (record { head = head; awaited = awaited }) s.stage } in x).stage ≡ without_wait s.stage
+    by true = refl
+    by false = waiting_is (record { head = head; awaited = awaited }) s.stage
+
+-- it is what the reaction says
+wait_is : (head : Head) (reaction : service.Reaction) (deadline : ℕ) (fetch : FetchWait) (keys : Vec TopicPartition Global) (s : Session) → service.IsAnswer head.correlation_id reaction (any.Plain (answers.Wait deadline fetch keys))
+    → record s { stage = waiting (record { head = head; awaited = Records fetch.version fetch.body deadline fetch.limit }) s.stage } ≡ after_reaction reaction head s
+wait_is head (Plain (Replies reply)) deadline fetch keys s h = absurd h
+wait_is head (Plain (Waits until asked places)) deadline fetch keys s h =
+    ap (λ (d : ℕ). record s { stage = waiting (record { head = head; awaited = Records fetch.version fetch.body d fetch.limit }) s.stage }) h.0
+    ∙ ap (λ (f : FetchWait). record s { stage = waiting (record { head = head; awaited = Records f.version f.body until f.limit }) s.stage }) h.1
+wait_is head (Plain Silent) deadline fetch keys s h = absurd h
+wait_is head (Plain Shuts) deadline fetch keys s h = absurd h
+wait_is head Rebalances deadline fetch keys s h = absurd h
+
+group_is : (head : Head) (reaction : service.Reaction) (s : Session) → service.IsAnswer head.correlation_id reaction any.Rebalance
+    → record s { stage = waiting (record { head = head; awaited = Group }) s.stage } ≡ after_reaction reaction head s
+group_is head (Plain reaction) s h = absurd h
+group_is head Rebalances s h = refl
+
+-- a wait for records, or for the group
+pub gives_records : (l new : Line) (head : Head) (reaction : service.Reaction) (deadline : ℕ) (fetch : FetchWait) (keys : Vec TopicPartition Global) (all : AnyAnswer) → all ≡ any.Plain (answers.Wait deadline fetch keys)
+    → new ≡ with_session l (record (without_front l.session) { stage = waiting (record { head = head; awaited = Records fetch.version fetch.body deadline fetch.limit }) l.session.stage })
+    → service.IsAnswer head.correlation_id reaction all → new ≡ with_session l (after_reaction reaction head (without_front l.session))
+gives_records l new head reaction deadline fetch keys all is done h =
+    done ∙ ap (with_session l) (wait_is head reaction deadline fetch keys (without_front l.session) (subst (service.IsAnswer head.correlation_id reaction) is h))
+
+pub gives_group : (l new : Line) (head : Head) (reaction : service.Reaction) (all : AnyAnswer) → all ≡ any.Rebalance
+    → new ≡ with_session l (record (without_front l.session) { stage = waiting (record { head = head; awaited = Group }) l.session.stage })
+    → service.IsAnswer head.correlation_id reaction all → new ≡ with_session l (after_reaction reaction head (without_front l.session))
+gives_group l new head reaction all is done h =
+    done ∙ ap (with_session l) (group_is head reaction (without_front l.session) (subst (service.IsAnswer head.correlation_id reaction) is h))
+
+-- the same of the answer itself
+pub puts_records : (l new : Line) (head : Head) (deadline : ℕ) (fetch : FetchWait) (keys : Vec TopicPartition Global) (all : AnyAnswer) → all ≡ any.Plain (answers.Wait deadline fetch keys)
+    → new ≡ with_session l (record (without_front l.session) { stage = waiting (record { head = head; awaited = Records fetch.version fetch.body deadline fetch.limit }) l.session.stage })
+    → new ≡ with_session l (with_answer head all (without_front l.session))
+puts_records l new head deadline fetch keys all is done = done ∙ ap (λ (a : AnyAnswer). with_session l (with_answer head a (without_front l.session))) (sym is)
+
+pub puts_group : (l new : Line) (head : Head) (all : AnyAnswer) → all ≡ any.Rebalance
+    → new ≡ with_session l (record (without_front l.session) { stage = waiting (record { head = head; awaited = Group }) l.session.stage })
+    → new ≡ with_session l (with_answer head all (without_front l.session))
+puts_group l new head all is done = done ∙ ap (λ (a : AnyAnswer). with_session l (with_answer head a (without_front l.session))) (sym is)
 
 -- to a request that waits: a reply, which ends the wait
 again_reply : (head : Head) (answer : Answer) (reply : Vec ℕ Global) (s : Session) → answer ≡ answers.Reply reply → with_final_answer head answer (record s { stage = without_wait s.stage }) ≡ answered_again head answer s
@@ -291,7 +338,7 @@ puts_ending (Err fault) l m new tenant wait head answer reply is left awaits don
 -- and any other answer
 again_other : (head : Head) (answer : Answer) (s : Session) → IsNoReply answer → with_final_answer head answer s ≡ answered_again head answer s
 again_other head (answers.Reply reply) s no_reply = absurd (no_reply reply refl)
-again_other head (answers.Wait deadline limit keys) s no_reply = refl
+again_other head (answers.Wait deadline fetch keys) s no_reply = refl
 again_other head answers.NoReply s no_reply = refl
 again_other head answers.Shut s no_reply = refl
 
@@ -350,13 +397,13 @@ stage_ended (Err fault) l m new head answer reply is left ok err =
 
 given_quiet : (head : Head) (answer : Answer) (s : Session) → IsNoReply answer → ((with_final_answer head answer s).stage ≡ s.stage) ⊎ ((with_final_answer head answer s).stage ≡ without_wait s.stage)
 given_quiet head (answers.Reply reply) s none = absurd (none reply refl)
-given_quiet head (answers.Wait deadline limit keys) s none = inl refl
+given_quiet head (answers.Wait deadline fetch keys) s none = inl refl
 given_quiet head answers.NoReply s none = inl refl
 given_quiet head answers.Shut s none = inr refl
 
 given_loud : (head : Head) (answer : Answer) (s : Session) → IsNoReply answer → is_quiet answer ≡ false → (with_final_answer head answer s).stage ≡ without_wait s.stage
 given_loud head (answers.Reply reply) s none loud = absurd (none reply refl)
-given_loud head (answers.Wait deadline limit keys) s none loud = cc
+given_loud head (answers.Wait deadline fetch keys) s none loud = cc
 given_loud head answers.NoReply s none loud = cc
 given_loud head answers.Shut s none loud = refl
 
@@ -397,13 +444,16 @@ limit_reply head reply s = by head.is_throttled
 
 limit_given : (head : Head) (answer : Answer) (s : Session) → (with_final_answer head answer s).limit ≡ s.limit
 limit_given head (answers.Reply reply) s = limit_reply head reply.items s
-limit_given head (answers.Wait deadline limit keys) s = refl
+limit_given head (answers.Wait deadline fetch keys) s = refl
 limit_given head answers.NoReply s = refl
 limit_given head answers.Shut s = refl
 
-limit_parked : (fetch : Option FetchWait) (asked : Option (Head × ℤ × ℤ × List ℕ)) (s : Session) → (parked fetch asked s).limit ≡ s.limit
-limit_parked fetch None s = refl
-limit_parked fetch (Some a) s = refl
+limit_parked : (head : Head) (awaited : Awaited) (s : Session) → (parked head awaited s).limit ≡ s.limit
+limit_parked head awaited s = by s.shut
+  where
+    by : (shut : Bool) → (let x : Session = if shut then s else record s { stage = waiting (record { head = head; awaited = awaited }) s.stage } in x).limit ≡ s.limit
+    by true = refl
+    by false = refl
 
 -- no answer changes it
 pub same_limit : {E : Type 0} (result : Result (Unit {0}) E) (l m new : Line) (head : Head) (answer : Answer) → m.session.limit ≡ l.session.limit
@@ -412,8 +462,5 @@ pub same_limit : {E : Type 0} (result : Result (Unit {0}) E) (l m new : Line) (h
 same_limit (Ok u) l m new head answer left ok err = ap (λ (x : Line). x.session.limit) ok ∙ (limit_given head answer m.session ∙ left)
 same_limit (Err fault) l m new head answer left ok err = ap (λ (x : Line). x.session.limit) err ∙ left
 
-pub same_limit_parked : {E : Type 0} (result : Result (Unit {0}) E) (l new : Line) (fetch : Option FetchWait) (asked : Option (Head × ℤ × ℤ × List ℕ))
-    → OnOk result (new ≡ with_session l (parked fetch asked (without_front l.session))) → OnErr result (new ≡ with_session l (shut_down causes.Memory l.session))
-    → new.session.limit ≡ l.session.limit
-same_limit_parked (Ok u) l new fetch asked ok err = ap (λ (x : Line). x.session.limit) ok ∙ limit_parked fetch asked (without_front l.session)
-same_limit_parked (Err fault) l new fetch asked ok err = ap (λ (x : Line). x.session.limit) err
+pub same_limit_parked : (l new : Line) (head : Head) (awaited : Awaited) → new ≡ with_session l (parked head awaited (without_front l.session)) → new.session.limit ≡ l.session.limit
+same_limit_parked l new head awaited ok = ap (λ (x : Line). x.session.limit) ok ∙ limit_parked head awaited (without_front l.session)

@@ -1,11 +1,13 @@
 -- A connection's limits.
-use Rattle.std.proofs.Common.{◌≡◌, ◌∙◌, ℕ, List, [], length, Bool, true, false, refl, ap, arith}
+use Rattle.std.proofs.Common.{◌≡◌, ◌∙◌, ℕ, List, [], length, Bool, true, false, refl, sym, ap, arith}
 use Rattle.kb_wire.specs.Codec.{int}
 use Rattle.kb_api_group.specs.Frames.{Front, Whole, Partial, TooSmall, TooLarge, front}
 use Rattle.kb_api_group.specs.FrameStream.{behind, answer}
+use Rattle.kb_api_group.specs.declared.api_versions.ApiVersion.{ApiVersion}
 use Rattle.kb_api_group.specs.declared.frames.Next.TheVariants as answers
 use Rattle.kb_isolation_spec.proofs.Laws.{front-rest}
 use Rattle.kb_isolation_spec.specs.Session.{Stage, Greets, BoundTo, is_free, without_wait}
+use Rattle.kb_connection.specs.Fronts.{is_tenants_at}
 use Rattle.kb_connection.specs.View.{IsLimited}
 
 -- the request in front was left behind
@@ -34,3 +36,9 @@ none-front limit = refl
 pub framed-open : (limit : ℕ) (unread bytes : List ℕ) (stage : Stage) (shut : Bool) → IsLimited limit unread stage shut → answers.Frame bytes ≡ answer (front limit unread) → shut ≡ false
 framed-open limit unread bytes stage false h e = refl
 framed-open limit unread bytes stage true h e = let none : answers.Frame bytes ≡ answer Partial = e ∙ (ap (λ u. answer (front limit u)) (h.1 refl) ∙ ap answer (none-front limit)) in absurd (cc)
+
+-- nor was one in front of which a request of its tenant stands
+pub asked-open : (versions : List ApiVersion) (limit : ℕ) (unread : List ℕ) (stage : Stage) (shut : Bool) → IsLimited limit unread stage shut → is_tenants_at versions (front limit unread) ≡ true → shut ≡ false
+asked-open versions limit unread stage false h e = refl
+asked-open versions limit unread stage true h e =
+    let none : is_tenants_at versions Partial ≡ true = sym (ap (λ u. is_tenants_at versions (front limit u)) (h.1 refl) ∙ ap (is_tenants_at versions) (none-front limit)) ∙ e in absurd (cc)

@@ -59,6 +59,6 @@ pub record IsAsked (setup : Setup) (s : Session) (key version : ℤ) (head : Hea
   pub tenants : is_tenants_at setup.versions (in_front s) ≡ true
   pub asked : asked_at setup.versions (in_front s) ≡ Some (head, key, version, body)
   pub served : (tenant : ℕ) (kept : Kept) (clock n : ℕ) → after_turn (for_tenant setup tenant) kept clock n s
-      ≡ after_reaction (reaction_to (node_of setup tenant) kept clock n key version body) head version body (without_front s)
+      ≡ after_reaction (reaction_to (node_of setup tenant) kept clock n key version body) head (without_front s)
   pub put : (tenant : ℕ) (kept : Kept) (clock n : ℕ)
       → kept_by_turn (for_tenant setup tenant) kept clock n (in_front s) ≡ kept_after (node_of setup tenant) kept clock n key version body

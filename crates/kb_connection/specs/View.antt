@@ -40,7 +40,7 @@ request_of r = record { head = r.head; asked = asked_of r.asked }
 
 -- what a request waits for
 abbrev pub awaited_of : Awaits → Awaited
-awaited_of (awaited.Records version body deadline limit) = Records version body.items deadline limit
+awaited_of (awaited.Records fetch deadline) = Records fetch.version fetch.body deadline fetch.limit
 awaited_of awaited.Group = Group
 
 -- a request that waits for its answer

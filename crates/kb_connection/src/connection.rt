@@ -1,6 +1,6 @@
 //! One connection: its unread bytes, its untaken output, and how far it is.
 
-ghost use Rattle.std.specs.Prelude.{◌≡◌, ◌<◌, ◌≤◌, ◌^◌, ℕ, ℤ, List, length, true, false, option_map, IfOk, IfSome, IfNone, OnOk};
+ghost use Rattle.std.specs.Prelude.{◌≡◌, ◌<◌, ◌≤◌, ◌^◌, ℕ, ℤ, List, length, true, false, IfOk, IfSome, IfNone, OnOk};
 ghost use Rattle.std.specs.Prelude.{OnErr, ◌⊎◌};
 ghost use Rattle.std.specs.Option.{is_some};
 ghost use Rattle.kb_tenant_api.specs.Hosted.{Kept};
@@ -16,10 +16,9 @@ ghost use Rattle.kb_isolation_spec.specs.Session.{has_member, is_free, can};
 ghost use Rattle.kb_isolation_spec.specs.Greeting.{Setup, bound, failed, for_tenant, greeted};
 ghost use Rattle.kb_isolation_spec.specs.Machine.{after_reaction, after_turn, told};
 ghost use Rattle.kb_isolation_spec.specs.Calls.{without_output};
-ghost use Rattle.kb_connection.specs.TenantAnswers.{with_answer, answered_again, with_final_answer, given_reply, is_quiet, is_wait};
-ghost use Rattle.kb_connection.specs.TenantAnswers.{wait_for, parked};
-ghost use Rattle.kb_connection.specs.Fronts.{IsOwn, IsAsked, is_tenants_at, asked_at, head_at};
-ghost use Rattle.kb_connection.specs.View.{greeting_of, speaks, stage_of, wait_of, with_session, without_front, IsLimited};
+ghost use Rattle.kb_connection.specs.TenantAnswers.{with_answer, answered_again, with_final_answer, given_reply, is_quiet, is_wait, parked};
+ghost use Rattle.kb_connection.specs.Fronts.{IsOwn, IsAsked, is_tenants_at, head_at};
+ghost use Rattle.kb_connection.specs.View.{awaited_of, greeting_of, speaks, stage_of, wait_of, with_session, without_front, IsLimited};
 ghost use Rattle.kb_connection.specs.Reactions.{reacted, IfReacts};
 
 use crate::greeting::Greeting;
@@ -31,7 +30,7 @@ use crate::reply::{
 use crate::request::{Asked, Request, unanswerable};
 use crate::room::unread_limit;
 use crate::setup::Setup;
-use crate::stage::{Awaited, FetchWait, Phase, Stage, Waiting};
+use crate::stage::{Awaited, Phase, Stage, Waiting};
 use crate::version::{NO_HEAD, head_of_frame};
 use kb_api_group::{FrameFeed, Next};
 use kb_isolation_spec::{Head, Known, Login, Name, Shut};
@@ -315,33 +314,39 @@ impl Connection {
         }
     }
 
-    /// Leaves the tenant's request in front behind, and gives the tenant's answer to it. Where the answer is to wait, what it
-    /// takes to answer the request is kept until `wake` ends the wait. Where memory is refused it is shut.
-    #[tactic(auto, using(crate::proofs::Answering::gives, crate::proofs::Answering::less_given, crate::proofs::Answering::less_parked, crate::proofs::Answering::free_given, crate::proofs::Answering::puts_given, crate::proofs::Answering::puts_records, crate::proofs::Answering::puts_group, crate::proofs::Answering::same_limit_parked, crate::proofs::Answering::stage_kept))]
-    pub fn answer(&mut self, alloc: Global, setup: &Setup, answer: Answer) -> Result<(), AllocError>
-        ensures ok { (key version : ℤ) (head : Head) (body : List ℕ) (reaction : Reacts)
-            → IsAsked setup.now self.old.session key version head body → IsAnswer head.correlation_id reaction answer → OnOk result
-            (self.new ≡ with_session self.old (after_reaction reaction head version body (without_front self.old.session))) }
+    /// Leaves the tenant's request in front behind, and gives the tenant's answer to it. Where the answer is to wait, it is kept until
+    /// `wake` ends the wait: for that nothing is read, and no memory is asked for. Where memory for a reply is refused it is shut.
+    #[tactic(auto, using(crate::proofs::Answering::gives, crate::proofs::Answering::less_given, crate::proofs::Answering::less_parked, crate::proofs::Answering::free_given, crate::proofs::Answering::puts_given, crate::proofs::Answering::puts_records, crate::proofs::Answering::puts_group, crate::proofs::Answering::gives_records, crate::proofs::Answering::gives_group, crate::proofs::Answering::parked_is, crate::proofs::Answering::same_limit_parked, crate::proofs::Answering::stage_kept, crate::proofs::Answering::stage_parked))]
+    pub fn answer(&mut self, answer: Answer) -> Result<(), AllocError>
+        ensures ok { (setup : Setup) (key version : ℤ) (head : Head) (body : List ℕ) (reaction : Reacts)
+            → IsAsked setup self.old.session key version head body → IsAnswer head.correlation_id reaction answer → OnOk result
+            (self.new ≡ with_session self.old (after_reaction reaction head (without_front self.old.session))) }
         ensures err { OnErr result (self.new ≡ with_session self.old (shut_down causes.Memory self.old.session)) }
         // whatever the answer is, also where a refusal spoiled it
-        ensures answered { (key version : ℤ) (head : Head) (body : List ℕ) → IsAsked setup.now self.old.session key version head body
-            → OnOk result (self.new ≡ with_session self.old (with_answer head version body answer (without_front self.old.session))) }
+        ensures answered { (setup : Setup) (key version : ℤ) (head : Head) (body : List ℕ)
+            → IsAsked setup self.old.session key version head body → OnOk result (self.new ≡ with_session self.old (with_answer head answer (without_front self.old.session))) }
         ensures number { self.new.number ≡ self.old.number }
         ensures stage { without_wait self.new.session.stage ≡ without_wait self.old.session.stage }
         ensures limit { self.new.session.limit ≡ self.old.session.limit }
-        ensures shrinks { is_tenants_at setup.now.versions (in_front self.old.session) ≡ true
+        ensures shrinks { (versions : List ApiVersion) → is_tenants_at versions (in_front self.old.session) ≡ true
             → length self.new.session.unread < length self.old.session.unread }
         ensures free { is_wait answer ≡ false → is_free self.old.session.stage ≡ true → is_free self.new.session.stage ≡ true }
     {
         match answer {
-            Answer::Rebalance => self.park(alloc, setup, None),
+            Answer::Rebalance => {
+                self.park(Awaited::Group);
+                Ok(())
+            }
             Answer::Plain(
                 kb_tenant::Answer::Wait {
                     deadline,
-                    limit,
+                    fetch,
                     ..
                 },
-            ) => self.park(alloc, setup, Some(FetchWait { deadline, limit })),
+            ) => {
+                self.park(Awaited::Records { fetch, deadline });
+                Ok(())
+            }
             Answer::Plain(answer) => {
                 let head = self.head_in_front();
                 self.skip(); // it is not handed out again
@@ -396,61 +401,20 @@ impl Connection {
         }
     }
 
-    /// Leaves the request in front behind, and waits for its answer: as a fetch does, or, where it is none, until its group gives it.
-    /// Where memory is refused it is shut.
-    fn park(
-        &mut self,
-        alloc: Global,
-        setup: &Setup,
-        fetch: Option<FetchWait>,
-    ) -> Result<(), AllocError>
-        ensures ok { OnOk result (self.new ≡ with_session self.old
-            (parked fetch (asked_at setup.now.versions (in_front self.old.session)) (without_front self.old.session))) }
-        ensures err { OnErr result (self.new ≡ with_session self.old (shut_down causes.Memory self.old.session)) }
+    /// Leaves the request in front behind, and waits for its answer. It takes no memory.
+    fn park(&mut self, awaited: Awaited)
+        ensures parked { (versions : List ApiVersion) → self.new ≡ with_session self.old
+            (parked (head_at versions (in_front self.old.session)) (awaited_of awaited) (without_front self.old.session)) }
+        // no request stands in front of one that was shut
+        ensures unshut { (versions : List ApiVersion) → is_tenants_at versions (in_front self.old.session) ≡ true
+            → self.old.session.shut ≡ false }
     {
-        let request = self.request_in_front(alloc, setup, fetch);
+        let is_open = self.shut.is_none();
+        let head = self.head_in_front();
         self.skip();
-        match request {
-            Ok(Some(request)) => {
-                self.wait_for(request);
-                Ok(())
-            }
-            Ok(None) => Ok(()),
-            Err(e) => {
-                self.shut_down(Shut::Memory);
-                Err(e)
-            }
+        if is_open {
+            self.wait_for(Waiting { head, awaited });
         }
-    }
-
-    /// The request of its tenant that stands in front, to wait for its answer: of one that waits for its group, which is no fetch, its
-    /// head is all that is kept.
-    fn request_in_front(
-        &self,
-        alloc: Global,
-        setup: &Setup,
-        fetch: Option<FetchWait>,
-    ) -> Result<Option<Waiting>, AllocError>
-        ensures found { IfOk result (λ found. option_map wait_of found
-            ≡ option_map (wait_for fetch) (asked_at setup.now.versions (in_front self.now.session))) }
-        ensures unshut { IfOk result (λ found. IfSome found (λ request. self.now.session.shut ≡ false)) }
-    {
-        let Some(request) = self.request(alloc, setup)? else {
-            return Ok(None);
-        };
-        let awaited = match fetch {
-            Some(FetchWait { deadline, limit }) => Awaited::Records {
-                api_version: request.api_version,
-                body: Vec::from_slice(alloc, request.body)?,
-                deadline,
-                limit,
-            },
-            None => Awaited::Group,
-        };
-        Ok(Some(Waiting {
-            head: self.head_in_front(),
-            awaited,
-        }))
     }
 
     /// Waits for the answer to a request. One that greets has none, and one that was shut waits for nothing.

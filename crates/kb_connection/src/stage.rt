@@ -6,6 +6,7 @@ ghost use Rattle.kb_connection.specs.View.{stage_of};
 
 use crate::greeting::Greeting;
 use kb_isolation_spec::Head;
+use kb_tenant::WaitingFetch;
 
 /// How far a connection is.
 #[derive(Clone, Copy, Debug, PartialEq, Eq)]
@@ -33,24 +34,13 @@ impl Phase {
 pub enum Awaited {
     /// The records that it asks for: a fetch.
     Records {
-        /// The version of the fetch.
-        api_version: i16,
-        /// The body of the fetch, behind its header.
-        body: Vec<u8>,
+        /// What is kept of the fetch.
+        fetch: WaitingFetch,
         /// The moment after which it waits no longer, in milliseconds.
         deadline: u64,
-        /// How many bytes of records its reply then has at most. None is no limit.
-        limit: Option<u64>,
     },
     /// The answer of its group, without a deadline: a join or a sync.
     Group,
-}
-
-/// Until when a fetch waits at most, in milliseconds, and how many bytes of records its reply then has at most. None is no limit.
-#[derive(Clone, Copy)]
-pub(crate) struct FetchWait {
-    pub deadline: u64,
-    pub limit: Option<u64>,
 }
 
 /// A request that waits for its answer.

@@ -28,7 +28,7 @@ ready-holds : (kept : Kept) (clock n : ℕ) (head : Head) (version : ℤ) (body 
 unfolding ready
 ready-holds kept clock n head version body deadline limit reply r small read e = looked-holds kept.world clock deadline version limit body reply r small read e
 
-answered_by : (setup : Setup) (kept : Kept) (clock n : ℕ) (head : Head) (version : ℤ) (body : List ℕ) (s : Session) (r : FetchRequest) → HasSmallLogs kept.world → asked_fetch version body ≡ Ok r → (x : Reaction) → reaction_to setup.node kept clock n FETCH version body ≡ x → GetsBatches kept.world version r head s (after_reaction x head version body s)
+answered_by : (setup : Setup) (kept : Kept) (clock n : ℕ) (head : Head) (version : ℤ) (body : List ℕ) (s : Session) (r : FetchRequest) → HasSmallLogs kept.world → asked_fetch version body ≡ Ok r → (x : Reaction) → reaction_to setup.node kept clock n FETCH version body ≡ x → GetsBatches kept.world version r head s (after_reaction x head s)
 answered_by setup kept clock n head version body s r small read (Plain (Replies reply)) e = inl (reply, answer-holds setup kept clock n version body reply r small read e, refl)
 answered_by setup kept clock n head version body s r small read (Plain (Waits deadline limit places)) e = inr refl
 answered_by setup kept clock n head version body s r small read (Plain Silent) e = inr refl
@@ -42,7 +42,7 @@ unfolding after_turn served_by
 served-batches setup kept clock n s frame rest version body r small at asks read =
     let head = (request setup.versions frame).head in
     let from : Session = record s { unread = rest } in
-    let is : served_at setup kept clock n s (in_front s) ≡ after_reaction (reaction_to setup.node kept clock n FETCH version body) head version body from =
+    let is : served_at setup kept clock n s (in_front s) ≡ after_reaction (reaction_to setup.node kept clock n FETCH version body) head from =
     ap (served_at setup kept clock n s) at ∙ ap (λ a. served_by setup kept clock n head a from) asks in
     subst (GetsBatches kept.world version r head from) (sym is) (answered_by setup kept clock n head version body from r small read (reaction_to setup.node kept clock n FETCH version body) refl)
 

@@ -105,13 +105,13 @@ greeted_by-le setup h head (Authenticate m) s = authenticated-le setup h head m 
 greeted_by-le setup h head (Another k v b) s = omega arith
 greeted_by-le setup h head Malformed s = omega arith
 
-plainly-le : (r : tenant.Reaction) (head : Head) (version : ℤ) (body : List ℕ) (s : Session) → length (plainly r head version body s).unread ≤ length s.unread
+plainly-le : (r : tenant.Reaction) (head : Head) (version : ℤ) (body : List ℕ) (s : Session) → length (plainly r head s).unread ≤ length s.unread
 plainly-le (Replies reply) head version body s = replied-le head reply s
 plainly-le (Waits deadline limit places) head version body s = omega arith
 plainly-le Silent head version body s = omega arith
 plainly-le Shuts head version body s = omega arith
 
-answered-le : (r : Reaction) (head : Head) (version : ℤ) (body : List ℕ) (s : Session) → length (after_reaction r head version body s).unread ≤ length s.unread
+answered-le : (r : Reaction) (head : Head) (version : ℤ) (body : List ℕ) (s : Session) → length (after_reaction r head s).unread ≤ length s.unread
 answered-le (Plain r) head version body s = plainly-le r head version body s
 answered-le Rebalances head version body s = omega arith
 

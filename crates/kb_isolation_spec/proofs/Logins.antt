@@ -122,13 +122,13 @@ has-greeted setup h s e = by (in_front s)
     by TooLarge = has-shut setup.users causes.TooLong s (has-greeting setup.users h s e)
     by Partial = has-greeting setup.users h s e
 
-login-plainly : (r : tenant.Reaction) (head : Head) (version : ℤ) (body : List ℕ) (s : Session) → (plainly r head version body s).login ≡ s.login
+login-plainly : (r : tenant.Reaction) (head : Head) (version : ℤ) (body : List ℕ) (s : Session) → (plainly r head s).login ≡ s.login
 login-plainly (Replies reply) head version body s = login-replied head reply s
 login-plainly (Waits deadline limit places) head version body s = refl
 login-plainly Silent head version body s = refl
 login-plainly Shuts head version body s = refl
 
-pub login-answered : (r : Reaction) (head : Head) (version : ℤ) (body : List ℕ) (s : Session) → (after_reaction r head version body s).login ≡ s.login
+pub login-answered : (r : Reaction) (head : Head) (version : ℤ) (body : List ℕ) (s : Session) → (after_reaction r head s).login ≡ s.login
 login-answered (Plain r) head version body s = login-plainly r head version body s
 login-answered Rebalances head version body s = refl
 

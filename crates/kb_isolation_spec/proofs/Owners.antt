@@ -121,13 +121,13 @@ stage-waiting : (wait : Wait) (st : Stage) → without_wait (waiting wait st) �
 stage-waiting wait (Greets h) = refl
 stage-waiting wait (BoundTo u w) = refl
 
-stage-plainly : (r : tenant.Reaction) (head : Head) (version : ℤ) (body : List ℕ) (s : Session) → without_wait (plainly r head version body s).stage ≡ without_wait s.stage
+stage-plainly : (r : tenant.Reaction) (head : Head) (version : ℤ) (body : List ℕ) (s : Session) → without_wait (plainly r head s).stage ≡ without_wait s.stage
 stage-plainly (Replies reply) head version body s = stage-replied head reply s
-stage-plainly (Waits deadline limit places) head version body s = stage-waiting (record { head = head; awaited = Records version body deadline limit }) s.stage
+stage-plainly (Waits deadline fetch places) head version body s = stage-waiting (record { head = head; awaited = Records fetch.version fetch.body deadline fetch.limit }) s.stage
 stage-plainly Silent head version body s = refl
 stage-plainly Shuts head version body s = stage-shut s
 
-pub stage-answered : (r : Reaction) (head : Head) (version : ℤ) (body : List ℕ) (s : Session) → without_wait (after_reaction r head version body s).stage ≡ without_wait s.stage
+pub stage-answered : (r : Reaction) (head : Head) (version : ℤ) (body : List ℕ) (s : Session) → without_wait (after_reaction r head s).stage ≡ without_wait s.stage
 stage-answered (Plain r) head version body s = stage-plainly r head version body s
 stage-answered Rebalances head version body s = stage-waiting (record { head = head; awaited = Group }) s.stage
 

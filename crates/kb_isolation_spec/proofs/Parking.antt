@@ -21,7 +21,8 @@ use Rattle.kb_tenant.specs.OffsetCommit.{asked_commit}
 use Rattle.kb_tenant.specs.CreateTopics.{checked_all, created_all, creations_in, made_of}
 use Rattle.kb_tenant.specs.DescribeConfigs.{configs_in, configs_of}
 use Rattle.kb_tenant.specs.Entries.{commit_entries, delete_groups_entries, describe_groups_entries, within}
-use Rattle.kb_tenant.specs.Fetch.{asked_code, asked_fetch, bounded, deadline_of, fetch_answer, places_of, fetched_in}
+use Rattle.kb_tenant.specs.FetchWait.{FetchWait}
+use Rattle.kb_tenant.specs.Fetch.{asked_fetch, bounded, deadline_of, fetch_answer, places_of, fetched_in}
 use Rattle.kb_tenant.specs.Produce.{produced, produced_in, is_due}
 use Rattle.kb_tenant.specs.Limits.{is_past}
 use Rattle.kb_tenant.specs.Metadata.{metadata_in, metadata_of}
@@ -42,48 +43,49 @@ abbrev pub told_as : ℤ → Option FetchReplyV5 → Reaction
 told_as version o = elim o [ Some reply ↦ Replies (fetched_in version reply) | None ↦ Silent ]
 
 -- a request that is to wait would be told nothing at once, and waits for what it asks for
-pub record IsParked (version : ℤ) (body : List ℕ) (clock : ℕ) (v : World) (deadline : ℕ) (limit : Option ℕ) (places : List TopicPartition) : Type 0 where
-  pub silent : looked v clock deadline version limit body ≡ Silent
-  pub asks : places ≡ asked_in v (asked_fetch version body)
+pub record IsParked (clock : ℕ) (v : World) (deadline : ℕ) (fetch : FetchWait) (places : List TopicPartition) : Type 0 where
+  pub silent : looked v clock deadline fetch.version fetch.limit fetch.body ≡ Silent
+  pub asks : places ≡ asked_in v (asked_fetch fetch.version fetch.body)
 
-abbrev ParksPlain : ℤ → List ℕ → ℕ → tenant.Outcome → Type 0
-ParksPlain version body clock o = (deadline : ℕ) (limit : Option ℕ) (places : List TopicPartition) → o.reaction ≡ Waits deadline limit places → IsParked version body clock o.world deadline limit places
+abbrev ParksPlain : ℕ → tenant.Outcome → Type 0
+ParksPlain clock o = (deadline : ℕ) (fetch : FetchWait) (places : List TopicPartition) → o.reaction ≡ Waits deadline fetch places → IsParked clock o.world deadline fetch places
 
-produce-parks : (version : ℤ) (body : List ℕ) (clock : ℕ) (v : World) (touched : List TopicPartition) (reply : List ℕ) (b : Bool) → ParksPlain version body clock (record { world = v; touched = touched; reaction = cond b (Replies reply) Silent })
+produce-parks : (version : ℤ) (body : List ℕ) (clock : ℕ) (v : World) (touched : List TopicPartition) (reply : List ℕ) (b : Bool) → ParksPlain clock (record { world = v; touched = touched; reaction = cond b (Replies reply) Silent })
 produce-parks version body clock v touched reply true deadline limit places e = absurd (cc)
 produce-parks version body clock v touched reply false deadline limit places e = absurd (cc)
 
-plain-either : (version : ℤ) (body : List ℕ) (clock : ℕ) (b : Bool) (o p : tenant.Outcome) → ParksPlain version body clock o → ParksPlain version body clock p → ParksPlain version body clock (if b then o else p)
+plain-either : (version : ℤ) (body : List ℕ) (clock : ℕ) (b : Bool) (o p : tenant.Outcome) → ParksPlain clock o → ParksPlain clock p → ParksPlain clock (if b then o else p)
 plain-either version body clock true o p first second = first
 plain-either version body clock false o p first second = second
 
-fetch-parks : (w : World) (clock : ℕ) (version : ℤ) (body : List ℕ) (own : Option ℕ) (r : FetchRequest) → asked_fetch version body ≡ Ok r → ParksPlain version body clock (of_fetch version (asked_code version body) own w clock r)
+fetch-parks : (w : World) (clock : ℕ) (version : ℤ) (body : List ℕ) (own : Option ℕ) (r : FetchRequest) → asked_fetch version body ≡ Ok r → ParksPlain clock (of_fetch version body own w clock r)
 unfolding looked
 fetch-parks w clock version body own r read = by (fetch_answer w clock (bounded own r) (deadline_of clock r)) refl
   where
-    by : (o : Option FetchReplyV5) → fetch_answer w clock (bounded own r) (deadline_of clock r) ≡ o → ParksPlain version body clock (stays w (fetch_reaction version (asked_code version body) own w clock (bounded own r) o))
+    by : (o : Option FetchReplyV5) → fetch_answer w clock (bounded own r) (deadline_of clock r) ≡ o → ParksPlain clock (stays w (fetch_reaction version body own w clock (bounded own r) o))
     by (Some reply) e deadline limit places f = absurd (cc)
     by None e deadline limit places f =
         let until : deadline_of clock r ≡ deadline = cc in
-        let kept : own ≡ limit = cc in
+        let asked : FetchWait = record { version = version; body = body; limit = own } in
+        let kept : asked ≡ limit = cc in
         let same : places_of w r ≡ places = cc in
         record {
-          silent = subst (λ (l : Option ℕ). looked w clock deadline version l body ≡ Silent) kept
+          silent = subst (λ (l : FetchWait). looked w clock deadline l.version l.limit l.body ≡ Silent) kept
               (ap (looked_at w clock deadline version own) read ∙ ap (told_as version) (subst (λ d. fetch_answer w clock (bounded own r) d ≡ None) until e));
-          asks = sym same ∙ sym (ap (asked_in w) read);
+          asks = subst (λ (l : FetchWait). places ≡ asked_in w (asked_fetch l.version l.body)) kept (sym same ∙ sym (ap (asked_in w) read));
         }
 
 -- a reply that is sent where it is not too long
-short-parks : (version : ℤ) (body : List ℕ) (clock : ℕ) (w : World) (limit : Option ℕ) (reply : List ℕ) → ParksPlain version body clock (stays w (replies_within limit reply))
+short-parks : (version : ℤ) (body : List ℕ) (clock : ℕ) (w : World) (limit : Option ℕ) (reply : List ℕ) → ParksPlain clock (stays w (replies_within limit reply))
 short-parks version body clock w limit reply = by (is_past limit (reply_size reply))
   where
-    by : (b : Bool) → ParksPlain version body clock (stays w (if b then Shuts else Replies reply))
+    by : (b : Bool) → ParksPlain clock (stays w (if b then Shuts else Replies reply))
     by true deadline limit places e = absurd (cc)
     by false deadline limit places e = absurd (cc)
 
-plain-parks : (node : Node) (w : World) (clock n : ℕ) (key version : ℤ) (body : List ℕ) → ParksPlain version body clock (tenant.plainly_served node w clock n key version body)
+plain-parks : (node : Node) (w : World) (clock n : ℕ) (key version : ℤ) (body : List ℕ) → ParksPlain clock (tenant.plainly_served node w clock n key version body)
 plain-parks node w clock n key version body =
-    by_request (ParksPlain version body clock) node w clock n key version body (record {
+    by_request (ParksPlain clock) node w clock n key version body (record {
       produce = λ r read. produce-parks version body clock (produced node.limits.bytes w [] r).0.world (produced node.limits.bytes w [] r).0.touched (produced_in version (produced node.limits.bytes w [] r).1) (is_due r.acks);
       fetch = λ r read. fetch-parks w clock version body node.limits.fetch_bytes r read;
       list_offsets = λ r read deadline limit places e. absurd (cc);
@@ -104,39 +106,39 @@ plain-parks node w clock n key version body =
 
 -- 2. Any request
 
-abbrev pub Parks : ℤ → List ℕ → ℕ → Outcome → Type 0
-Parks version body clock o = (deadline : ℕ) (limit : Option ℕ) (places : List TopicPartition) → o.reaction ≡ Plain (Waits deadline limit places) → IsParked version body clock o.world deadline limit places
+abbrev pub Parks : ℕ → Outcome → Type 0
+Parks clock o = (deadline : ℕ) (fetch : FetchWait) (places : List TopicPartition) → o.reaction ≡ Plain (Waits deadline fetch places) → IsParked clock o.world deadline fetch places
 
-read-parks : {A : Type 0} (version : ℤ) (body : List ℕ) (clock : ℕ) (w : World) (gs : Groups) (r : Result A WireFault) (f : A → Outcome) → ((a : A) → Parks version body clock (f a)) → Parks version body clock (if_read w gs r f)
+read-parks : {A : Type 0} (version : ℤ) (body : List ℕ) (clock : ℕ) (w : World) (gs : Groups) (r : Result A WireFault) (f : A → Outcome) → ((a : A) → Parks clock (f a)) → Parks clock (if_read w gs r f)
 read-parks version body clock w gs (Ok a) f each = each a
 read-parks version body clock w gs (Err fault) f each = λ deadline limit places e. absurd (cc)
 
-either : (version : ℤ) (body : List ℕ) (clock : ℕ) (b : Bool) (o p : Outcome) → Parks version body clock o → Parks version body clock p → Parks version body clock (if b then o else p)
+either : (version : ℤ) (body : List ℕ) (clock : ℕ) (b : Bool) (o p : Outcome) → Parks clock o → Parks clock p → Parks clock (if b then o else p)
 either version body clock true o p first second = first
 either version body clock false o p first second = second
 
-join-parks : (version : ℤ) (body : List ℕ) (clock : ℕ) (w : World) (gs : Groups) (b : Bool) (reply : List ℕ) → Parks version body clock (of_groups w gs (if b then Rebalances else replies reply))
+join-parks : (version : ℤ) (body : List ℕ) (clock : ℕ) (w : World) (gs : Groups) (b : Bool) (reply : List ℕ) → Parks clock (of_groups w gs (if b then Rebalances else replies reply))
 join-parks version body clock w gs true reply deadline limit places e = absurd (cc)
 join-parks version body clock w gs false reply deadline limit places e = absurd (cc)
 
-sync-parks : (version : ℤ) (body : List ℕ) (clock : ℕ) (w : World) (gs : Groups) (a : SyncAnswer) → Parks version body clock (of_groups w gs (sync_reaction a))
+sync-parks : (version : ℤ) (body : List ℕ) (clock : ℕ) (w : World) (gs : Groups) (a : SyncAnswer) → Parks clock (of_groups w gs (sync_reaction a))
 sync-parks version body clock w gs (sync.Refused code) deadline limit places e = absurd (cc)
 sync-parks version body clock w gs (sync.Got assignment) deadline limit places e = absurd (cc)
 sync-parks version body clock w gs sync.Waits deadline limit places e = absurd (cc)
 
 -- a reply to a tool
-tool-parks : (version : ℤ) (body : List ℕ) (clock : ℕ) (w : World) (gs : Groups) (limit : Option ℕ) (reply : List ℕ) → Parks version body clock (of_groups w gs (short_replies limit reply))
+tool-parks : (version : ℤ) (body : List ℕ) (clock : ℕ) (w : World) (gs : Groups) (limit : Option ℕ) (reply : List ℕ) → Parks clock (of_groups w gs (short_replies limit reply))
 tool-parks version body clock w gs limit reply = by (is_past limit (reply_size reply))
   where
-    by : (b : Bool) → Parks version body clock (of_groups w gs (Plain (if b then Shuts else Replies reply)))
+    by : (b : Bool) → Parks clock (of_groups w gs (Plain (if b then Shuts else Replies reply)))
     by true deadline limit places e = absurd (cc)
     by false deadline limit places e = absurd (cc)
 
 -- one that is for no group
-topics-parks : (node : Node) (w : World) (clock : ℕ) (gs : Groups) (n : ℕ) (key version : ℤ) (body : List ℕ) → Parks version body clock (of_topics gs (tenant.plainly_served node w clock n key version body))
+topics-parks : (node : Node) (w : World) (clock : ℕ) (gs : Groups) (n : ℕ) (key version : ℤ) (body : List ℕ) → Parks clock (of_topics gs (tenant.plainly_served node w clock n key version body))
 topics-parks node w clock gs n key version body deadline limit places e = (let f : (tenant.plainly_served node w clock n key version body).reaction ≡ Waits deadline limit places = cc in plain-parks node w clock n key version body deadline limit places f)
 
-pub parks : (node : Node) (w : World) (clock : ℕ) (gs : Groups) (n : ℕ) (key version : ℤ) (body : List ℕ) → Parks version body clock (served node w clock gs n key version body)
+pub parks : (node : Node) (w : World) (clock : ℕ) (gs : Groups) (n : ℕ) (key version : ℤ) (body : List ℕ) → Parks clock (served node w clock gs n key version body)
 unfolding served
 parks node w clock gs n key version body =
     let others : Outcome = of_topics gs (tenant.plainly_served node w clock n key version body) in

@@ -13,6 +13,7 @@ use Rattle.kb_groups.specs.declared.reply.Release.{Release}
 use Rattle.kb_tenant_state.specs.World.{World}
 use Rattle.kb_tenant_state.specs.declared.topic_partition.TopicPartition.{TopicPartition}
 use Rattle.kb_tenant.specs.Fetch.{asked_fetch, bounded, fetch_answer, places_of}
+use Rattle.kb_tenant.specs.FetchWait.{FetchWait}
 use Rattle.kb_tenant.specs.Replies.{Replies, Waits, Silent, Shuts}
 use Rattle.kb_tenant.specs.Serve.{looked, looked_at}
 use Rattle.kb_tenant_api.specs.Hosted as hosted
@@ -138,10 +139,10 @@ asked-group k head = refl
 -- 3. The one that begins to wait
 
 -- the partitions that a fetch begins to wait for are those that it asks for
-pub asked-parks : (node : Node) (k : Kept) (clock n : ℕ) (key version : ℤ) (body : List ℕ) (deadline : ℕ) (limit : Option ℕ) (places : List TopicPartition) (head : Head) → reaction_to node k clock n key version body ≡ Plain (Waits deadline limit places) →
-    places ≡ asked (kept_after node k clock n key version body) (record { head = head; awaited = Records version body deadline limit })
+pub asked-parks : (node : Node) (k : Kept) (clock n : ℕ) (key version : ℤ) (body : List ℕ) (deadline : ℕ) (fetch : FetchWait) (places : List TopicPartition) (head : Head) → reaction_to node k clock n key version body ≡ Plain (Waits deadline fetch places) →
+    places ≡ asked (kept_after node k clock n key version body) (record { head = head; awaited = Records fetch.version fetch.body deadline fetch.limit })
 unfolding reaction_to kept_after asked
-asked-parks node k clock n key version body deadline limit places head e = (parks node k.world clock k.groups n key version body deadline limit places e).asks
+asked-parks node k clock n key version body deadline fetch places head e = (parks node k.world clock k.groups n key version body deadline fetch places e).asks
 
 -- what waits at that stage, on the connection of number n, is not ready
 abbrev pub IsIdle : ℕ → Kept → ℕ → Stage → Type 0
@@ -159,9 +160,9 @@ unfolding ready
 group-silent clock kept n head none = told-nothing n kept.groups none
 
 answered-idle : (clock : ℕ) (kept : Kept) (n : ℕ) (r : Reaction) (head : Head) (version : ℤ) (body : List ℕ) (s : Session) → is_free s.stage ≡ true → has_released kept.groups ≡ false
-    → ((deadline : ℕ) (limit : Option ℕ) (places : List TopicPartition) → r ≡ Plain (Waits deadline limit places) → ready kept clock n (record { head = head; awaited = Records version body deadline limit }) ≡ Silent) → IsIdle clock kept n (after_reaction r head version body s).stage
+    → ((deadline : ℕ) (fetch : FetchWait) (places : List TopicPartition) → r ≡ Plain (Waits deadline fetch places) → ready kept clock n (record { head = head; awaited = Records fetch.version fetch.body deadline fetch.limit }) ≡ Silent) → IsIdle clock kept n (after_reaction r head s).stage
 answered-idle clock kept n (Plain (Replies reply)) head version body s free none silent = free-idle clock kept n _ (free-replied head reply s free)
-answered-idle clock kept n (Plain (Waits deadline limit places)) head version body s free none silent = waiting-idle clock kept n (record { head = head; awaited = Records version body deadline limit }) s.stage (silent deadline limit places refl)
+answered-idle clock kept n (Plain (Waits deadline fetch places)) head version body s free none silent = waiting-idle clock kept n (record { head = head; awaited = Records fetch.version fetch.body deadline fetch.limit }) s.stage (silent deadline fetch places refl)
 answered-idle clock kept n (Plain Silent) head version body s free none silent = free-idle clock kept n s.stage free
 answered-idle clock kept n (Plain Shuts) head version body s free none silent = free-idle clock kept n _ (free-without s.stage)
 answered-idle clock kept n Rebalances head version body s free none silent = waiting-idle clock kept n (record { head = head; awaited = Group }) s.stage (group-silent clock kept n head none)

@@ -70,13 +70,13 @@ limit-greeted setup h s = by (in_front s)
     by TooLarge = refl
     by Partial = refl
 
-limit-plainly : (r : tenant.Reaction) (head : Head) (version : ℤ) (body : List ℕ) (s : Session) → (plainly r head version body s).limit ≡ s.limit
+limit-plainly : (r : tenant.Reaction) (head : Head) (version : ℤ) (body : List ℕ) (s : Session) → (plainly r head s).limit ≡ s.limit
 limit-plainly (Replies reply) head version body s = limit-replied head reply s
 limit-plainly (Waits deadline limit places) head version body s = refl
 limit-plainly Silent head version body s = refl
 limit-plainly Shuts head version body s = refl
 
-limit-answered : (r : Reaction) (head : Head) (version : ℤ) (body : List ℕ) (s : Session) → (after_reaction r head version body s).limit ≡ s.limit
+limit-answered : (r : Reaction) (head : Head) (version : ℤ) (body : List ℕ) (s : Session) → (after_reaction r head s).limit ≡ s.limit
 limit-answered (Plain r) head version body s = limit-plainly r head version body s
 limit-answered Rebalances head version body s = refl
 

@@ -8,6 +8,7 @@ use Rattle.kb_tenant_api.specs.Hosted as hosted
 use Rattle.kb_tenant_api.specs.Hosted.{Kept, TenantState}
 use Rattle.kb_tenant_api.specs.Turns.{IsTurn}
 use Rattle.kb_tenant.specs.Fetch.{asked_fetch, bounded, fetch_answer, fetched_in}
+use Rattle.kb_tenant.specs.FetchWait.{FetchWait}
 use Rattle.kb_tenant.specs.Serve.{looked, looked_at}
 use Rattle.kb_wire.specs.declared.fault.WireFault.{WireFault}
 use Rattle.kb_api_data.specs.declared.fetch.FetchRequest.{FetchRequest}
@@ -159,7 +160,7 @@ waked-line whom b i u l m w H ts s at g concerned n same turn honest stays meets
 -- 4. What was looked at is not ready
 
 -- a look never comes to a wait
-never-waits : (kept : Kept) (clock n : ℕ) (w : Wait) (deadline : ℕ) (limit : Option ℕ) (places : List TopicPartition) → ready kept clock n w ≡ Waits deadline limit places → ⊥
+never-waits : (kept : Kept) (clock n : ℕ) (w : Wait) (deadline : ℕ) (limit : FetchWait) (places : List TopicPartition) → ready kept clock n w ≡ Waits deadline limit places → ⊥
 unfolding ready looked
 never-waits kept clock n w deadline limit places e = for w.awaited e
   where

@@ -37,18 +37,18 @@ pub data Happening : Type 0 where
 
 -- 1. Requests of a bound connection
 
--- what a request of that version and body comes to that waits for no group
-abbrev pub plainly : tenant.Reaction → Head → ℤ → List ℕ → Session → Session
-plainly (Replies reply) head version body s = replied head reply s
-plainly (Waits deadline limit places) head version body s =
-    record s { stage = waiting (record { head = head; awaited = Records version body deadline limit }) s.stage }
-plainly Silent head version body s = s
-plainly Shuts head version body s = shut_down (unanswerable head) s
+-- what a request of that head comes to that waits for no group
+abbrev pub plainly : tenant.Reaction → Head → Session → Session
+plainly (Replies reply) head s = replied head reply s
+plainly (Waits deadline fetch places) head s =
+    record s { stage = waiting (record { head = head; awaited = Records fetch.version fetch.body deadline fetch.limit }) s.stage }
+plainly Silent head s = s
+plainly Shuts head s = shut_down (unanswerable head) s
 
--- what a request of that version and body comes to
-abbrev pub after_reaction : Reaction → Head → ℤ → List ℕ → Session → Session
-after_reaction (Plain reaction) head version body s = plainly reaction head version body s
-after_reaction Rebalances head version body s = record s { stage = waiting (record { head = head; awaited = Group }) s.stage }
+-- what a request of that head comes to
+abbrev pub after_reaction : Reaction → Head → Session → Session
+after_reaction (Plain reaction) head s = plainly reaction head s
+after_reaction Rebalances head s = record s { stage = waiting (record { head = head; awaited = Group }) s.stage }
 
 -- what a request of a bound connection, of number n, does to it; s is the connection without the request
 unfoldable pub served_by : Setup → Kept → ℕ → ℕ → Head → Asked → Session → Session
@@ -57,7 +57,7 @@ served_by setup kept clock n head OtherVersions s = replied head (versions_reply
 served_by setup kept clock n head (Handshake version mechanism) s = replied head (handshake_reply errors.IllegalSaslState) s
 served_by setup kept clock n head (Authenticate message) s = replied head illegal_state s
 served_by setup kept clock n head (Another key version body) s =
-    after_reaction (reaction_to setup.node kept clock n key version body) head version body s
+    after_reaction (reaction_to setup.node kept clock n key version body) head s
 served_by setup kept clock n head Malformed s = shut_down (unserved setup.versions head) s
 
 abbrev pub served_at : Setup → Kept → ℕ → ℕ → Session → Front → Session
@@ -94,7 +94,7 @@ kept_by_turn setup kept clock n front = kept_at setup kept clock n front
 -- what a waiting request comes to: a reply ends the wait
 abbrev pub told : tenant.Reaction → Head → Session → Session
 told (Replies reply) head s = replied head reply (record s { stage = without_wait s.stage })
-told (Waits deadline limit places) head s = s
+told (Waits deadline fetch places) head s = s
 told Silent head s = s
 told Shuts head s = shut_down (unanswerable head) s
 

@@ -157,9 +157,9 @@ as-asked version w limit r bytes h = record { reply = h.reply; spelled = h.spell
 
 -- ---- at once, and after a wait
 
-reaction-holds : (version code : ℤ) (limit : Option ℕ) (w : World) (clock : ℕ) (r : FetchRequest) (bytes : List ℕ) (answer : Option FetchReplyV5) → Spelled version code w r → fetch_answer w clock r (deadline_of clock r) ≡ answer → fetch_reaction version code limit w clock r answer ≡ Replies bytes → HoldsBatches version w r bytes
-reaction-holds version code limit w clock r bytes None spelled e is = absurd (cc)
-reaction-holds version code limit w clock r bytes (Some reply) spelled e is = written-holds version code w clock r (deadline_of clock r) reply bytes spelled e (sym (replied-is is))
+reaction-holds : (version : ℤ) (body : List ℕ) (limit : Option ℕ) (w : World) (clock : ℕ) (r : FetchRequest) (bytes : List ℕ) (answer : Option FetchReplyV5) → Spelled version (asked_code version body) w r → fetch_answer w clock r (deadline_of clock r) ≡ answer → fetch_reaction version body limit w clock r answer ≡ Replies bytes → HoldsBatches version w r bytes
+reaction-holds version body limit w clock r bytes None spelled e is = absurd (cc)
+reaction-holds version body limit w clock r bytes (Some reply) spelled e is = written-holds version (asked_code version body) w clock r (deadline_of clock r) reply bytes spelled e (sym (replied-is is))
   where
     replied-is : {x y : List ℕ} → Replies x ≡ Replies y → x ≡ y
     replied-is h = cc
@@ -167,13 +167,13 @@ reaction-holds version code limit w clock r bytes (Some reply) spelled e is = wr
 pub served-holds : (node : Node) (w : World) (clock n : ℕ) (version : ℤ) (body bytes : List ℕ) (r : FetchRequest) → HasSmallLogs w → asked_fetch version body ≡ Ok r → (plainly_served node w clock n FETCH version body).reaction ≡ Replies bytes → HoldsBatches version w r bytes
 unfolding plainly_served
 served-holds node w clock n version body bytes r small read replies =
-    by (is_past node.limits.request_entries (fetch_entries r)) (sym (ap (λ x. (if_read w (within_limit node.limits.request_entries fetch_entries x) (of_fetch version (asked_code version body) node.limits.fetch_bytes w clock)).reaction) read) ∙ replies)
+    by (is_past node.limits.request_entries (fetch_entries r)) (sym (ap (λ x. (if_read w (within_limit node.limits.request_entries fetch_entries x) (of_fetch version body node.limits.fetch_bytes w clock)).reaction) read) ∙ replies)
   where
-    by : (b : Bool) → (if_read w (if b then Err faults.Bad else Ok r) (of_fetch version (asked_code version body) node.limits.fetch_bytes w clock)).reaction ≡ Replies bytes → HoldsBatches version w r bytes
+    by : (b : Bool) → (if_read w (if b then Err faults.Bad else Ok r) (of_fetch version body node.limits.fetch_bytes w clock)).reaction ≡ Replies bytes → HoldsBatches version w r bytes
     by true is = absurd cc
     by false is = let q = bounded node.limits.fetch_bytes r in
         as-asked version w node.limits.fetch_bytes r bytes
-        (reaction-holds version (asked_code version body) node.limits.fetch_bytes w clock q bytes (fetch_answer w clock q (deadline_of clock q)) (reply_spelled w version (asked_code version body) node.limits.fetch_bytes body r small read) refl is)
+        (reaction-holds version body node.limits.fetch_bytes w clock q bytes (fetch_answer w clock q (deadline_of clock q)) (reply_spelled w version (asked_code version body) node.limits.fetch_bytes body r small read) refl is)
 
 look-holds : (version : ℤ) (w : World) (clock deadline : ℕ) (r : FetchRequest) (bytes : List ℕ) (answer : Option FetchReplyV5) → Spelled version (pos 0) w r → fetch_answer w clock r deadline ≡ answer → (elim answer [ Some reply ↦ Replies (fetched_in version reply) | None ↦ Silent ]) ≡ Replies bytes → HoldsBatches version w r bytes
 look-holds version w clock deadline r bytes None spelled e is = absurd (cc)

@@ -26,7 +26,7 @@ use Rattle.kb_tenant.specs.DescribeConfigs.{asked_configs}
 use Rattle.kb_tenant.specs.Entries.{describe_configs_entries}
 use Rattle.kb_tenant.specs.Entries.{commit_entries, create_topics_entries, delete_records_entries, delete_topics_entries, fetch_entries}
 use Rattle.kb_tenant.specs.Entries.{list_offsets_entries, metadata_entries, offset_fetch_entries, produce_entries, within}
-use Rattle.kb_tenant.specs.Fetch.{asked_code, asked_fetch}
+use Rattle.kb_tenant.specs.Fetch.{asked_fetch}
 use Rattle.kb_tenant.specs.FindCoordinator.{asked_coordinator}
 use Rattle.kb_tenant.specs.Limits.{is_past}
 use Rattle.kb_tenant.specs.ListOffsets.{asked_listing}
@@ -41,7 +41,7 @@ use Rattle.kb_tenant.specs.declared.node.Node.{Node}
 -- It holds of what each API's request comes to, where the body is one, and of a connection that is shut.
 pub record Cases (P : Outcome → Type 0) (node : Node) (w : World) (clock : ℕ) (version : ℤ) (body : List ℕ) : Type 0 where
   pub produce : (r : ProduceRequest) → whole produce_request body ≡ Ok r → P (of_produce version node.limits.bytes w r)
-  pub fetch : (r : FetchRequest) → asked_fetch version body ≡ Ok r → P (of_fetch version (asked_code version body) node.limits.fetch_bytes w clock r)
+  pub fetch : (r : FetchRequest) → asked_fetch version body ≡ Ok r → P (of_fetch version body node.limits.fetch_bytes w clock r)
   pub list_offsets : (r : ListOffsetsRequest) → asked_listing version body ≡ Ok r → P (of_list_offsets version w r)
   pub metadata : (r : MetadataRequest) → asked_metadata version body ≡ Ok r → P (of_metadata node version w r)
   pub offset_commit : (r : OffsetCommitRequest) → asked_commit version body ≡ Ok r → P (of_offset_commit node.limits w r)
@@ -94,7 +94,7 @@ by_request P node w clock n key version body c =
     let commits : Outcome = if_read w (within limit commit_entries (asked_commit version body)) (of_offset_commit node.limits w) in
     let tells : Outcome = if_read w (within limit metadata_entries (asked_metadata version body)) (of_metadata node version w) in
     let lists : Outcome = if_read w (within limit list_offsets_entries (asked_listing version body)) (of_list_offsets version w) in
-    let fetches : Outcome = if_read w (within limit fetch_entries (asked_fetch version body)) (of_fetch version (asked_code version body) node.limits.fetch_bytes w clock) in
+    let fetches : Outcome = if_read w (within limit fetch_entries (asked_fetch version body)) (of_fetch version body node.limits.fetch_bytes w clock) in
     let produces : Outcome = if_read w (within limit produce_entries (whole produce_request body)) (of_produce version node.limits.bytes w) in
     let from_configs : Outcome = if int_eq key DESCRIBE_CONFIGS then configs else shut in
     let from_inits : Outcome = if int_eq key INIT_PRODUCER_ID then inits else from_configs in
@@ -108,7 +108,7 @@ by_request P node w clock n key version body c =
     let from_lists : Outcome = if int_eq key LIST_OFFSETS then lists else from_tells in
     let from_fetches : Outcome = if int_eq key FETCH then fetches else from_lists in
     either P (int_eq key PRODUCE) produces from_fetches (read_within P w limit produce_entries (whole produce_request body) (of_produce version node.limits.bytes w) c.produce c.shut)
-    (either P (int_eq key FETCH) fetches from_lists (read_within P w limit fetch_entries (asked_fetch version body) (of_fetch version (asked_code version body) node.limits.fetch_bytes w clock) c.fetch c.shut)
+    (either P (int_eq key FETCH) fetches from_lists (read_within P w limit fetch_entries (asked_fetch version body) (of_fetch version body node.limits.fetch_bytes w clock) c.fetch c.shut)
     (either P (int_eq key LIST_OFFSETS) lists from_tells (read_within P w limit list_offsets_entries (asked_listing version body) (of_list_offsets version w) c.list_offsets c.shut)
     (either P (int_eq key METADATA) tells from_commits (read_within P w limit metadata_entries (asked_metadata version body) (of_metadata node version w) c.metadata c.shut)
     (either P (int_eq key OFFSET_COMMIT) commits from_asks (read_within P w limit commit_entries (asked_commit version body) (of_offset_commit node.limits w) c.offset_commit c.shut)

@@ -23,6 +23,7 @@ use Rattle.kb_tenant_state.specs.declared.topic_partition.TopicPartition.{TopicP
 use Rattle.kb_tenant.specs.Counted.{limits_of, answered_at, begun, fetched_at, has_enough, refused, AreFetchesTold, IsFetchTold, IsFetchTopicTold, IsReadOr, IsUnread}
 use Rattle.kb_tenant.specs.Fetch.{bounds_of, deadline_of, fetched_as, front_of, has_starts, session_front}
 use Rattle.kb_tenant.specs.Fetch.{partition_written, places_of, reply_written, topic_written}
+use Rattle.kb_tenant.specs.FetchWait.{FetchWait}
 use Rattle.kb_tenant.specs.Replies.{begun as reply_begun, IsAnswer, Replies}
 use Rattle.kb_tenant.specs.Told.{HasFailed, IsFetchMade, IsFetchReady, IsFetchReplied}
 use Rattle.kb_tenant.specs.Told.{IsLeftWaiting, IsRepliedOrWaits, IsUnready, TellsFetch}
@@ -257,19 +258,19 @@ made_wait failed w v clock q d places done Also not until there stays told = (
 )
 
 -- its reply behind what was begun
-pub fetch_replied : (failed : Type 0) (id version code : ℤ) (limit : Option ℕ) (starts : Bool) (w : World) (clock : ℕ) (asked q : FetchRequest) (old new : List ℕ)
+pub fetch_replied : (failed : Type 0) (id version code : ℤ) (fetch : FetchWait) (starts : Bool) (w : World) (clock : ℕ) (asked q : FetchRequest) (old new : List ℕ)
     (answer : Answer) → starts ≡ has_starts version → old ≡ reply_begun id ++ session_front version code → asked ≡ q
     → IsFetchMade failed starts w clock asked old fetching.Reply new
     → ((id : ℤ) (body : List ℕ) → new ≡ reply_begun id ++ body → IsAnswer id (Replies body) answer)
-    → IsFetchReplied failed id version code limit w clock q answer
-fetch_replied failed id version code limit starts w clock asked q old new answer same from one told made =
+    → IsFetchReplied failed id version code fetch w clock q answer
+fetch_replied failed id version code fetch starts w clock asked q old new answer same from one told made =
     by answer (look_replied failed ⊥ id version code starts w clock (deadline_of clock q) q q old new true answer same from refl refl
     (ready.0, (ready.1.0, λ over. ready.1.1)) made)
   where
     ready : IsFetchMade failed starts w clock q old fetching.Reply new
     ready = subst (λ r. IsFetchMade failed starts w clock r old fetching.Reply new) one told
 
-    by : (x : Answer) → IsRepliedOrWaits id (TellsFetch failed version code w clock (deadline_of clock q) q) ⊥ x → IsFetchReplied failed id version code limit w clock q x
+    by : (x : Answer) → IsRepliedOrWaits id (TellsFetch failed version code w clock (deadline_of clock q) q) ⊥ x → IsFetchReplied failed id version code fetch w clock q x
     by (answers.Reply bytes) h = h
     by (answers.Wait until kept keys) h = absurd h
     by answers.NoReply h = absurd h

@@ -13,7 +13,8 @@ use Rattle.kb_api_data.specs.declared.fetch.FetchRequest.{FetchRequest}
 use Rattle.kb_tenant_state.specs.declared.topic_partition.TopicPartition.{TopicPartition}
 use Rattle.kb_tenant.specs.DescribeConfigs.{asked_configs}
 use Rattle.kb_tenant.specs.Entries.{describe_configs_entries, metadata_entries, offset_fetch_entries, within}
-use Rattle.kb_tenant.specs.Fetch.{fetched_as, fetched_in, has_starts, look_written, reply_written, session_front, IsServed}
+use Rattle.kb_tenant.specs.Fetch.{asked_code, fetched_as, fetched_in, has_starts, look_written, reply_written, session_front, IsServed}
+use Rattle.kb_tenant.specs.FetchWait.{FetchWait}
 use Rattle.kb_tenant.specs.FindCoordinator.{asked_coordinator}
 use Rattle.kb_tenant.specs.Metadata.{asked_metadata}
 use Rattle.kb_tenant.specs.OffsetFetch.{asked_offsets}
@@ -57,19 +58,22 @@ made_outcome limits id version w v r answer is world told =
     subst (λ b. IsOutcome id (if b then stays w (Replies (creations_in version (checked_all limits w r.topics))) else made) v [] answer) (sym is) (world, refl, told)
 
 -- a fetch that waits is a wait
-pub waits : (id version code : ℤ) (limit : Option ℕ) (starts : Bool) (w : World) (clock : ℕ) (r : FetchRequest) (o : Option FetchReplyV5) (old new : List ℕ) (deadline : ℕ) (keys : Vec TopicPartition Global)
-    → IsServed starts w clock r o old (fetching.Wait deadline keys) new → IsAnswer id (fetch_reaction version code limit w clock r o) (answers.Wait deadline limit keys)
-waits id version code limit starts w clock r (Some reply) old new deadline keys h = h
-waits id version code limit starts w clock r None old new deadline keys h = (h.0, refl, h.1)
+pub waits : (id version : ℤ) (body : List ℕ) (limit : Option ℕ) (starts : Bool) (w : World) (clock : ℕ) (r : FetchRequest) (o : Option FetchReplyV5) (old new : List ℕ) (deadline : ℕ) (fetch : FetchWait) (keys : Vec TopicPartition Global)
+    → fetch ≡ record { version = version; body = body; limit = limit }
+    → IsServed starts w clock r o old (fetching.Wait deadline keys) new → IsAnswer id (fetch_reaction version body limit w clock r o) (answers.Wait deadline fetch keys)
+waits id version body limit starts w clock r (Some reply) old new deadline fetch keys is h = h
+waits id version body limit starts w clock r None old new deadline fetch keys is h = (h.0, is, h.1)
 
 -- a fetch that is answered is a reply
-pub replied : (id version code : ℤ) (limit : Option ℕ) (starts : Bool) (w : World) (clock : ℕ) (r : FetchRequest) (o : Option FetchReplyV5) (old new : List ℕ) (answer : Answer) → starts ≡ has_starts version → old ≡ begun id ++ session_front version code
-    → IsServed starts w clock r o old fetching.Reply new → ((id : ℤ) (body : List ℕ) → new ≡ begun id ++ body → IsAnswer id (Replies body) answer) → IsAnswer id (fetch_reaction version code limit w clock r o) answer
-replied id version code limit starts w clock r (Some reply) old new answer is from h made =
-    made id (fetched_as version code reply)
+pub replied : (id version code : ℤ) (body : List ℕ) (limit : Option ℕ) (starts : Bool) (w : World) (clock : ℕ) (r : FetchRequest) (o : Option FetchReplyV5) (old new : List ℕ) (answer : Answer) → starts ≡ has_starts version → asked_code version body ≡ code
+    → old ≡ begun id ++ session_front version code
+    → IsServed starts w clock r o old fetching.Reply new → ((id : ℤ) (body : List ℕ) → new ≡ begun id ++ body → IsAnswer id (Replies body) answer) → IsAnswer id (fetch_reaction version body limit w clock r o) answer
+replied id version code body limit starts w clock r (Some reply) old new answer is told from h made =
+    subst (λ z. IsAnswer id (Replies (fetched_as version z reply)) answer) (sym told)
+    (made id (fetched_as version code reply)
     (h ∙ ap (λ s. s ++ reply_written starts reply) from ∙ append_assoc (begun id) (session_front version code) (reply_written starts reply)
-    ∙ ap (λ b. begun id ++ (session_front version code ++ reply_written b reply)) is)
-replied id version code limit starts w clock r None old new answer is from h made = absurd h
+    ∙ ap (λ b. begun id ++ (session_front version code ++ reply_written b reply)) is))
+replied id version code body limit starts w clock r None old new answer is told from h made = absurd h
 
 -- so is one that waited
 pub woken : (id version : ℤ) (starts : Bool) (o : Option FetchReplyV5) (old new : List ℕ) (done : Bool) (answer : Answer) → starts ≡ has_starts version → old ≡ begun id ++ session_front version (pos 0) → done ≡ true

@@ -24,6 +24,7 @@ use Rattle.kb_api_data.specs.declared.fetch_v7.FetchRequestV7.{FetchRequestV7}
 use Rattle.kb_tenant.specs.declared.fetch.version.Asked.{Asked}
 use Rattle.kb_tenant.specs.Fetch.{asked_as, asked_fetch, asks, at_once, bounded, has_epochs, has_session, has_starts, in_session, is_full, lesser}
 use Rattle.kb_tenant.specs.Fetch.{plain, plain_partition, plain_partition_v9, plain_topic, plain_topic_v9}
+use Rattle.kb_tenant.specs.FetchWait.{FetchWait, AsksWithin}
 use Rattle.kb_tenant.proofs.Mapped.{all-map}
 
 partition_fits : (p : FetchPartitionV5) → fetch_partition_v5.Fits p → fetch_partition.Fits (plain_partition p)
@@ -269,3 +270,7 @@ bounded_in_range limit r range = (range.0, (range.1.0, (range.1.1.0, (lesser_in_
 -- a request that was read fits, and is in range, within a limit too
 pub bounded_so : (limit : Option ℕ) (version : ℤ) (body : List ℕ) (r : FetchRequest) → asked_fetch version body ≡ Ok r → fetch_request.Fits (bounded limit r) × fetch_request.InRange (bounded limit r)
 bounded_so limit version body r e = let is = read_so version body r e in (bounded_fits limit r is.0, bounded_in_range limit r is.1)
+
+-- what a fetch that waits is kept with fits
+pub asked_fits : (fetch : FetchWait) (r : FetchRequest) → AsksWithin fetch r → fetch_request.Fits r
+asked_fits fetch r is = subst fetch_request.Fits (sym is.1.1) (bounded_so fetch.limit fetch.version fetch.body is.0 is.1.0).0

@@ -8,6 +8,7 @@ pub mod DescribeConfigs
 pub mod Entries
 pub mod Epochs
 pub mod Fetch
+pub mod FetchWait
 pub mod FindCoordinator
 pub mod InitProducerId
 pub mod Limits

@@ -34,6 +34,7 @@ use Rattle.kb_tenant.specs.Entries.{commit_entries, create_topics_entries, delet
 use Rattle.kb_tenant.specs.Entries.{describe_configs_entries}
 use Rattle.kb_tenant.specs.Entries.{list_offsets_entries, metadata_entries, offset_fetch_entries, produce_entries, within}
 use Rattle.kb_tenant.specs.Fetch.{asked_code, asked_fetch, bounded, deadline_of, fetch_answer, places_of, fetched_as, fetched_in}
+use Rattle.kb_tenant.specs.FetchWait.{FetchWait}
 use Rattle.kb_tenant.specs.FindCoordinator.{asked_coordinator, coordinator_for, coordinator_in}
 use Rattle.kb_tenant.specs.InitProducerId.{init_producer_id}
 use Rattle.kb_tenant.specs.ListOffsets.{asked_listing, list_offsets, listing_in}
@@ -65,15 +66,17 @@ of_produce version limit w r =
     let p = produced limit w [] r in
     record { world = p.0.world; touched = p.0.touched; reaction = if is_due r.acks then Replies (produced_in version p.1) else Silent }
 
-abbrev pub fetch_reaction : (version code : ℤ) → Option ℕ → World → ℕ → FetchRequest → Option FetchReplyV5 → Reaction
-fetch_reaction version code limit w clock r (Some reply) = Replies (fetched_as version code reply)
-fetch_reaction version code limit w clock r None = Waits (deadline_of clock r) limit (places_of w r)
+-- what a fetch comes to whose body asks that within that limit, and is answered so, where it is
+abbrev pub fetch_reaction : ℤ → List ℕ → Option ℕ → World → ℕ → FetchRequest → Option FetchReplyV5 → Reaction
+fetch_reaction version body limit w clock r (Some reply) = Replies (fetched_as version (asked_code version body) reply)
+fetch_reaction version body limit w clock r None =
+    Waits (deadline_of clock r) (record { version = version; body = body; limit = limit }) (places_of w r)
 
 -- A fetch has at most so many bytes of records as its tenant's limit allows, also where it waits and is answered later.
-abbrev pub of_fetch : (version code : ℤ) → Option ℕ → World → ℕ → FetchRequest → Outcome
-of_fetch version code limit w clock asked =
+abbrev pub of_fetch : ℤ → List ℕ → Option ℕ → World → ℕ → FetchRequest → Outcome
+of_fetch version body limit w clock asked =
     let r = bounded limit asked in
-    stays w (fetch_reaction version code limit w clock r (fetch_answer w clock r (deadline_of clock r)))
+    stays w (fetch_reaction version body limit w clock r (fetch_answer w clock r (deadline_of clock r)))
 
 abbrev pub of_list_offsets : ℤ → World → ListOffsetsRequest → Outcome
 of_list_offsets version w r = stays w (Replies (listing_in version (list_offsets w r)))
@@ -126,7 +129,7 @@ plainly_served node w clock n key version body =
     let limit = node.limits.request_entries in
     if int_eq key PRODUCE then if_read w (within limit produce_entries (whole produce_request body)) (of_produce version node.limits.bytes w)
     else if int_eq key FETCH then if_read w (within limit fetch_entries (asked_fetch version body))
-    (of_fetch version (asked_code version body) node.limits.fetch_bytes w clock)
+    (of_fetch version body node.limits.fetch_bytes w clock)
     else if int_eq key LIST_OFFSETS then if_read w (within limit list_offsets_entries (asked_listing version body))
     (of_list_offsets version w)
     else if int_eq key METADATA then if_read w (within limit metadata_entries (asked_metadata version body)) (of_metadata node version w)

@@ -63,6 +63,7 @@ use Rattle.kb_tenant.specs.DeleteTopics.{deleted_topic, deletions_in}
 use Rattle.kb_tenant.specs.Entries.{commit_entries, create_topics_entries, delete_records_entries, delete_topics_entries, within}
 use Rattle.kb_tenant.specs.Fetch.{Limits, asked_code, asked_fetch, begun, bounded, deadline_of, fetch_answered, fetched_as, is_ready, places_of}
 use Rattle.kb_tenant.specs.Fetch.{refused, reply_written}
+use Rattle.kb_tenant.specs.FetchWait.{FetchWait}
 use Rattle.kb_tenant.specs.InitProducerId.{id_refused, init_producer_id}
 use Rattle.kb_tenant.specs.ListOffsets.{asked_listing, listed, listing_in, offset_refused}
 use Rattle.kb_tenant.specs.OffsetCommit.{asked_commit, committed_entry, refusal_of as commit_refusal}
@@ -191,7 +192,7 @@ Acknowledges failed limit id version w body v touched a =
 -- A produce after which the connection is shut has changed nothing, unless its reply is too long for the INT32 of its size.
 abbrev pub IsSpared : ℤ → World → List ℕ → World → Answer → Type 0
 IsSpared version w body v (answers.Reply bytes) = ⊤
-IsSpared version w body v (answers.Wait deadline limit keys) = ⊤
+IsSpared version w body v (answers.Wait deadline fetch keys) = ⊤
 IsSpared version w body v answers.NoReply = ⊤
 IsSpared version w body v answers.Shut = (v ≡ w)
     ⊎ ((r : ProduceRequest) × ((whole produce_request body ≡ Ok r) × (2 ^ 31 ≤ 4 + reply_length (tells_starts version) r)))
@@ -201,14 +202,14 @@ IsSpared version w body v answers.Shut = (v ≡ w)
 -- The answer is a reply whose body tells that, or the connection is shut.
 abbrev pub IsReplied : ℤ → (List ℕ → Type 0) → Answer → Type 0
 IsReplied id Told (answers.Reply bytes) = (body : List ℕ) × ((bytes.items ≡ framed id body) × Told body)
-IsReplied id Told (answers.Wait deadline limit keys) = ⊥
+IsReplied id Told (answers.Wait deadline fetch keys) = ⊥
 IsReplied id Told answers.NoReply = ⊥
 IsReplied id Told answers.Shut = ⊤
 
 -- The answer is a reply whose body tells that; or the connection is shut, and then something else is told.
 abbrev pub IsRepliedOrCut : ℤ → (List ℕ → Type 0) → Type 0 → Answer → Type 0
 IsRepliedOrCut id Told Cut (answers.Reply bytes) = (body : List ℕ) × ((bytes.items ≡ framed id body) × Told body)
-IsRepliedOrCut id Told Cut (answers.Wait deadline limit keys) = ⊥
+IsRepliedOrCut id Told Cut (answers.Wait deadline fetch keys) = ⊥
 IsRepliedOrCut id Told Cut answers.NoReply = ⊥
 IsRepliedOrCut id Told Cut answers.Shut = Cut
 
@@ -423,7 +424,7 @@ IsUnready failed w clock deadline q = (reply : FetchReplyV5) × IsFetchReady fai
 -- The answer to what waited is a reply whose body tells that; or none, where it still waits; or the connection is shut.
 abbrev pub IsRepliedOrWaits : ℤ → (List ℕ → Type 0) → Type 0 → Answer → Type 0
 IsRepliedOrWaits id Told Unready (answers.Reply bytes) = (body : List ℕ) × ((bytes.items ≡ framed id body) × Told body)
-IsRepliedOrWaits id Told Unready (answers.Wait deadline limit keys) = ⊥
+IsRepliedOrWaits id Told Unready (answers.Wait deadline fetch keys) = ⊥
 IsRepliedOrWaits id Told Unready answers.NoReply = Unready
 IsRepliedOrWaits id Told Unready answers.Shut = ⊤
 
@@ -443,16 +444,17 @@ IsFetchMade failed starts w clock q old fetching.Reply new =
     (reply : FetchReplyV5) × (IsFetchReady failed w clock (deadline_of clock q) q true reply × (new ≡ old ++ reply_written starts reply))
 IsFetchMade failed starts w clock q old (fetching.Wait until keys) new = IsLeftWaiting failed w clock q until keys.items
 
--- The answer to a Fetch is such a reply or such a wait, which keeps its limit, or the connection is shut.
-abbrev pub IsFetchReplied : Type 0 → (id version code : ℤ) → Option ℕ → World → ℕ → FetchRequest → Answer → Type 0
-IsFetchReplied failed id version code limit w clock q (answers.Reply bytes) =
+-- The answer to a Fetch is such a reply, or such a wait of this fetch, or the connection is shut.
+abbrev pub IsFetchReplied : Type 0 → (id version code : ℤ) → FetchWait → World → ℕ → FetchRequest → Answer → Type 0
+IsFetchReplied failed id version code fetch w clock q (answers.Reply bytes) =
     (body : List ℕ) × ((bytes.items ≡ framed id body) × TellsFetch failed version code w clock (deadline_of clock q) q body)
-IsFetchReplied failed id version code limit w clock q (answers.Wait until kept keys) =
-    (kept ≡ limit) × IsLeftWaiting failed w clock q until keys.items
-IsFetchReplied failed id version code limit w clock q answers.NoReply = ⊥
-IsFetchReplied failed id version code limit w clock q answers.Shut = ⊤
+IsFetchReplied failed id version code fetch w clock q (answers.Wait until kept keys) =
+    (kept ≡ fetch) × IsLeftWaiting failed w clock q until keys.items
+IsFetchReplied failed id version code fetch w clock q answers.NoReply = ⊥
+IsFetchReplied failed id version code fetch w clock q answers.Shut = ⊤
 
 -- The same of a body with that limit, where it is a request of Fetch in that version.
 abbrev pub AnswersFetch : Type 0 → ℤ → ℤ → Option ℕ → World → ℕ → List ℕ → Answer → Type 0
 AnswersFetch failed id version limit w clock body a = (q : FetchRequest) → asked_fetch version body ≡ Ok q
-    → IsFetchReplied failed id version (asked_code version body) limit w clock (bounded limit q) a
+    → IsFetchReplied failed id version (asked_code version body) (record { version = version; body = body; limit = limit }) w clock
+    (bounded limit q) a

@@ -3,6 +3,7 @@ ghost use Rattle.std.specs.Prelude.{◌≡◌, ◌≤◌, ◌<◌, ◌-◌, ◌^
 ghost use Rattle.std.specs.Int.{w32, to_be_bytes};
 ghost use Rattle.kb_tenant.specs.Replies.{begun, framed, most_bytes, replies_within, AreUntil, IsAnswer, Replies};
 
+use crate::fetch::WaitingFetch;
 use kb_tenant_state::TopicPartition;
 use kb_wire::Sink;
 use std::alloc::{AllocError, Global};
@@ -12,10 +13,10 @@ use std::alloc::{AllocError, Global};
 pub enum Answer {
     /// A reply, from its size to the end of its body.
     Reply(Vec<u8>),
-    /// A wait for one of these partitions, until the deadline at most. `limit` is how many bytes of records the reply then has.
+    /// A wait of a fetch for one of these partitions, until the deadline at most.
     Wait {
         deadline: u64,
-        limit: Option<u64>,
+        fetch: WaitingFetch,
         keys: Vec<TopicPartition>,
     },
     /// No reply.

@@ -16,7 +16,7 @@ ghost use Rattle.kb_tenant.specs.DescribeConfigs.{asked_configs};
 ghost use Rattle.kb_tenant.specs.Entries.{describe_configs_entries};
 ghost use Rattle.kb_tenant.specs.Entries.{create_topics_entries, delete_records_entries, delete_topics_entries, fetch_entries};
 ghost use Rattle.kb_tenant.specs.Entries.{list_offsets_entries, metadata_entries, produce_entries, within};
-ghost use Rattle.kb_tenant.specs.Fetch.{asked_code, asked_fetch};
+ghost use Rattle.kb_tenant.specs.Fetch.{asked_fetch};
 ghost use Rattle.kb_tenant.specs.ListOffsets.{asked_listing};
 ghost use Rattle.kb_tenant.specs.Metadata.{asked_metadata};
 ghost use Rattle.kb_tenant.specs.Replies.{IsAnswer};
@@ -26,7 +26,7 @@ ghost use Rattle.kb_tenant.specs.Told.{AcknowledgesDeletions, AnswersFetch, Answ
 ghost use Rattle.kb_tenant.specs.Serve.{if_read, of_produce, of_fetch, of_list_offsets, of_metadata, of_create_topics, of_delete_records};
 ghost use Rattle.kb_tenant.specs.Serve.{of_describe_configs};
 ghost use Rattle.kb_tenant.specs.declared.answer.Answer.TheVariants as answers;
-ghost use Rattle.kb_tenant.specs.Serve.{of_delete_topics, of_init_producer_id, plainly_served, looked, stays, IsOutcome, IsServed};
+ghost use Rattle.kb_tenant.specs.Serve.{of_delete_topics, of_init_producer_id, plainly_served, looked, IsOutcome, IsServed};
 
 use crate::answer::{Answer, begin, finish, finish_within, most_bytes};
 use crate::create_topics::{check_topics, create_topics, read_creations_within};
@@ -34,9 +34,7 @@ use crate::delete_records::delete_records;
 use crate::delete_topics::delete_topics;
 use crate::describe_configs::{describe_configs, read_configs_within};
 use crate::fetch;
-use crate::fetch::{
-    Asked, Fetching, begin_reply, bound, read_request, read_request_within, serve_fetch,
-};
+use crate::fetch::{Asked, Fetching, WaitingFetch, begin_reply, read_request_within, serve_fetch};
 use crate::group_offsets::{serve_find_coordinator, serve_offset_commit, serve_offset_fetch};
 use crate::init_producer_id::init_producer_id;
 use crate::limits::DataLimits;
@@ -53,7 +51,7 @@ use kb_log::{PartitionLog, Shelf};
 use kb_store::Store;
 use kb_tenant_state::{Parts, TopicPartition};
 use kb_wire::{ErrorCode, Layout, ReadFault, api_key};
-use std::alloc::Global;
+use std::alloc::{AllocError, Global};
 
 /// What became of a request.
 #[derive(Drop)]
@@ -124,8 +122,7 @@ fn serve_a_fetch<L: PartitionLog + Drop, S: Store>(
     ensures meets { let a = scene L.log S.disk parts.old shelf.old in let b = scene L.log S.disk parts.new shelf.new in
         Meets a b (IsServed request.now.correlation_id
         (if_read a.state.world (within limits.request_entries fetch_entries (asked_fetch request.now.api_version request.now.body.now))
-        (of_fetch request.now.api_version (asked_code request.now.api_version request.now.body.now) limits.fetch_bytes a.state.world
-        clock)) b.state.world [] result) }
+        (of_fetch request.now.api_version request.now.body.now limits.fetch_bytes a.state.world clock)) b.state.world [] result) }
     ensures fetched { let a = scene L.log S.disk parts.old shelf.old in let b = scene L.log S.disk parts.new shelf.new in
         IfOk result (λ answer. WhereHonest a b (AnswersFetch (HasFailed a b)
         request.now.correlation_id request.now.api_version limits.fetch_bytes a.state.world clock request.now.body.now answer)) }
@@ -137,14 +134,14 @@ fn serve_a_fetch<L: PartitionLog + Drop, S: Store>(
         code,
     } = read;
     let mut asked = whole;
-    bound(&mut asked, limits.fetch_bytes);
+    asked.bound(limits.fetch_bytes);
     let mut sink = begin_reply(alloc, request.correlation_id, version, code)?;
     let has_starts = fetch::has_starts(version);
     match serve_fetch(alloc, parts, shelf, clock, has_starts, &asked, &mut sink)? {
         Fetching::Reply => Ok(finish(sink)),
         Fetching::Wait { deadline, keys } => Ok(Answer::Wait {
             deadline,
-            limit: limits.fetch_bytes,
+            fetch: WaitingFetch::new(alloc, version, request.body, limits.fetch_bytes, asked)?,
             keys,
         }),
     }
@@ -458,24 +455,21 @@ fn look_at<L: PartitionLog + Drop, S: Store>(
     shelf: &mut Shelf<S>,
     clock: u64,
     wait: &Wait<'_>,
-) -> Result<Answer, ReadFault>
+) -> Result<Answer, AllocError>
     requires { (scene L.log S.disk parts.old shelf.old).sound }
     ensures step { IsStep (scene L.log S.disk parts.old shelf.old) (scene L.log S.disk parts.new shelf.new) }
     ensures same { let a = scene L.log S.disk parts.old shelf.old in let b = scene L.log S.disk parts.new shelf.new in
         b.disk.honest → a.agrees → b.state.world ≡ a.state.world }
     ensures meets { let a = scene L.log S.disk parts.old shelf.old in let b = scene L.log S.disk parts.new shelf.new in
-        Meets a b (IsServed wait.now.correlation_id
-        (stays a.state.world (looked a.state.world clock wait.now.deadline wait.now.api_version wait.now.limit wait.now.body.now))
-        b.state.world [] result) }
+        IfOk result (λ answer. Meets a b ((b.state.world ≡ a.state.world) × IsAnswer wait.now.correlation_id
+        (looked a.state.world clock wait.now.deadline wait.now.fetch.now.version wait.now.fetch.now.limit wait.now.fetch.now.body)
+        answer)) }
     ensures told { let a = scene L.log S.disk parts.old shelf.old in let b = scene L.log S.disk parts.new shelf.new in
-        IfOk result (λ answer. WhereHonest a b (AnswersLook (HasFailed a b) wait.now.correlation_id wait.now.api_version
-        wait.now.limit a.state.world clock wait.now.deadline wait.now.body.now answer)) }
+        IfOk result (λ answer. WhereHonest a b (AnswersLook (HasFailed a b) wait.now.correlation_id wait.now.fetch.now.version
+        wait.now.fetch.now.limit a.state.world clock wait.now.deadline wait.now.fetch.now.body answer)) }
 {
-    let version = wait.api_version;
-    let read = read_request(alloc, version, wait.body)?;
-    let Asked { request: whole, .. } = read;
-    let mut asked = whole;
-    bound(&mut asked, wait.limit);
+    let version = wait.fetch.version();
+    let asked = wait.fetch.asked();
     // what waits is a full fetch
     let mut sink = begin_reply(alloc, wait.correlation_id, version, ErrorCode::None.code())?;
     let has_starts = fetch::has_starts(version);
@@ -485,7 +479,7 @@ fn look_at<L: PartitionLog + Drop, S: Store>(
         shelf,
         clock,
         has_starts,
-        &asked,
+        asked,
         wait.deadline,
         &mut sink,
     )? {
@@ -513,16 +507,16 @@ pub fn look<L: PartitionLog + Drop, S: Store>(
     ensures meets { let a = scene L.log S.disk parts.old shelf.old in let b = scene L.log S.disk parts.new shelf.new in
         Meets a b ((b.state.world ≡ a.state.world)
         × IsAnswer wait.now.correlation_id
-        (looked a.state.world clock wait.now.deadline wait.now.api_version wait.now.limit wait.now.body.now) result) }
+        (looked a.state.world clock wait.now.deadline wait.now.fetch.now.version wait.now.fetch.now.limit
+        wait.now.fetch.now.body) result) }
     // Whatever was refused, a reply has of each partition what is defined, or the code of what refused it.
     ensures told { let a = scene L.log S.disk parts.old shelf.old in let b = scene L.log S.disk parts.new shelf.new in
-        WhereHonest a b (AnswersLook (HasFailed a b) wait.now.correlation_id wait.now.api_version
-        wait.now.limit a.state.world clock wait.now.deadline wait.now.body.now result) }
+        WhereHonest a b (AnswersLook (HasFailed a b) wait.now.correlation_id wait.now.fetch.now.version
+        wait.now.fetch.now.limit a.state.world clock wait.now.deadline wait.now.fetch.now.body result) }
 {
     match look_at(alloc, parts, shelf, clock, wait) {
         Ok(answer) => answer,
-        Err(ReadFault::Wire(_)) => Answer::Shut,
-        Err(ReadFault::Memory) => {
+        Err(_) => {
             parts.refuse();
             Answer::Shut
         }

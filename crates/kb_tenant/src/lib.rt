@@ -28,6 +28,7 @@ mod within;
 
 pub use answer::{Answer, begin, finish, finish_within, most_bytes};
 pub use dispatch::{Served, look, serve};
+pub use fetch::WaitingFetch;
 pub use group_commit::{offset_commit, read_commit_within};
 pub use limits::DataLimits;
 pub use node::Node;

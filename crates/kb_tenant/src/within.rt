@@ -5,10 +5,11 @@ ghost use Rattle.kb_wire.specs.Codec.{whole};
 ghost use Rattle.kb_wire.specs.Reads.{ReadsWhole};
 ghost use Rattle.kb_tenant.specs.Entries.{left_behind, listing_weight, with_entries, within};
 
+use crate::fetch::{AskedFetch, AskedTopic};
 use kb_api_data::{
     ConfigResource, CreateTopicsRequestV1, DeleteRecordsRequest, DeleteRecordsTopic,
-    DeleteTopicsRequest, DescribeConfigsRequest, FetchRequest, FetchTopic, ListOffsetsPartition,
-    ListOffsetsRequest, MetadataRequest, ProduceRequest, ProduceTopic,
+    DeleteTopicsRequest, DescribeConfigsRequest, ListOffsetsPartition, ListOffsetsRequest,
+    MetadataRequest, ProduceRequest, ProduceTopic,
 };
 use kb_api_group::{
     CommitTopic, DeleteGroupsRequest, DescribeGroupsRequest, OffsetCommitRequest,
@@ -116,13 +117,13 @@ impl Entries for ProduceTopic<'_> {
     }
 }
 
-impl Entries for FetchTopic<'_> {
+impl Entries for AskedTopic {
     ghost use Rattle.std.specs.Prelude.{length};
 
     ghost own = { λ t. length t.partitions };
 
     fn own(&self) -> usize {
-        self.partitions.len()
+        self.partitions().len()
     }
 }
 
@@ -179,13 +180,13 @@ impl Named for ProduceRequest<'_> {
     }
 }
 
-impl Named for FetchRequest<'_> {
+impl Named for AskedFetch {
     ghost use Rattle.kb_tenant.specs.Entries.{fetch_entries};
 
     ghost entries = { fetch_entries };
 
     fn is_past(&self, limit: u64) -> bool {
-        are_past(self.topics.as_slice(), limit)
+        are_past(self.topics(), limit)
     }
 }
 

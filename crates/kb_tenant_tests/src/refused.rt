@@ -6,7 +6,7 @@ ghost use Rattle.kb_tenants.specs.Tenants.{AreKept};
 use kb_log::{PartitionLog, Shelf};
 use kb_segment_log::SegmentLog;
 use kb_store::{Fuse, FusedStore, MemoryStore, Store};
-use kb_tenant::{Answer, DataLimits, Node, Request, Wait};
+use kb_tenant::{Answer, DataLimits, Node, Request, Wait, WaitingFetch};
 use kb_tenants::Tenants;
 use kb_wire::{Text, api_key};
 use std::alloc::{AllocError, Global};
@@ -96,12 +96,28 @@ fn ask<L: PartitionLog + Drop, S: Store>(
     tenants.serve(alloc, 0, 1000, &node, &request).answer
 }
 
-/// What a fetch with that deadline is answered at time 1000.
-fn looked<L: PartitionLog + Drop, S: Store>(
+/// The fetch of that body, where it waits at time 1000.
+fn waiting<L: PartitionLog + Drop, S: Store>(
     rt: &impl Abort,
     alloc: Global,
     tenants: &mut Tenants<L, S>,
     body: &[u8],
+) -> Option<WaitingFetch>
+    requires { AreKept L.log S.disk tenants.old }
+    ensures { AreKept L.log S.disk tenants.new }
+{
+    match ask(rt, alloc, tenants, api_key::FETCH, body) {
+        kb_tenant_api::Answer::Plain(Answer::Wait { fetch, .. }) => Some(fetch),
+        _ => None,
+    }
+}
+
+/// What a fetch that waits until that deadline is answered at time 1000.
+fn looked<L: PartitionLog + Drop, S: Store>(
+    rt: &impl Abort,
+    alloc: Global,
+    tenants: &mut Tenants<L, S>,
+    fetch: &WaitingFetch,
     deadline: u64,
 ) -> Answer
     requires { AreKept L.log S.disk tenants.old }
@@ -109,10 +125,8 @@ fn looked<L: PartitionLog + Drop, S: Store>(
 {
     let wait = Wait {
         correlation_id: 9,
-        api_version: 4,
-        body,
         deadline,
-        limit: None,
+        fetch,
     };
     assert!(rt; 0 < tenants.len());
     tenants.look(alloc, 0, 1000, &wait)
@@ -131,13 +145,14 @@ fn is_told<L: PartitionLog + Drop, S: Store>(
     rt: &impl Abort,
     alloc: Global,
     tenants: &mut Tenants<L, S>,
+    fetch: &WaitingFetch,
     asked: Asked,
 ) -> bool
     requires { AreKept L.log S.disk tenants.old }
     ensures { AreKept L.log S.disk tenants.new }
 {
     let (answer, reply) = match asked {
-        Asked::Look => return is_reply(&looked(rt, alloc, tenants, FETCH, 1000), REFUSED),
+        Asked::Look => return is_reply(&looked(rt, alloc, tenants, fetch, 1000), REFUSED),
         Asked::Fetch => (ask(rt, alloc, tenants, api_key::FETCH, FETCH), REFUSED),
         Asked::Search => (
             ask(rt, alloc, tenants, api_key::LIST_OFFSETS, SEARCH),
@@ -156,11 +171,15 @@ fn is_refused(rt: &impl Abort, alloc: Global, call: u64, asked: Asked) -> Result
     let store = FusedStore::new(MemoryStore::new(alloc), Fuse::Once(call), 0);
     let mut tenants = one::<SegmentLog, _>(alloc, store)?;
     ask(rt, alloc, &mut tenants, api_key::CREATE_TOPICS, CREATE);
+    let waits = waiting(rt, alloc, &mut tenants, FETCH); // there is no record yet
     ask(rt, alloc, &mut tenants, api_key::PRODUCE, APPEND);
     if !tenants.is_calm() {
         return Ok(false);
     }
-    let told = is_told(rt, alloc, &mut tenants, asked);
+    let Some(fetch) = waits else {
+        return Ok(false);
+    };
+    let told = is_told(rt, alloc, &mut tenants, &fetch, asked);
     if tenants.is_calm() {
         return Ok(false);
     }
@@ -178,7 +197,10 @@ fn is_silent(rt: &impl Abort, alloc: Global, call: u64) -> Result<bool, Fail> {
     if !tenants.is_calm() {
         return Ok(false);
     }
-    let answer = looked(rt, alloc, &mut tenants, FETCH_MUCH, 2000);
+    let Some(fetch) = waiting(rt, alloc, &mut tenants, FETCH_MUCH) else {
+        return Ok(false);
+    };
+    let answer = looked(rt, alloc, &mut tenants, &fetch, 2000);
     assert!(rt;
         matches!(answer, Answer::NoReply) && tenants.is_calm(),
         "{call}"

@@ -19,7 +19,7 @@ room_for limits topics = most_topics limits.topics - topics
 
 abbrev pub told_plainly : ℕ → (key version : ℤ) → plain.Answer → OverLimit
 told_plainly room key version (replies.Reply reply) = told key version room reply.items
-told_plainly room key version (replies.Wait deadline limit keys) = none
+told_plainly room key version (replies.Wait deadline fetch keys) = none
 told_plainly room key version replies.NoReply = none
 told_plainly room key version replies.Shut = none
 

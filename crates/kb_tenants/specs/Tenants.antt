@@ -94,14 +94,14 @@ restored_tenant log files name parts = record { name = name; kept = kept_in (wor
 -- after it a request waits no longer: it is a reply, or the connection is to be shut
 abbrev pub EndsWait : Answer → Type 0
 EndsWait (answers.Reply reply) = ⊤
-EndsWait (answers.Wait deadline limit keys) = ⊥
+EndsWait (answers.Wait deadline fetch keys) = ⊥
 EndsWait answers.NoReply = ⊥
 EndsWait answers.Shut = ⊤
 
 -- what a look comes to in which something was refused: its reply; or the connection is to be shut, also where the request would wait on
 abbrev pub reply_or_shut : Answer → Answer
 reply_or_shut (answers.Reply reply) = answers.Reply reply
-reply_or_shut (answers.Wait deadline limit keys) = answers.Shut
+reply_or_shut (answers.Wait deadline fetch keys) = answers.Shut
 reply_or_shut answers.NoReply = answers.Shut
 reply_or_shut answers.Shut = answers.Shut
 

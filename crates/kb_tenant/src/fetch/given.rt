@@ -3,7 +3,8 @@ ghost use Rattle.std.specs.Prelude.{◌≡◌, ◌<◌, ◌^◌};
 ghost use Rattle.kb_batch.specs.Batch.{natural};
 ghost use Rattle.kb_tenant.specs.Counted.{begun, has_enough, less, limit_of, wrong};
 
-use kb_api_data::{FetchPartition, FetchRequest};
+use crate::fetch::asked::AskedFetch;
+use kb_api_data::FetchPartition;
 
 /// The most bytes of records that the limits of one reply allow.
 const MOST_BYTES: u64 = 8_388_608;
@@ -33,13 +34,13 @@ pub(crate) fn not_negative(n: i32) -> u64
 
 impl Given {
     /// Nothing was given yet.
-    pub(crate) fn begun(request: &FetchRequest<'_>) -> Given
+    pub(crate) fn begun(request: &AskedFetch) -> Given
         ensures { result ≡ begun request.now }
     {
         Given {
-            left: not_negative(request.max_bytes).min(MOST_BYTES),
+            left: not_negative(request.max_bytes()).min(MOST_BYTES),
             first: true,
-            missing: not_negative(request.min_bytes),
+            missing: not_negative(request.min_bytes()),
             is_asked: false,
             is_wrong: false,
         }

@@ -13,9 +13,10 @@ ghost use Rattle.kb_tenant_state.specs.Steps.{IsStep, Meets};
 ghost use Rattle.kb_tenant.specs.Told.{HasFailed};
 ghost use Rattle.kb_tenant.specs.Turns.{in_turn, written_behind, AreServed};
 
+use crate::fetch::asked::{AskedFetch, AskedTopic};
 use crate::fetch::given::Given;
 use crate::fetch::partition::put_partition;
-use kb_api_data::{FetchPartition, FetchRequest, FetchTopic};
+use kb_api_data::FetchPartition;
 use kb_log::{PartitionLog, Shelf};
 use kb_store::Store;
 use kb_tenant_state::Parts;
@@ -58,7 +59,7 @@ fn put_topic<L: PartitionLog + Drop, S: Store>(
     parts: &mut Parts<L>,
     shelf: &mut Shelf<S>,
     has_starts: bool,
-    topic: &FetchTopic<'_>,
+    topic: &AskedTopic,
     given: &mut Given,
     sink: &mut Sink,
 ) -> Result<(), AllocError>
@@ -75,19 +76,13 @@ fn put_topic<L: PartitionLog + Drop, S: Store>(
         OnOk result (WhereHonest a b ((reply : FetchTopicReplyV5) × ((sink.new.bytes ≡ sink.old.bytes ++ topic_written has_starts reply)
         × IsFetchTopicTold (HasFailed a b) a.state.world given.old topic.now given.new reply))) }
 {
-    let name = topic.topic.as_str();
+    let name = topic.name();
+    let entries = topic.partitions();
     sink.put_string(name)?;
-    sink.put_count(topic.partitions.len())?;
+    sink.put_count(entries.len())?;
     let instance = parts.topic_named(name);
     put_partitions(
-        alloc,
-        parts,
-        shelf,
-        has_starts,
-        instance,
-        topic.partitions.as_slice(),
-        given,
-        sink,
+        alloc, parts, shelf, has_starts, instance, entries, given, sink,
     )
 }
 
@@ -97,7 +92,7 @@ fn put_topics<L: PartitionLog + Drop, S: Store>(
     parts: &mut Parts<L>,
     shelf: &mut Shelf<S>,
     has_starts: bool,
-    topics: &[FetchTopic<'_>],
+    topics: &[AskedTopic],
     given: &mut Given,
     sink: &mut Sink,
 ) -> Result<(), AllocError>
@@ -129,7 +124,7 @@ pub(crate) fn fetch_now<L: PartitionLog + Drop, S: Store>(
     parts: &mut Parts<L>,
     shelf: &mut Shelf<S>,
     has_starts: bool,
-    request: &FetchRequest<'_>,
+    request: &AskedFetch,
     sink: &mut Sink,
 ) -> Result<Given, AllocError>
     requires sound { (scene L.log S.disk parts.old shelf.old).sound }
@@ -147,15 +142,8 @@ pub(crate) fn fetch_now<L: PartitionLog + Drop, S: Store>(
 {
     let mut given = Given::begun(request);
     sink.put_i32(0)?;
-    sink.put_count(request.topics.len())?;
-    put_topics(
-        alloc,
-        parts,
-        shelf,
-        has_starts,
-        request.topics.as_slice(),
-        &mut given,
-        sink,
-    )?;
+    let topics = request.topics();
+    sink.put_count(topics.len())?;
+    put_topics(alloc, parts, shelf, has_starts, topics, &mut given, sink)?;
     Ok(given)
 }

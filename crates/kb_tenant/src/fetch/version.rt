@@ -7,19 +7,20 @@ ghost use Rattle.std.specs.Prelude.{◌≡◌, ◌++◌, map, IfOk, Ok, OnOk};
 ghost use Rattle.kb_wire.specs.Reads.{ReadsWhole};
 ghost use Rattle.kb_api_data.specs.Layouts.{fetch_request};
 ghost use Rattle.kb_tenant.specs.Entries.{fetch_entries, within};
-ghost use Rattle.kb_tenant.specs.Fetch.{asked_as, asked_fetch, asks, at_once, bounded, has_epochs};
-ghost use Rattle.kb_tenant.specs.Fetch.{has_session, has_starts, in_session, is_full, lesser};
+ghost use Rattle.kb_tenant.specs.Fetch.{asked_as, asked_fetch, asks, at_once, has_epochs};
+ghost use Rattle.kb_tenant.specs.Fetch.{has_session, has_starts, in_session, is_full};
 ghost use Rattle.kb_tenant.specs.Fetch.{plain, plain_partition, plain_partition_v9, plain_topic, plain_topic_v9};
 ghost use Rattle.kb_tenant.specs.Fetch.{request_read, session_front};
 ghost use Rattle.kb_tenant.specs.Replies.{begun};
 
 use crate::answer::begin;
+use crate::fetch::asked::{AskedFetch, AskedTopic};
 use crate::within::within;
 use kb_api_data::{
     FetchPartition, FetchPartitionV5, FetchPartitionV9, FetchRequest, FetchRequestV5,
     FetchRequestV7, FetchTopic, FetchTopicV5, FetchTopicV9,
 };
-use kb_wire::{Array, ErrorCode, Layout, ReadFault, Sink, Text};
+use kb_wire::{Array, ErrorCode, Layout, ReadFault, Sink};
 use std::alloc::{AllocError, Global};
 
 /// The code of a reply to a fetch that goes on with a session: there is none.
@@ -27,9 +28,9 @@ const FETCH_SESSION_ID_NOT_FOUND: i16 = 70;
 
 /// What a request asks.
 #[derive(Drop)]
-pub(crate) struct Asked<'a> {
+pub(crate) struct Asked {
     /// The fetch. It asks nothing where it goes on with a session.
-    pub request: FetchRequest<'a>,
+    pub request: AskedFetch,
     /// The error code of its session, which its reply has from version 7 on.
     pub code: i16,
 }
@@ -81,18 +82,13 @@ fn plain_partitions(
 }
 
 /// The topics without the starts of a follower's logs.
-fn plain_topics<'a>(
-    alloc: Global,
-    topics: &[FetchTopicV5<'a>],
-) -> Result<Array<FetchTopic<'a>>, AllocError>
+fn plain_topics(alloc: Global, topics: &[FetchTopicV5<'_>]) -> Result<Array<AskedTopic>, AllocError>
     ensures { IfOk result (λ plain. plain ≡ map plain_topic topics.now) }
 {
     let mut plain = Array::new(alloc);
     for topic in topics {
-        plain.push(FetchTopic {
-            topic: Text::new(topic.topic.as_str()),
-            partitions: plain_partitions(alloc, topic.partitions.as_slice())?,
-        })?;
+        let entries = plain_partitions(alloc, topic.partitions.as_slice())?;
+        plain.push(AskedTopic::new(alloc, topic.topic.as_str(), entries)?)?;
     }
     Ok(plain)
 }
@@ -116,32 +112,26 @@ fn plain_partitions_v9(
 }
 
 /// The same of topics.
-fn plain_topics_v9<'a>(
+fn plain_topics_v9(
     alloc: Global,
-    topics: &[FetchTopicV9<'a>],
-) -> Result<Array<FetchTopic<'a>>, AllocError>
+    topics: &[FetchTopicV9<'_>],
+) -> Result<Array<AskedTopic>, AllocError>
     ensures { IfOk result (λ plain. plain ≡ map plain_topic_v9 topics.now) }
 {
     let mut plain = Array::new(alloc);
     for topic in topics {
-        plain.push(FetchTopic {
-            topic: Text::new(topic.first.as_str()),
-            partitions: plain_partitions_v9(alloc, topic.second.as_slice())?,
-        })?;
+        let entries = plain_partitions_v9(alloc, topic.second.as_slice())?;
+        plain.push(AskedTopic::new(alloc, topic.first.as_str(), entries)?)?;
     }
     Ok(plain)
 }
 
 /// A request asks these topics, with that error code of its session.
-fn asks<'a, T>(
-    request: &FetchRequestV7<'a, T>,
-    code: i16,
-    topics: Array<FetchTopic<'a>>,
-) -> Asked<'a>
-    ensures { result ≡ asks request.now code topics.entry }
+fn asks<T>(request: &FetchRequestV7<'_, T>, code: i16, topics: Array<AskedTopic>) -> Asked
+    ensures { result ≡ asks request.now code topics }
 {
     Asked {
-        request: FetchRequest {
+        request: AskedFetch {
             replica_id: request.replica_id,
             max_wait_ms: request.max_wait_ms,
             min_bytes: request.min_bytes,
@@ -157,7 +147,7 @@ fn asks<'a, T>(
 fn asked_v7<'a>(
     alloc: Global,
     request: &FetchRequestV7<'a, FetchTopicV5<'a>>,
-) -> Result<Asked<'a>, AllocError>
+) -> Result<Asked, AllocError>
     ensures { IfOk result (λ asked. asked ≡ in_session plain_topic request.now) }
 {
     if !is_full(request) {
@@ -171,7 +161,7 @@ fn asked_v7<'a>(
 fn asked_v9<'a>(
     alloc: Global,
     request: &FetchRequestV7<'a, FetchTopicV9<'a>>,
-) -> Result<Asked<'a>, AllocError>
+) -> Result<Asked, AllocError>
     ensures { IfOk result (λ asked. asked ≡ in_session plain_topic_v9 request.now) }
 {
     if !is_full(request) {
@@ -182,10 +172,10 @@ fn asked_v9<'a>(
 }
 
 /// A request without the starts of a follower's logs.
-fn plain<'a>(alloc: Global, request: &FetchRequestV5<'a>) -> Result<FetchRequest<'a>, AllocError>
+fn plain(alloc: Global, request: &FetchRequestV5<'_>) -> Result<AskedFetch, AllocError>
     ensures { IfOk result (λ asked. asked ≡ plain request.now) }
 {
-    Ok(FetchRequest {
+    Ok(AskedFetch {
         replica_id: request.replica_id,
         max_wait_ms: request.max_wait_ms,
         min_bytes: request.min_bytes,
@@ -195,27 +185,53 @@ fn plain<'a>(alloc: Global, request: &FetchRequestV5<'a>) -> Result<FetchRequest
     })
 }
 
-/// The lesser of a number and a limit. None is no limit.
-fn lesser(n: i32, limit: Option<u64>) -> i32
-    ensures { result ≡ lesser n limit }
+/// The entries of a topic of version 4.
+fn own_partitions(
+    alloc: Global,
+    entries: &[FetchPartition],
+) -> Result<Array<FetchPartition>, AllocError>
+    ensures { IfOk result (λ own. own ≡ entries.now) }
 {
-    match limit {
-        Some(limit) => n.min(limit.min(i32::MAX as u64) as i32),
-        None => n,
+    let mut own = Array::new(alloc);
+    for wanted in entries {
+        own.push(FetchPartition {
+            partition: wanted.partition,
+            fetch_offset: wanted.fetch_offset,
+            partition_max_bytes: wanted.partition_max_bytes,
+        })?;
     }
+    Ok(own)
 }
 
-/// Bounds a fetch: its whole reply has at most so many bytes of records. None is no limit.
-pub(crate) fn bound(asked: &mut FetchRequest<'_>, limit: Option<u64>)
-    ensures exact { asked.new ≡ bounded limit asked.old }
-    ensures fits { fetch_request.Fits asked.old → fetch_request.Fits asked.new }
+/// The topics of version 4.
+fn own_topics(alloc: Global, topics: &[FetchTopic<'_>]) -> Result<Array<AskedTopic>, AllocError>
+    ensures { IfOk result (λ own. own ≡ topics.now) }
 {
-    asked.max_bytes = lesser(asked.max_bytes, limit);
+    let mut own = Array::new(alloc);
+    for topic in topics {
+        let entries = own_partitions(alloc, topic.partitions.as_slice())?;
+        own.push(AskedTopic::new(alloc, topic.topic.as_str(), entries)?)?;
+    }
+    Ok(own)
+}
+
+/// A request of version 4.
+fn own(alloc: Global, request: &FetchRequest<'_>) -> Result<AskedFetch, AllocError>
+    ensures { IfOk result (λ asked. asked ≡ request.now) }
+{
+    Ok(AskedFetch {
+        replica_id: request.replica_id,
+        max_wait_ms: request.max_wait_ms,
+        min_bytes: request.min_bytes,
+        max_bytes: request.max_bytes,
+        isolation_level: request.isolation_level,
+        topics: own_topics(alloc, request.topics.as_slice())?,
+    })
 }
 
 /// What a request of a version without sessions asks.
-fn at_once(request: FetchRequest<'_>) -> Asked<'_>
-    ensures { result ≡ at_once request.entry }
+fn at_once(request: AskedFetch) -> Asked
+    ensures { result ≡ at_once request }
 {
     Asked {
         request,
@@ -225,11 +241,7 @@ fn at_once(request: FetchRequest<'_>) -> Asked<'_>
 
 /// Reads a whole body of a request of a version.
 #[tactic(auto, using(crate::proofs::Versions::read_fits))]
-pub(crate) fn read_request<'a>(
-    alloc: Global,
-    version: i16,
-    body: &'a [u8],
-) -> Result<Asked<'a>, ReadFault>
+fn read_request(alloc: Global, version: i16, body: &[u8]) -> Result<Asked, ReadFault>
     ensures fits { IfOk result (λ asked. fetch_request.Fits asked.request) }
     ensures exact { ReadsWhole (asked_as version body.now) result }
 {
@@ -245,16 +257,17 @@ pub(crate) fn read_request<'a>(
         let starts = FetchRequestV5::read(alloc, body)?;
         return Ok(at_once(plain(alloc, &starts)?));
     }
-    Ok(at_once(FetchRequest::read(alloc, body)?))
+    let request = FetchRequest::read(alloc, body)?;
+    Ok(at_once(own(alloc, &request)?))
 }
 
 /// Reads a whole body of a request, unless it names more entries than a limit allows.
-pub(crate) fn read_request_within<'a>(
+pub(crate) fn read_request_within(
     alloc: Global,
     limit: Option<u64>,
     version: i16,
-    body: &'a [u8],
-) -> Result<Asked<'a>, ReadFault>
+    body: &[u8],
+) -> Result<Asked, ReadFault>
     ensures fits { IfOk result (λ asked. fetch_request.Fits asked.request) }
     ensures exact { ReadsWhole (within limit fetch_entries (asked_fetch version body.now)) (request_read result) }
     ensures spelled { IfOk result (λ asked. asked_as version body.now ≡ Ok asked) }

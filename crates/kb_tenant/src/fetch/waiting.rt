@@ -10,11 +10,12 @@ ghost use Rattle.kb_tenant.specs.Told.{HasFailed, IsFetchMade, IsFetchReady};
 ghost use Rattle.kb_tenant_state.specs.Parts.{scene, world_of};
 ghost use Rattle.kb_tenant_state.specs.Steps.{IsStep, Meets};
 
+use crate::fetch::asked::AskedFetch;
 use crate::fetch::given::not_negative;
 use crate::fetch::now::fetch_now;
 use crate::fetch::partition::place_of;
 use crate::fetch::waits::surely_waits;
-use kb_api_data::{FetchPartition, FetchRequest};
+use kb_api_data::FetchPartition;
 use kb_log::{PartitionLog, Shelf};
 use kb_store::Store;
 use kb_tenant_state::{Parts, TopicPartition};
@@ -53,25 +54,25 @@ fn add_places(
 fn places<L: PartitionLog + Drop>(
     alloc: Global,
     parts: &Parts<L>,
-    request: &FetchRequest<'_>,
+    request: &AskedFetch,
 ) -> Result<Vec<TopicPartition>, AllocError>
     ensures { IfOk result (λ places.
         (files : Files) → places.items ≡ places_of (world_of L.log parts.now files) request.now) }
 {
     let mut places = Vec::new(alloc);
-    for topic in request.topics.as_slice() {
-        let instance = parts.topic_named(topic.topic.as_str());
-        add_places(&mut places, instance, topic.partitions.as_slice())?;
+    for topic in request.topics() {
+        let instance = parts.topic_named(topic.name());
+        add_places(&mut places, instance, topic.partitions())?;
     }
     Ok(places)
 }
 
 /// Until when a fetch of this moment waits at most.
-fn deadline(clock: u64, request: &FetchRequest<'_>) -> u64
+fn deadline(clock: u64, request: &AskedFetch) -> u64
     requires { clock ≤ MAX_CLOCK }
     ensures { result ≡ deadline_of clock request.now }
 {
-    clock + not_negative(request.max_wait_ms)
+    clock + not_negative(request.max_wait_ms())
 }
 
 /// Looks at a waiting fetch: writes its reply if it waits no longer, and answers whether it did.
@@ -84,7 +85,7 @@ pub(crate) fn look<L: PartitionLog + Drop, S: Store>(
     shelf: &mut Shelf<S>,
     clock: u64,
     has_starts: bool,
-    request: &FetchRequest<'_>,
+    request: &AskedFetch,
     deadline: u64,
     sink: &mut Sink,
 ) -> Result<bool, AllocError>
@@ -122,7 +123,7 @@ pub(crate) fn serve_fetch<L: PartitionLog + Drop, S: Store>(
     shelf: &mut Shelf<S>,
     clock: u64,
     has_starts: bool,
-    request: &FetchRequest<'_>,
+    request: &AskedFetch,
     sink: &mut Sink,
 ) -> Result<Fetching, AllocError>
     requires sound { (scene L.log S.disk parts.old shelf.old).sound }

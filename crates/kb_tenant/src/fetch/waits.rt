@@ -7,9 +7,10 @@ ghost use Rattle.kb_tenant.specs.Turns.{in_turn};
 ghost use Rattle.kb_tenant.specs.declared.fetch.given.Given.{Given};
 ghost use Rattle.kb_tenant_state.specs.Parts.{world_of, Agrees};
 
+use crate::fetch::asked::AskedFetch;
 use crate::fetch::given::not_negative;
 use crate::fetch::partition::place_of;
-use kb_api_data::{FetchPartition, FetchRequest};
+use kb_api_data::FetchPartition;
 use kb_batch::MAX_BATCH_BYTES;
 use kb_log::PartitionLog;
 use kb_tenant_state::Parts;
@@ -56,20 +57,20 @@ fn missing_behind_all<L: PartitionLog + Drop>(
 pub(crate) fn surely_waits<L: PartitionLog + Drop>(
     parts: &Parts<L>,
     clock: u64,
-    request: &FetchRequest<'_>,
+    request: &AskedFetch,
     deadline: u64,
 ) -> bool
     ensures { (files : Files) → Agrees L.log parts.now files → result ≡ true
         → fetch_answer (world_of L.log parts.now files) clock request.now deadline ≡ None }
 {
-    let mut missing = not_negative(request.min_bytes);
+    let mut missing = not_negative(request.min_bytes());
     if missing == 0 || deadline <= clock {
         return false;
     }
     let mut is_asked = false;
-    for topic in request.topics.as_slice() {
-        let instance = parts.topic_named(topic.topic.as_str());
-        let entries = topic.partitions.as_slice();
+    for topic in request.topics() {
+        let instance = parts.topic_named(topic.name());
+        let entries = topic.partitions();
         let Some(left) = missing_behind_all(parts, instance, entries, missing) else {
             return false;
         };

@@ -1,4 +1,4 @@
-use Rattle.std.proofs.Common.{⊎_elim, inl, inr, ap, ◌≡◌, FitsSigned, of_z, rules, subst, sym, to_z, w16, w32}
+use Rattle.std.proofs.Common.{⊎_elim, inl, inr, ap, ◌≡◌, FitsSigned, rules, subst, sym, w32}
 use Rattle.std.proofs.lemmas.Int.{to_z-of_z}
 use Rattle.kb_tenant_api.specs.Hosted.{kept_of, refusals_of}
 use Rattle.kb_tenant_api.specs.Replies.{told_to}
@@ -22,11 +22,8 @@ returns-in-Records-clause-meets g c = λ honest calm.
     let f = c.in-Records in
     let k = kept_of (tenants_in g.L.PartitionLog.log g.S.Store.disk a.tenants.now) a.tenant in
     let fits : FitsSigned w32 w.head.correlation_id = search rules in
-    let version : FitsSigned w16 f.api_version = search rules in
     let met = c.look.ensures.meets honest calm in
-    let bodied = subst (λ body. IsAnswer (to_z w32 (of_z w32 w.head.correlation_id)) (looked k.world a.clock f.deadline (to_z w16 (of_z w16 f.api_version)) f.limit body) c.look.result) c.deref.ensures.value met.1 in
-    let versioned = subst (λ v. IsAnswer (to_z w32 (of_z w32 w.head.correlation_id)) (looked k.world a.clock f.deadline v f.limit f.body.items) c.look.result) (to_z-of_z w16 f.api_version version) bodied in
-    (met.0, subst (λ x. IsAnswer w.head.correlation_id (ready_for k a.clock a.number (awaited_of x)) c.look.result) (sym f.is) (subst (λ z. IsAnswer z (looked k.world a.clock f.deadline f.api_version f.limit f.body.items) c.look.result) (to_z-of_z w32 w.head.correlation_id fits) versioned))
+    (met.0, subst (λ x. IsAnswer w.head.correlation_id (ready_for k a.clock a.number (awaited_of x)) c.look.result) (sym f.is) (subst (λ z. IsAnswer z (looked k.world a.clock f.deadline f.fetch.version f.fetch.limit f.fetch.body) c.look.result) (to_z-of_z w32 w.head.correlation_id fits) met.1))
 
 pub returns-in-Group-clause-meets : goal.returns-in-Group-clause-meets
 unfolding ready
@@ -70,13 +67,8 @@ returns-in-Records-clause-told g c = λ honest.
     let k = kept_of (tenants_in g.L.PartitionLog.log disk a.tenants.now) a.tenant in
     let r = c.look.result in
     let failed = FailedBy (disk a.tenants.now.shelf.store).failures (disk shelf.store).failures shelf.next in
-    let id = to_z w32 (of_z w32 w.head.correlation_id) in
-    let version = to_z w16 (of_z w16 f.api_version) in
     let fits : FitsSigned w32 w.head.correlation_id = search rules in
-    let small : FitsSigned w16 f.api_version = search rules in
-    let bodied = subst (λ body. AnswersLook failed id version f.limit k.world a.clock f.deadline body r) c.deref.ensures.value (c.look.ensures.told honest) in
-    let versioned = subst (λ n. AnswersLook failed id n f.limit k.world a.clock f.deadline f.body.items r) (to_z-of_z w16 f.api_version small) bodied in
-    let told = subst (λ z. AnswersLook failed z f.api_version f.limit k.world a.clock f.deadline f.body.items r) (to_z-of_z w32 w.head.correlation_id fits) versioned in
+    let told = subst (λ z. AnswersLook failed z f.fetch.version f.fetch.limit k.world a.clock f.deadline f.fetch.body r) (to_z-of_z w32 w.head.correlation_id fits) (c.look.ensures.told honest) in
     subst (λ x. TellsAwaited failed w.head.correlation_id a.clock k (awaited_of x) r) (sym f.is) told
 
 pub returns-in-Group-clause-told : goal.returns-in-Group-clause-told

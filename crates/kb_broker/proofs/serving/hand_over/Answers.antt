@@ -38,7 +38,7 @@ returns-else-is_err-2-clause-parked c = (parked c).others
 pub returns-else-is_err-2-clause-dated : goal.returns-else-is_err-2-clause-dated
 returns-else-is_err-2-clause-dated c = λ key version head body asks.
     let a = c.args in
-    dated-answered a.setup.now c.answer-given.result a.parking.now c.park.new.parking a.tenant a.connection.now.number a.connection.now c.answer-given.new.self a.answer key version head body (parked c) c.requires.bound asks c.answer-given.ensures.ok c.answer-given.ensures.free (sym c.is_err-2.ensures.value ∙ c.if-is_err-2.false)
+    dated-answered a.setup.now c.answer-given.result a.parking.now c.park.new.parking a.tenant a.connection.now.number a.connection.now c.answer-given.new.self a.answer key version head body (parked c) c.requires.bound asks (c.answer-given.ensures.ok a.setup.now) c.answer-given.ensures.free (sym c.is_err-2.ensures.value ∙ c.if-is_err-2.false)
 
 pub returns-else-is_err-2-clause-owned : goal.returns-else-is_err-2-clause-owned
 returns-else-is_err-2-clause-owned c =
@@ -50,10 +50,10 @@ pub returns-else-is_err-2-clause-keyed : goal.returns-else-is_err-2-clause-keyed
 returns-else-is_err-2-clause-keyed c = on-ok c.answer-given.result (fin.get c.park.new.parking c.args.connection.now.number ≡ parked_for c.args.tenant c.args.answer) (parked c).own
 
 pub returns-then-is_err-clause-output : goal.returns-then-is_err-clause-output
-returns-then-is_err-clause-output c = λ key version head body asks. put-shut (with_answer head version body c.args.answer (without_front c.args.connection.now.session)) c.args.connection.now c.shut_down.new.self c.shut_down.ensures
+returns-then-is_err-clause-output c = λ key version head body asks. put-shut (with_answer head c.args.answer (without_front c.args.connection.now.session)) c.args.connection.now c.shut_down.new.self c.shut_down.ensures
 
 pub returns-then-is_err-2-clause-output : goal.returns-then-is_err-2-clause-output
-returns-then-is_err-2-clause-output c = λ key version head body asks. put-shut (with_answer head version body c.args.answer (without_front c.args.connection.now.session)) c.args.connection.now c.answer-given.new.self (from_err c.answer-given.result c.is_err-2.result _ c.is_err-2.ensures.value c.if-is_err-2.true c.answer-given.ensures.err)
+returns-then-is_err-2-clause-output c = λ key version head body asks. put-shut (with_answer head c.args.answer (without_front c.args.connection.now.session)) c.args.connection.now c.answer-given.new.self (from_err c.answer-given.result c.is_err-2.result _ c.is_err-2.ensures.value c.if-is_err-2.true c.answer-given.ensures.err)
 
 pub returns-else-is_err-2-clause-output : goal.returns-else-is_err-2-clause-output
-returns-else-is_err-2-clause-output c = λ key version head body asks. put-done (with_answer head version body c.args.answer (without_front c.args.connection.now.session)) c.args.connection.now c.answer-given.new.self (from_ok c.answer-given.result c.is_err-2.result _ c.is_err-2.ensures.value c.if-is_err-2.false (c.answer-given.ensures.answered key version head body asks))
+returns-else-is_err-2-clause-output c = λ key version head body asks. put-done (with_answer head c.args.answer (without_front c.args.connection.now.session)) c.args.connection.now c.answer-given.new.self (from_ok c.answer-given.result c.is_err-2.result _ c.is_err-2.ensures.value c.if-is_err-2.false (c.answer-given.ensures.answered c.args.setup.now key version head body asks))

@@ -4,8 +4,8 @@ use Rattle.kb_tenant_state.specs.Parts.{scene, scene_on}
 use Rattle.kb_tenant_state.proofs.Lifted.{refused_step}
 use Rattle.kb_tenant.proofs.dispatch.look.Goals as goal
 
-pub returns-in-Err-Memory-clause-step : goal.returns-in-Err-Memory-clause-step
-returns-in-Err-Memory-clause-step g c =
+pub returns-in-Err-clause-step : goal.returns-in-Err-clause-step
+returns-in-Err-clause-step g c =
     let log = g.L.PartitionLog.log in
     let a = scene log g.S.Store.disk c.args.parts.now c.args.shelf.now in
     let shelf = c.look_at.new.shelf in

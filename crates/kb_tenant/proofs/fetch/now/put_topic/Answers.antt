@@ -1,4 +1,4 @@
-use Rattle.std.proofs.Common.{sym, subst, w32}
+use Rattle.std.proofs.Common.{ap, length, sym, subst, w32}
 use Rattle.std.proofs.lemmas.Result.{on_ok_weaker}
 use Rattle.kb_wire.specs.Codec.{count, string}
 use Rattle.kb_tenant_state.specs.Parts.{scene, world_of}
@@ -8,17 +8,17 @@ use Rattle.kb_tenant.proofs.Fetching.{topic_told, topic_name_fits, topic_count_f
 use Rattle.kb_tenant.proofs.fetch.now.put_topic.Goals as goal
 
 pub put_string-requires : goal.put_string-requires
-put_string-requires g c = subst (λ x. string.Fits x) (sym c.as_str-name.ensures) (topic_name_fits c.args.topic.now c.requires.fits)
+put_string-requires g c = subst (λ x. string.Fits x) (sym c.name-name.ensures) (topic_name_fits c.args.topic.now c.requires.fits)
 
 pub put_count-requires : goal.put_count-requires
-put_count-requires g c = subst (λ n. (count w32).Fits n) (sym c.len.ensures) (topic_count_fits c.args.topic.now c.requires.fits)
+put_count-requires g c = subst (λ n. (count w32).Fits n) (sym (ap length c.partitions-entries.ensures)) (topic_count_fits c.args.topic.now c.requires.fits)
 
 pub returns-clause-meets : goal.returns-clause-meets
 returns-clause-meets g c =
     let files = (g.S.Store.disk c.args.shelf.now.store).files in
     on_ok_weaker c.put_partitions.result
-    (λ met honest agrees calm. topic_told c.args.has_starts (world_of g.L.PartitionLog.log c.args.parts.now files) c.args.given.now c.put_partitions.new.given c.args.topic.now c.as_str-name.result.now c.len.result c.topic_named-instance.result c.as_slice.result.now
-    c.args.sink.now.bytes c.put_string.new.self.bytes c.put_count.new.self.bytes c.put_partitions.new.sink.bytes c.as_str-name.ensures c.len.ensures (c.topic_named-instance.ensures files) c.as_slice.ensures
+    (λ met honest agrees calm. topic_told c.args.has_starts (world_of g.L.PartitionLog.log c.args.parts.now files) c.args.given.now c.put_partitions.new.given c.args.topic.now c.name-name.result.now (length c.partitions-entries.result.now) c.topic_named-instance.result c.partitions-entries.result.now
+    c.args.sink.now.bytes c.put_string.new.self.bytes c.put_count.new.self.bytes c.put_partitions.new.sink.bytes c.name-name.ensures (ap length c.partitions-entries.ensures) (c.topic_named-instance.ensures files) c.partitions-entries.ensures
     c.in_ok-put_string.ensures.ok c.in_ok-put_count.ensures.ok (met honest agrees calm))
     c.put_partitions.ensures.meets
 
@@ -30,8 +30,8 @@ returns-clause-told g c =
     let b = scene log disk c.put_partitions.new.parts c.put_partitions.new.shelf in
     on_ok_weaker c.put_partitions.result
     (λ told honest agree. topic_fetched (HasFailed a b) c.args.has_starts a.state.world c.args.given.now c.put_partitions.new.given
-    c.args.topic.now c.as_str-name.result.now c.len.result c.topic_named-instance.result c.as_slice.result.now
+    c.args.topic.now c.name-name.result.now (length c.partitions-entries.result.now) c.topic_named-instance.result c.partitions-entries.result.now
     c.args.sink.now.bytes c.put_string.new.self.bytes c.put_count.new.self.bytes c.put_partitions.new.sink.bytes
-    c.as_str-name.ensures c.len.ensures (c.topic_named-instance.ensures a.disk.files) c.as_slice.ensures
+    c.name-name.ensures (ap length c.partitions-entries.ensures) (c.topic_named-instance.ensures a.disk.files) c.partitions-entries.ensures
     c.in_ok-put_string.ensures.ok c.in_ok-put_count.ensures.ok (told honest agree))
     c.put_partitions.ensures.told

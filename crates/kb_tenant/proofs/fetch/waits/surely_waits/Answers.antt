@@ -4,10 +4,10 @@ use Rattle.kb_tenant.proofs.fetch.waits.surely_waits.Goals as goal
 
 pub loop-topic-preserved : goal.loop-topic-preserved
 loop-topic-preserved g c = λ files agree.
-    topic_more (world_of g.L.PartitionLog.log c.args.parts.now files) c.args.request.now c.as_slice-topic-items.result.now
-    c.loop-topic.topic-index c.topic-item.result c.as_str.result.now c.topic_named-instance.result c.as_slice-entries.result.now
-    c.loop-topic.missing c.in-Some.left c.loop-topic.is_asked c.is_empty.result c.as_slice-topic-items.ensures c.loop-topic-test.true
-    c.topic-item.is c.as_str.ensures (c.topic_named-instance.ensures files) c.as_slice-entries.ensures c.is_empty.ensures
+    topic_more (world_of g.L.PartitionLog.log c.args.parts.now files) c.args.request.now c.topics-topic-items.result.now
+    c.loop-topic.topic-index c.topic-item.result c.name.result.now c.topic_named-instance.result c.partitions-entries.result.now
+    c.loop-topic.missing c.in-Some.left c.loop-topic.is_asked c.is_empty.result c.topics-topic-items.ensures c.loop-topic-test.true
+    c.topic-item.is c.name.ensures (c.topic_named-instance.ensures files) c.partitions-entries.ensures c.is_empty.ensures
     (c.in-Some.ensures files agree) (c.loop-topic.invariant files agree)
 
 pub returns : goal.returns
@@ -15,5 +15,5 @@ returns g c = λ files agree asked.
     let w = world_of g.L.PartitionLog.log c.args.parts.now files in
     unanswered_if w c.args.clock c.args.request.now c.args.deadline c.loop-topic.missing c.loop-topic.is_asked asked
     c.if-deadline-clock.false
-    (topics_over w c.args.request.now c.as_slice-topic-items.result.now c.loop-topic.topic-index c.loop-topic.missing c.loop-topic.is_asked
-    c.as_slice-topic-items.ensures c.loop-topic-test.false (c.loop-topic.invariant files agree))
+    (topics_over w c.args.request.now c.topics-topic-items.result.now c.loop-topic.topic-index c.loop-topic.missing c.loop-topic.is_asked
+    c.topics-topic-items.ensures c.loop-topic-test.false (c.loop-topic.invariant files agree))

@@ -39,7 +39,7 @@ returns-then-is_calm-clause-meets g c =
     let wait = c.args.wait.now in
     met_called g.L.PartitionLog.log g.S.Store.disk g.met.L.PartitionLog.lawful c.args.self.now c.args.tenant c.index_mut-one.result.now
     c.requires.tenant c.index_mut-one.ensures.value c.requires.invariant c.look-answer.new.parts c.count.new.parts (min (c.refusals-before.result + (c.failures.result - c.failures-failures.result)) END) c.index_mut-one.result.now.groups c.add_store.new.self c.look-answer.new.shelf c.count.ensures (called c.look-answer.ensures.step)
-    (λ k l. (l ≡ k) × IsAnswer wait.correlation_id (looked k.world c.args.clock wait.deadline wait.api_version wait.limit wait.body.now) c.look-answer.result)
+    (λ k l. (l ≡ k) × IsAnswer wait.correlation_id (looked k.world c.args.clock wait.deadline wait.fetch.now.version wait.fetch.now.limit wait.fetch.now.body) c.look-answer.result)
     (λ honest agree calm. let done = c.look-answer.ensures.meets honest agree calm in (ap (λ w. kept_in w c.index_mut-one.result.now.groups) done.0, done.1))
 
 pub returns-then-is_calm-clause-told : goal.returns-then-is_calm-clause-told
@@ -50,7 +50,7 @@ returns-then-is_calm-clause-told g c =
     let failed = FailedBy (disk c.args.self.now.shelf.store).failures (disk shelf.store).failures shelf.next in
     told_called g.L.PartitionLog.log disk g.met.L.PartitionLog.lawful c.args.self.now c.args.tenant c.index_mut-one.result.now
     c.requires.tenant c.index_mut-one.ensures.value c.requires.invariant c.look-answer.new.parts c.count.new.parts (min (c.refusals-before.result + (c.failures.result - c.failures-failures.result)) END) c.index_mut-one.result.now.groups c.add_store.new.self shelf c.count.ensures (called c.look-answer.ensures.step)
-    (λ w. AnswersLook failed wait.correlation_id wait.api_version wait.limit w c.args.clock wait.deadline wait.body.now c.look-answer.result)
+    (λ w. AnswersLook failed wait.correlation_id wait.fetch.now.version wait.fetch.now.limit w c.args.clock wait.deadline wait.fetch.now.body c.look-answer.result)
     c.look-answer.ensures.told
 
 pub returns-then-is_calm-clause-stays : goal.returns-then-is_calm-clause-stays
@@ -94,11 +94,11 @@ returns-else-is_calm-clause-told g c = λ honest.
     let shelf = c.look-answer.new.shelf in
     let failed = FailedBy (disk c.args.self.now.shelf.store).failures (disk shelf.store).failures shelf.next in
     let kept = kept_of (hosted g.L.PartitionLog.log disk c.args.self.now) c.args.tenant in
-    ended_told failed wait.correlation_id wait.api_version wait.limit kept.world c.args.clock wait.deadline wait.body.now c.look-answer.result
+    ended_told failed wait.correlation_id wait.fetch.now.version wait.fetch.now.limit kept.world c.args.clock wait.deadline wait.fetch.now.body c.look-answer.result
     c.ended.result c.ended.ensures.is
     (told_called g.L.PartitionLog.log disk g.met.L.PartitionLog.lawful c.args.self.now c.args.tenant c.index_mut-one.result.now
     c.requires.tenant c.index_mut-one.ensures.value c.requires.invariant c.look-answer.new.parts c.count.new.parts (min (c.refusals-before.result + (c.failures.result - c.failures-failures.result)) END) c.index_mut-one.result.now.groups c.add_store.new.self shelf c.count.ensures (called c.look-answer.ensures.step)
-    (λ w. AnswersLook failed wait.correlation_id wait.api_version wait.limit w c.args.clock wait.deadline wait.body.now c.look-answer.result)
+    (λ w. AnswersLook failed wait.correlation_id wait.fetch.now.version wait.fetch.now.limit w c.args.clock wait.deadline wait.fetch.now.body c.look-answer.result)
     c.look-answer.ensures.told honest)
 
 pub returns-else-is_calm-clause-stays : goal.returns-else-is_calm-clause-stays

@@ -2,8 +2,14 @@ pub mod Counted
 pub mod FileNames
 pub mod Known
 pub mod Logged
+pub mod Made
+pub mod Pushed
+pub mod ToldCounts
+pub mod ToldRefusal
+pub mod ToldRefused
 pub mod Seen
 pub mod Speaks
+pub mod Thirties
 pub mod Unlimited
 pub mod Visited
 pub mod Written

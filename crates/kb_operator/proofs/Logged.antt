@@ -1,16 +1,15 @@
 -- Lines, one after another.
-use Rattle.std.proofs.Common.{◌≡◌, ◌∙◌, ◌++◌, ◌<◌, ℕ, zero, suc, List, [], ◌∷◌, Option, Some, None, Result, Ok, Err, refl, sym, ap, subst, arith, decimal, append_assoc, append-nil}
+use Rattle.std.proofs.Common.{◌≡◌, ◌∙◌, ◌++◌, ◌<◌, ℕ, zero, suc, List, [], ◌∷◌, Option, Some, None, Result, Ok, Err, refl, sym, ap, arith, decimal, append_assoc, append-nil}
 use Rattle.std.specs.Prelude.{IfOk, string_bytes}
 use Rattle.std.specs.declared.string.String.{String}
 use Rattle.kb_operator.specs.Logged.{LogLine, text_in, Grows, IsText, AreLines, TellsBehind, TellsBare, TellsTexts}
-use Rattle.kb_operator.specs.Counted.{turned_away_line, turned_away_lines}
 use Rattle.kb_operator.specs.Logins.{more_lines}
 
-grows_none : (a : Option (List LogLine)) → Grows a a []
+pub grows_none : (a : Option (List LogLine)) → Grows a a []
 grows_none None = tt
 grows_none (Some xs) = sym (append-nil xs)
 
-grows_both : (a b c : Option (List LogLine)) (xs ys : List LogLine) → Grows a b xs → Grows b c ys → Grows a c (xs ++ ys)
+pub grows_both : (a b c : Option (List LogLine)) (xs ys : List LogLine) → Grows a b xs → Grows b c ys → Grows a c (xs ++ ys)
 grows_both None b c xs ys p q = tt
 grows_both (Some x) None c xs ys p q = absurd p
 grows_both (Some x) (Some y) None xs ys p q = absurd q
@@ -71,10 +70,3 @@ pub tells_more : {A E : Type 0} (now n : ℕ) (words : List ℕ) (r : Result (St
     → IfOk r (λ t. string_bytes t ≡ words ++ decimal n) → Grows a b (record { moment = Some now; text = text_in r } ∷ []) → TellsTexts now (more_lines words n) a b
 tells_more now zero words r a b l h g = absurd (omega arith)
 tells_more now (suc n) words r a b l h g = tells_one now (words ++ decimal (suc n)) r a b h g
-
--- how many connections were closed at once
-pub tells_turned_away : {A E : Type 0} (now n most : ℕ) (r : Result (String A) E) (a b : Option (List LogLine)) → 0 < n
-    → IfOk r (λ t. string_bytes t ≡ turned_away_line n most) → Grows a b (record { moment = Some now; text = text_in r } ∷ [])
-    → TellsTexts now (turned_away_lines n most) a b
-tells_turned_away now zero most r a b l h g = absurd (omega arith)
-tells_turned_away now (suc n) most r a b l h g = tells_one now (turned_away_line (suc n) most) r a b h g

@@ -15,6 +15,10 @@ with_line b =
     if has_room b then record { second = b.second; told = b.told + 1; more = b.more }
     else record { second = b.second; told = b.told; more = min (b.more + 1) (2 ^ 64 - 1) }
 
+-- so many more are passed over; their count stays at 2^64 - 1
+abbrev pub with_more : ℕ → Bucket → Bucket
+with_more n b = record b { more = min (b.more + n) (2 ^ 64 - 1) }
+
 -- what was passed over is told of once its second is over
 abbrev pub due_at : ℕ → Bucket → ℕ
 due_at second b = if second == b.second then 0 else b.more

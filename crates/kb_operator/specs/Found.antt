@@ -1,5 +1,5 @@
 -- What is told of what a start found in a folder: each text is a line of its own.
-use Rattle.std.specs.Prelude.{◌-◌, ◌++◌, ℕ, zero, suc, List, [], ◌∷◌, codes, decimal, map, take, length, nat_lt, if◌then◌else◌, Option, Some, None, string_bytes}
+use Rattle.std.specs.Prelude.{◌-◌, ◌++◌, ℕ, zero, suc, List, [], codes, decimal, map, take, length, nat_lt, if◌then◌else◌, Option, Some, None, string_bytes}
 use Rattle.std.specs.List.{flat_map}
 use Rattle.std.specs.declared.string.String.{String}
 use Rattle.kb_server_log.specs.Change.{change_at}

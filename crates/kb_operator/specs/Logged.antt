@@ -1,6 +1,7 @@
 -- What a log is told, line by line.
-use Rattle.std.specs.Prelude.{◌≡◌, ◌++◌, ℕ, List, [], ◌∷◌, Option, Some, None, Result, Ok, Err, string_bytes, option_map, IsSome}
+use Rattle.std.specs.Prelude.{◌≡◌, ◌≢◌, ◌++◌, ℕ, List, [], ◌∷◌, Option, Some, None, Result, Ok, Err, map, string_bytes, option_map, IsSome}
 use Rattle.std.specs.declared.string.String.{String}
+use Rattle.std.specs.declared.vec.Vec.{Vec}
 
 -- a line: the moment in front of it, if one stands there, and its text, or that there was no memory for it
 pub record LogLine : Type 0 where
@@ -11,6 +12,11 @@ pub record LogLine : Type 0 where
 abbrev pub text_in : {A E : Type 0} → Result (String A) E → Option (List ℕ)
 text_in (Ok text) = Some (string_bytes text)
 text_in (Err e) = None
+
+-- its bytes, and none where there was no memory for it
+abbrev pub bytes_or_none : {A E : Type 0} → Result (String A) E → List ℕ
+bytes_or_none (Ok text) = string_bytes text
+bytes_or_none (Err e) = []
 
 -- known lines grow by some
 abbrev pub Grows : Option (List LogLine) → Option (List LogLine) → List LogLine → Type 0
@@ -53,3 +59,16 @@ texts_of (Some text) = text ∷ []
 abbrev pub MakesText : {A E : Type 0} → Option (List ℕ) → Result (Option (String A)) E → Type 0
 MakesText wanted (Ok made) = option_map string_bytes made ≡ wanted
 MakesText wanted (Err e) = IsSome wanted
+
+-- the same of some texts, one behind the other
+abbrev pub MakesTexts : {A B E : Type 0} → List (List ℕ) → Result (Vec (String A) B) E → Type 0
+MakesTexts wanted (Ok made) = map (λ text. string_bytes text) made.items ≡ wanted
+MakesTexts wanted (Err e) = wanted ≢ []
+
+-- the lines of some texts at a moment, each whole
+abbrev pub lines_at : ℕ → List (List ℕ) → List LogLine
+lines_at now = map (λ text. record { moment = Some now; text = Some text })
+
+-- the line of a text for which there was no memory
+abbrev pub missed_at : ℕ → LogLine
+missed_at now = record { moment = Some now; text = None }

@@ -1,5 +1,5 @@
 -- What is told of logins, and of connections that were shut. No line has more of a user than his name and that of his tenant.
-use Rattle.std.specs.Prelude.{ℕ, zero, suc, List, [], ◌∷◌, ◌++◌, map, Bool, true, false, codes, decimal, Option, Some, None, string_bytes, slice_get, option_map, option_and_then, Result, Ok, Err, if◌then◌else◌}
+use Rattle.std.specs.Prelude.{ℕ, zero, suc, List, [], ◌∷◌, ◌++◌, ◌==◌, vec_len, map, Bool, true, false, codes, decimal, Option, Some, None, string_bytes, slice_get, option_map, option_and_then, Result, if◌then◌else◌}
 use Rattle.std.specs.declared.string.String.{String}
 use Rattle.std.specs.Char.{is_ascii_graphic}
 use Rattle.std.specs.Net.Text.{socket_text}
@@ -9,9 +9,9 @@ use Rattle.kb_operator.specs.declared.journal.Account.{Account}
 use Rattle.kb_operator.specs.declared.journal.Journal.{Journal}
 use Rattle.kb_operator.specs.declared.journal.Tenant.{Tenant}
 use Rattle.kb_operator.specs.Known.{KnownUser, known_account}
-use Rattle.kb_operator.specs.Logged.{LogLine}
+use Rattle.kb_operator.specs.Logged.{LogLine, bytes_or_none}
 use Rattle.kb_operator.specs.Speaks.{Speaks}
-use Rattle.kb_operator.specs.Bucket.{at_second, due_at, has_room, told_of, with_line}
+use Rattle.kb_operator.specs.Bucket.{at_second, due_at, has_room, told_of, with_line, with_more}
 
 -- a name as it is told, with a question mark for each byte that is no printable ASCII
 abbrev pub shown : List ℕ → List ℕ
@@ -71,10 +71,9 @@ known_at users place = option_map known_account (slice_get users place)
 abbrev pub name_at : List Tenant → Option ℕ → Option (List ℕ)
 name_at tenants place = option_map (λ t. string_bytes t.name) (option_and_then (slice_get tenants) place)
 
--- why a connection was shut; nothing is told of one for whose text there was no memory
-abbrev pub cause_text : {A E : Type 0} → Result (String A) E → List ℕ
-cause_text (Ok cause) = string_bytes cause
-cause_text (Err e) = []
+-- so many more logins were right; of users whose logins are not told they are not counted
+abbrev pub with_more_logins : {T : Type 0} → ℕ → Journal T → Journal T
+with_more_logins n j = if vec_len j.users == 0 then j else record j { logins = with_more n j.logins }
 
 -- ---- what each call tells and leaves
 
@@ -88,7 +87,11 @@ TellsFailed logged now second address name old new =
     Speaks logged now (lines_in (codes "login failed from others: ") (failed_line address name) second old.failed)
     (record old { failed = bucket_in second old.failed }) old new
 
-abbrev pub TellsShut : {T A E : Type 0} → (T → Option (List LogLine)) → ℕ → ℕ → SocketAddr → Option ℕ → Result (String A) E → Journal T → Journal T → Type 0
-TellsShut logged now second address place cause old new =
-    Speaks logged now (lines_in (codes "closed others: ") (shut_line address (name_at old.tenants.items place) (cause_text cause)) second old.shut)
+-- a connection that was shut, and why, in words
+abbrev pub TellsShutFor : {T : Type 0} → (T → Option (List LogLine)) → ℕ → ℕ → SocketAddr → Option ℕ → List ℕ → Journal T → Journal T → Type 0
+TellsShutFor logged now second address place cause old new =
+    Speaks logged now (lines_in (codes "closed others: ") (shut_line address (name_at old.tenants.items place) cause) second old.shut)
     (record old { shut = bucket_in second old.shut }) old new
+
+abbrev pub TellsShut : {T A E : Type 0} → (T → Option (List LogLine)) → ℕ → ℕ → SocketAddr → Option ℕ → Result (String A) E → Journal T → Journal T → Type 0
+TellsShut logged now second address place cause old new = TellsShutFor logged now second address place (bytes_or_none cause) old new

@@ -1,5 +1,5 @@
 -- What a call tells a journal's lines, and what it leaves.
-use Rattle.std.specs.Prelude.{◌≡◌, ℕ, List, Bool, true, false, Option}
+use Rattle.std.specs.Prelude.{◌≡◌, ℕ, List, true, false, Option}
 use Rattle.kb_operator.specs.declared.journal.Journal.{Journal}
 use Rattle.kb_operator.specs.Logged.{LogLine, TellsTexts}
 

@@ -1,14 +1,20 @@
 //! Addresses as text.
 
+ghost use Rattle.std.specs.Prelude.{◌≡◌, string_bytes, IfOk};
+ghost use Rattle.kb_operator.specs.Shown.{host_port};
+
 use crate::fault::{OperatorFault, behind_it};
+use crate::fits::colons;
 use crate::settings::{behind, cause_of};
 use std::alloc::{AllocError, Global};
 use std::io;
 use std::net::SocketAddr;
 
 /// `HOST:PORT`, with an IPv6 address in brackets.
-pub fn address_text(alloc: Global, host: &str, port: u16) -> Result<String, AllocError> {
-    if host.contains(':') {
+pub fn address_text(alloc: Global, host: &str, port: u16) -> Result<String, AllocError>
+    ensures { IfOk result (λ text. string_bytes text ≡ host_port (host.now, port)) }
+{
+    if colons(host.as_bytes()) > 0 {
         format!(in alloc; "[{host}]:{port}")
     } else {
         format!(in alloc; "{host}:{port}")

@@ -1,7 +1,7 @@
 //! Lines of one kind of which only so many are told in a second.
 
-ghost use Rattle.std.specs.Prelude.{◌≡◌, ◌+◌, ◌-◌, ◌^◌, min};
-ghost use Rattle.kb_operator.specs.Bucket.{at_second, due_at, has_room, told_of, with_line};
+ghost use Rattle.std.specs.Prelude.{◌≡◌};
+ghost use Rattle.kb_operator.specs.Bucket.{at_second, due_at, has_room, told_of, with_line, with_more};
 
 /// How many lines of a kind are told in a second at most.
 const MOST: u64 = 16;
@@ -38,7 +38,7 @@ impl Bucket {
 
     /// So many lines were passed over before they came here.
     pub(crate) fn pass(&mut self, more: u64)
-        ensures { self.new ≡ record self.old { more = min (self.old.more + more) (2 ^ 64 - 1) } }
+        ensures { self.new ≡ with_more more self.old }
     {
         self.more = self.more.saturating_add(more);
     }

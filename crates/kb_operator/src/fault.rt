@@ -1,5 +1,8 @@
 //! Why a program of a broker does not start.
 
+ghost use Rattle.std.specs.Prelude.{◌≡◌, string_bytes};
+ghost use Rattle.kb_operator.specs.Logged.{bytes_or_none};
+
 use std::alloc::{AllocError, Global};
 use thiserror::Error;
 
@@ -44,6 +47,8 @@ impl From<AllocError> for OperatorFault {
 }
 
 /// What stands behind a fault: nothing where there is no memory for it.
-pub fn behind_it(alloc: Global, text: Result<String, AllocError>) -> String {
+pub fn behind_it(alloc: Global, text: Result<String, AllocError>) -> String
+    ensures { string_bytes result ≡ bytes_or_none text }
+{
     text.unwrap_or(String::new(alloc))
 }

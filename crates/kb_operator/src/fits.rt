@@ -74,7 +74,7 @@ fn has_port(host: &str) -> bool
 }
 
 /// How many colons there are.
-fn colons(bytes: &[u8]) -> usize
+pub(crate) fn colons(bytes: &[u8]) -> usize
     ensures { result ≡ colons bytes.now }
 {
     let mut count = 0;

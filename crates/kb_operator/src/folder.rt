@@ -1,6 +1,7 @@
 //! The data folder.
 
-ghost use Rattle.std.specs.Prelude.{◌≡◌, IfOk};
+ghost use Rattle.std.specs.Prelude.{◌≡◌, string_bytes, IfErr, IfOk};
+ghost use Rattle.kb_operator.specs.Stopped.{IsFolderFault};
 
 use crate::fault::OperatorFault;
 use crate::refused::FolderJournal;
@@ -149,15 +150,16 @@ pub fn is_folder(rt: &HostRuntime, path: &str) -> bool {
 }
 
 /// The store of the files in a journal's folder that is there, to be read alone.
-pub fn store_to_read(
-    rt: &HostRuntime,
-    journal: &FolderJournal,
-) -> Result<DataStore, OperatorFault> {
+pub fn store_to_read(rt: &HostRuntime, journal: &FolderJournal) -> Result<DataStore, OperatorFault>
+    ensures { IfErr result (IsFolderFault (string_bytes journal.now.folder)) }
+{
     store_of(rt, journal, HostFolder::to_read(*rt, journal.folder()))
 }
 
 /// The store of the files in a journal's folder.
-pub fn store_in(rt: &HostRuntime, journal: &FolderJournal) -> Result<DataStore, OperatorFault> {
+pub fn store_in(rt: &HostRuntime, journal: &FolderJournal) -> Result<DataStore, OperatorFault>
+    ensures { IfErr result (IsFolderFault (string_bytes journal.now.folder)) }
+{
     store_of(rt, journal, HostFolder::new(*rt, journal.folder()))
 }
 
@@ -167,7 +169,9 @@ pub fn store_to_serve(
     rt: &HostRuntime,
     journal: &FolderJournal,
     syncs: bool,
-) -> Result<DataStore, OperatorFault> {
+) -> Result<DataStore, OperatorFault>
+    ensures { IfErr result (IsFolderFault (string_bytes journal.now.folder)) }
+{
     let refusals = journal.refusals().share()?;
     store_of(
         rt,
@@ -194,7 +198,9 @@ fn store_of(
     rt: &HostRuntime,
     journal: &FolderJournal,
     folder: Result<HostFolder<HostRuntime>, FolderFault>,
-) -> Result<DataStore, OperatorFault> {
+) -> Result<DataStore, OperatorFault>
+    ensures { IfErr result (IsFolderFault (string_bytes journal.now.folder)) }
+{
     let alloc = rt.alloc();
     let folder = match folder {
         Ok(folder) => folder.noting(journal.refusals().share()?),

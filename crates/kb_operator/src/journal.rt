@@ -2,16 +2,18 @@
 
 ghost use Rattle.std.specs.Prelude.{◌≡◌, ◌≤◌, ◌∷◌, [], codes, map, string_bytes, IfOk};
 ghost use Rattle.kb_wire.specs.declared.clock.TheConstants.{MAX_CLOCK};
-ghost use Rattle.kb_operator.specs.Counted.{turned_away_line, turned_away_lines};
+ghost use Rattle.kb_operator.specs.Counted.{turned_away_line};
 ghost use Rattle.kb_operator.specs.Events.{commit_lines, lost_ids_line, notice_text, passed_over, passed_over_lines, turn_lines};
 ghost use Rattle.kb_operator.specs.Known.{known_account, known_user, known_users};
-ghost use Rattle.kb_operator.specs.Logged.{TellsTexts};
+ghost use Rattle.kb_operator.specs.Refused.{MayTellCounts, TellsTurnedAway};
 ghost use Rattle.kb_operator.specs.Speaks.{Announces, Speaks};
 
 mod found;
 mod logins;
+mod parts;
 mod refusals;
 mod shut;
+mod sockets;
 mod unread;
 
 use crate::bucket::Bucket;
@@ -82,9 +84,6 @@ pub struct Closed {
     pub slow: u64,
 }
 
-/// How many tenants stand in a line at most: it stays below 4,096 bytes, with names of 64.
-const TENANTS: usize = 30;
-
 /// A turn is told that took longer, with its commit or without one, in milliseconds.
 const LONG_TURN: u64 = 1000;
 
@@ -92,7 +91,7 @@ const LONG_TURN: u64 = 1000;
 #[derive(Drop)]
 pub struct Journal<T = Lines> {
     is_quiet: bool,
-    lines: T,
+    pub(crate) lines: T,
     connections: u32,
     sync: Sync,
     tenants: Vec<Tenant>,
@@ -215,14 +214,6 @@ impl<T: LineLog> Journal<T> {
         self.tell_more_shut(alloc, now, second);
     }
 
-    /// So many more sockets were closed that kept silent. They are told with the other counts.
-    pub fn count_closed(&mut self, closed: Closed) {
-        self.closed.strangers = self.closed.strangers.saturating_add(closed.strangers);
-        self.closed.unread = self.closed.unread.saturating_add(closed.unread);
-        self.closed.idle = self.closed.idle.saturating_add(closed.idle);
-        self.closed.slow = self.closed.slow.saturating_add(closed.slow);
-    }
-
     /// What is counted, at most once a second, at a moment of at most 2^62: so many sockets were closed at once since it was told last.
     pub fn tell_counts<B: RefusalCounts>(
         &mut self,
@@ -233,39 +224,32 @@ impl<T: LineLog> Journal<T> {
         broker: &B,
     )
         requires { moment ≤ MAX_CLOCK }
+        ensures { MayTellCounts T.logged now moment turned_away (B.counts broker.now) self.old self.new }
     {
         self.turned_away = self.turned_away.saturating_add(turned_away);
-        if !self.is_quiet && self.pace.is_due(moment) {
-            self.lines.catch_up(now);
-            self.tell_turned_away(alloc, now);
-            self.tell_closed(alloc, now, broker);
-            self.tell_unread(alloc, now, broker);
-            self.tell_refusals(alloc, now, broker);
+        if self.is_quiet || !self.pace.is_due(moment) {
+            return;
         }
+        self.lines.catch_up(now);
+        self.tell_turned_away(alloc, now);
+        self.tell_closed(alloc, now, broker);
+        self.tell_unread(alloc, now, broker);
+        self.tell_refusals(alloc, now, broker);
     }
 
-    /// How many connections were closed at once since the last line.
+    /// How many connections were closed at once since the last line. Without memory for it they wait for a later one.
     fn tell_turned_away(&mut self, alloc: Global, now: u64)
-        ensures told { TellsTexts now (turned_away_lines self.old.turned_away self.old.connections)
-            (T.logged self.old.lines) (T.logged self.new.lines) }
-        ensures others { self.new ≡ record self.old { turned_away = 0; lines = self.new.lines } }
+        ensures { TellsTurnedAway T.logged now self.old self.new }
     {
         if self.turned_away == 0 {
             return;
         }
-        let text = turned_away_text(alloc, self.turned_away, self.connections);
-        self.lines.tell(now, text);
-        self.turned_away = 0;
-    }
-
-    /// How many connections were closed since the last line: of tenants that may have no more, and of those that kept silent.
-    fn tell_closed<B: RefusalCounts>(&mut self, alloc: Global, now: u64, broker: &B) {
-        for tenants in self.tenants.chunks_mut(TENANTS) {
-            let text = closed_text(alloc, tenants, broker, self.closed);
-            if let Some(text) = text.transpose() {
-                self.lines.tell(now, text);
-                self.closed = Closed::default();
+        match turned_away_text(alloc, self.turned_away, self.connections) {
+            Ok(text) => {
+                self.lines.tell(now, Ok(text));
+                self.turned_away = 0;
             }
+            Err(e) => self.lines.tell(now, Err(e)),
         }
     }
 }
@@ -275,39 +259,6 @@ fn turned_away_text(alloc: Global, count: u64, most: u32) -> Result<String, Allo
     ensures { IfOk result (λ text. string_bytes text ≡ turned_away_line count most) }
 {
     format!(in alloc; "connections closed at once: {count}, since {most} are open")
-}
-
-/// How many sockets of some tenants were closed since the last line, and how many that kept silent, by what they did: none where no socket
-/// was.
-fn closed_text<B: RefusalCounts>(
-    alloc: Global,
-    tenants: &mut [Tenant],
-    broker: &B,
-    closed: Closed,
-) -> Result<Option<String>, AllocError> {
-    let mut counts = String::new(alloc);
-    for tenant in tenants {
-        let closed = broker.sockets_of_tenant(tenant.place);
-        let grown = tenant.sockets.grown(closed);
-        if grown > 0 {
-            let (name, most) = (tenant.name.as_str(), tenant.connections);
-            counts.push_str(&format!(in alloc; "{grown} of tenant {name} over its {most}, ")?)?;
-        }
-    }
-    if closed == Closed::default() && counts.is_empty() {
-        return Ok(None);
-    }
-    let Closed {
-        strangers,
-        unread,
-        idle,
-        slow,
-    } = closed;
-    let silent = format!(in alloc; "{strangers} before a login, {unread} that did not read")?;
-    let text = format!(in alloc;
-        "connections closed: {counts}{silent}, {idle} that were idle, {slow} whose request took too long"
-    )?;
-    Ok(Some(text))
 }
 
 /// The users' tenants, in byte order, each once.

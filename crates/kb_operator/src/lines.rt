@@ -1,8 +1,9 @@
 //! Lines on standard error that wait for no reader.
 
-ghost use Rattle.std.specs.Prelude.{◌++◌, ℕ, List, Option, Some, None, [], ◌∷◌};
+ghost use Rattle.std.specs.Prelude.{◌≡◌, ◌++◌, ℕ, List, Option, Some, None, [], ◌∷◌, IsSome, OnErr, OnOk};
 ghost use Rattle.kb_operator.specs.Found.{count_text};
-ghost use Rattle.kb_operator.specs.Logged.{Grows, MakesText, TellsBare, TellsTexts, text_in, texts_of};
+ghost use Rattle.kb_operator.specs.Logged.{Grows, MakesText, TellsBare, TellsTexts, lines_at, text_in, texts_of};
+ghost use Rattle.kb_operator.specs.Report.{bytes_of_each};
 
 use kb_server_log::{Missed, Sink, time_text};
 use mio::unix::SourceFd;
@@ -46,6 +47,30 @@ pub(crate) fn tell_if<T: LineLog>(now: u64, text: Result<Option<String>, AllocEr
         Ok(None) => {}
         Err(e) => lines.tell(now, Err(e)),
     }
+}
+
+/// Tells each of these texts.
+pub(crate) fn tell_each<T: LineLog>(now: u64, texts: Vec<String>, lines: &mut T)
+    ensures { Grows (T.logged lines.old) (T.logged lines.new) (lines_at now (bytes_of_each texts.items)) }
+{
+    for text in texts {
+        lines.tell(now, Ok(text));
+    }
+}
+
+/// Adds a text, if there is one. Memory runs out only where there is.
+pub(crate) fn push_if(
+    texts: &mut Vec<String>,
+    made: Result<Option<String>, AllocError>,
+) -> Result<(), AllocError>
+    ensures ok { OnOk result ((wanted : Option (List ℕ)) → MakesText wanted made
+        → bytes_of_each texts.new.items ≡ bytes_of_each texts.old.items ++ texts_of wanted) }
+    ensures err { OnErr result ((wanted : Option (List ℕ)) → MakesText wanted made → IsSome wanted) }
+{
+    if let Some(text) = made? {
+        texts.push(text)?;
+    }
+    Ok(())
 }
 
 /// Tells a text without a moment, if there is one.

@@ -1,11 +1,13 @@
 //! Whether a start on a data folder goes on.
 
-ghost use Rattle.std.specs.Prelude.{◌≡◌, ℕ, map, take, None, IfOk, IfErr};
+ghost use Rattle.std.specs.Prelude.{◌≡◌, ℕ, map, take, None, Some, IfOk, IfErr};
+ghost use Rattle.kb_start.specs.declared.verdict.Cause.{Cause};
 ghost use Rattle.kb_start.specs.Verdict as start;
 ghost use Rattle.kb_store.specs.Disk.{Keeps};
 ghost use Rattle.kb_operator.specs.Logged.{TellsBare};
 ghost use Rattle.kb_operator.specs.Report.{Opening, damage_lines, kept_if, kept_parts, loss_lines, opening_lines, opening_of};
 ghost use Rattle.kb_operator.specs.Speaks.{Announces};
+ghost use Rattle.kb_operator.specs.Stopped.{IsRefusedFor};
 ghost use Rattle.kb_operator.specs.Texts.{loss_line};
 
 use crate::dropped::DroppedParts;
@@ -48,7 +50,13 @@ pub fn examine<T: LineLog>(
         Err(fault) => return Err(folder.of_store(alloc, fault)),
     };
     if let Err(fault) = go_on(alloc, folder.folder(), consent, &surveyed) {
-        tell_damage(alloc, folder.folder(), consent, &surveyed, journal.lines());
+        tell_damage(
+            alloc,
+            folder.folder(),
+            consent,
+            &surveyed,
+            &mut journal.lines,
+        );
         return Err(fault);
     }
     let mut aside = match files_in_way(alloc, &mut store, opened) {
@@ -199,7 +207,8 @@ pub(crate) fn go_on(
     surveyed: &Surveyed,
 ) -> Result<(), OperatorFault>
     ensures ok { IfOk result (λ _. start.why_refused consent surveyed.now ≡ None) }
-    ensures err { IfErr result (λ _. start.why_refused consent surveyed.now ≡ None → ⊥) }
+    ensures err { IfErr result (λ fault. (cause : Cause) × (start.why_refused consent surveyed.now ≡ Some cause)
+        × IsRefusedFor path.now cause surveyed.now fault) }
 {
     match why_refused(consent, surveyed) {
         None => Ok(()),
@@ -209,7 +218,10 @@ pub(crate) fn go_on(
 }
 
 /// The fault of a start that is refused.
-fn refused(text: Result<String, AllocError>) -> OperatorFault {
+fn refused(text: Result<String, AllocError>) -> OperatorFault
+    ensures ok { IfOk text (λ it. result ≡ OperatorFault.System it) }
+    ensures memory { IfErr text (λ _. result ≡ OperatorFault.Memory) }
+{
     match text {
         Ok(text) => OperatorFault::System(text),
         Err(_) => OperatorFault::Memory,

@@ -15,7 +15,7 @@ use std::alloc::{AllocError, Global};
 use std::collections::BTreeMap;
 
 /// The path of a file of the folder at a path.
-fn path_of(alloc: Global, folder: &str, file: u64) -> Result<String, AllocError>
+pub(crate) fn path_of(alloc: Global, folder: &str, file: u64) -> Result<String, AllocError>
     ensures { IfOk result (λ text. string_bytes text ≡ path_of folder.now file) }
 {
     let name = name_of(alloc, file)?;

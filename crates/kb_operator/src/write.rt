@@ -13,7 +13,16 @@ pub(crate) fn write_text<W: Write>(writer: &mut W, text: &str) -> Result<(), Ope
     ensures err { OnErr result (WritesFront text.now (W.contents writer.old) (W.contents writer.new)) }
     ensures fault { IfErr result (λ fault. fault ≡ OperatorFault.Write) }
 {
-    let mut rest = text.as_bytes();
+    write_bytes(writer, text.as_bytes())
+}
+
+/// Writes bytes. After a fault some front of them has been written.
+pub(crate) fn write_bytes<W: Write>(writer: &mut W, bytes: &[u8]) -> Result<(), OperatorFault>
+    ensures ok { OnOk result (Appends (W.contents writer.old) (W.contents writer.new) bytes.now) }
+    ensures err { OnErr result (WritesFront bytes.now (W.contents writer.old) (W.contents writer.new)) }
+    ensures fault { IfErr result (λ fault. fault ≡ OperatorFault.Write) }
+{
+    let mut rest = bytes;
     for _ in 0..u64::MAX {
         if rest.is_empty() {
             return Ok(());

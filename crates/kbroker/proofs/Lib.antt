@@ -3,6 +3,8 @@ mod Gathered
 mod Named
 mod Noted
 mod Opened
+mod Reported
 mod Scripts
 mod Told
 mod Turned
+mod Why

@@ -1,4 +1,5 @@
 pub mod Causes
+pub mod Counted
 pub mod Dumped
 pub mod Ended
 pub mod Found
@@ -7,9 +8,11 @@ pub mod Lines
 pub mod Observed
 pub mod Pages
 pub mod Refusals
+pub mod Reported
 pub mod Scripts
 pub mod Server
 pub mod Shortened
+pub mod Shut
 pub mod Telling
 pub mod Turned
 pub mod Unread

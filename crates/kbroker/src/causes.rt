@@ -1,5 +1,8 @@
 //! Why a connection was shut, as it is told.
 
+ghost use Rattle.std.specs.Prelude.{◌≡◌, IfOk, option_map, string_bytes};
+ghost use Rattle.kbroker.specs.Shut.{api_name, api_text, shut_words};
+
 use kb_isolation_spec::Shut;
 use std::alloc::{AllocError, Global};
 
@@ -57,7 +60,9 @@ const NAMES: [&str; 48] = [
 
 /// Why a connection was shut on which no request of more than `request_bytes` is read, in words. They depend on nothing else but the
 /// cause.
-pub fn text_of(alloc: Global, cause: Shut, request_bytes: u32) -> Result<String, AllocError> {
+pub fn text_of(alloc: Global, cause: Shut, request_bytes: u32) -> Result<String, AllocError>
+    ensures { IfOk result (λ text. string_bytes text ≡ shut_words cause request_bytes) }
+{
     match cause {
         Shut::TooShort => String::from_str(alloc, "a request is too short for its header"),
         Shut::TooLong => format!(in alloc; "a request is longer than {request_bytes} bytes"),
@@ -91,11 +96,21 @@ pub fn text_of(alloc: Global, cause: Shut, request_bytes: u32) -> Result<String,
 }
 
 /// The name of an API, or its key where it has none here.
-fn name_of(alloc: Global, api_key: i16) -> Result<String, AllocError> {
-    if let Ok(place) = usize::try_from(api_key)
-        && let Some(name) = NAMES.get(place)
-    {
-        return String::from_str(alloc, name);
+fn name_of(alloc: Global, api_key: i16) -> Result<String, AllocError>
+    ensures { IfOk result (λ text. string_bytes text ≡ api_text api_key) }
+{
+    match name_at(api_key) {
+        Some(name) => String::from_str(alloc, name),
+        None => format!(in alloc; "API {api_key}"),
     }
-    format!(in alloc; "API {api_key}")
+}
+
+/// The name of an API that has one here.
+fn name_at(api_key: i16) -> Option<&'static str>
+    ensures { option_map (λ name. name.now) result ≡ api_name api_key }
+{
+    match usize::try_from(api_key) {
+        Ok(place) => NAMES.get(place).copied(),
+        Err(_) => None,
+    }
 }

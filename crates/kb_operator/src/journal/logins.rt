@@ -1,10 +1,10 @@
 //! Logins, as they are told: of each second the first 16 that were right and the first 16 that failed, and then how many more there were.
 
 ghost use Rattle.std.specs.Prelude.{◌≡◌, codes, string_bytes, IfOk};
-ghost use Rattle.kb_operator.specs.Bucket.{told_of};
+ghost use Rattle.kb_operator.specs.Bucket.{told_of, with_more};
 ghost use Rattle.kb_operator.specs.Known.{known_account};
 ghost use Rattle.kb_operator.specs.Logged.{TellsTexts};
-ghost use Rattle.kb_operator.specs.Logins.{due_lines, failed_line, login_line, shown, TellsFailed, TellsLogin};
+ghost use Rattle.kb_operator.specs.Logins.{due_lines, failed_line, login_line, shown, with_more_logins, TellsFailed, TellsLogin};
 
 use crate::bucket::Bucket;
 use crate::journal::{Account, Journal};
@@ -38,7 +38,9 @@ impl<T: LineLog> Journal<T> {
     }
 
     /// So many logins were right beside those. They are told of when their second is over.
-    pub fn count_logins(&mut self, more: u64) {
+    pub fn count_logins(&mut self, more: u64)
+        ensures { self.new ≡ with_more_logins more self.old }
+    {
         if !self.users.is_empty() {
             self.logins.pass(more);
         }
@@ -66,7 +68,9 @@ impl<T: LineLog> Journal<T> {
     }
 
     /// So many logins failed beside those. They are told of when their second is over.
-    pub fn count_failed(&mut self, more: u64) {
+    pub fn count_failed(&mut self, more: u64)
+        ensures { self.new ≡ record self.old { failed = with_more more self.old.failed } }
+    {
         self.failed.pass(more);
     }
 

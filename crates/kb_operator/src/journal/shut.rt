@@ -1,9 +1,9 @@
 //! Connections that the broker shut, as they are told: of each second the first 16, and then how many more there were.
 
 ghost use Rattle.std.specs.Prelude.{◌≡◌, codes, option_map, string_bytes, IfOk};
-ghost use Rattle.kb_operator.specs.Bucket.{told_of};
-ghost use Rattle.kb_operator.specs.Logged.{TellsTexts};
-ghost use Rattle.kb_operator.specs.Logins.{cause_text, due_lines, name_at, shut_line, TellsShut};
+ghost use Rattle.kb_operator.specs.Bucket.{told_of, with_more};
+ghost use Rattle.kb_operator.specs.Logged.{TellsTexts, bytes_or_none};
+ghost use Rattle.kb_operator.specs.Logins.{due_lines, name_at, shut_line, TellsShut};
 
 use crate::journal::logins::tell_more;
 use crate::journal::{Journal, Tenant};
@@ -36,7 +36,9 @@ impl<T: LineLog> Journal<T> {
     }
 
     /// So many connections were shut beside those. They are told of when their second is over.
-    pub fn count_shut(&mut self, more: u64) {
+    pub fn count_shut(&mut self, more: u64)
+        ensures { self.new ≡ record self.old { shut = with_more more self.old.shut } }
+    {
         self.shut.pass(more);
     }
 
@@ -66,7 +68,8 @@ fn shut_text(
     tenant: Option<&str>,
     cause: Result<String, AllocError>,
 ) -> Result<String, AllocError>
-    ensures { IfOk result (λ line. string_bytes line ≡ shut_line address (option_map (λ name. name.now) tenant.entry) (cause_text cause)) }
+    ensures { IfOk result (λ line. string_bytes line
+        ≡ shut_line address (option_map (λ name. name.now) tenant.entry) (bytes_or_none cause)) }
 {
     let cause = cause?;
     match tenant {

@@ -1,63 +1,76 @@
 //! Tenants that wait for those that read their replies, as they are told.
 
-ghost use Rattle.std.specs.Prelude.{◌≡◌, false, true, map, string_bytes, IfOk};
-ghost use Rattle.kb_operator.specs.Logged.{TellsTexts, MakesText};
+ghost use Rattle.std.specs.Prelude.{◌≡◌, map, string_bytes, IfOk};
+ghost use Rattle.kb_operator.specs.Logged.{MakesText, MakesTexts};
+ghost use Rattle.kb_operator.specs.Refused.{TellsUnread};
 ghost use Rattle.kb_operator.specs.Unread.{with_unread, unread_text, unread_texts, waits_line};
 
 use crate::counts::RefusalCounts;
 use crate::journal::{Journal, Tenant};
-use crate::lines::{LineLog, tell_if};
+use crate::lines::{LineLog, push_if, tell_each};
 use std::alloc::{AllocError, Global};
 
 impl<T: LineLog> Journal<T> {
-    /// Which tenants waited since the last line for those that read their replies: a line for each.
+    /// Which tenants waited since the last line for those that read their replies: a line for each. Without memory for them they wait for
+    /// a later moment.
     pub(super) fn tell_unread<B: RefusalCounts>(&mut self, alloc: Global, now: u64, broker: &B)
-        ensures quiet { self.old.is_quiet ≡ true → self.new ≡ self.old }
-        ensures lines { self.old.is_quiet ≡ false
-            → TellsTexts now (unread_texts (B.unread broker.now) self.old.tenants.items)
-            (T.logged self.old.lines) (T.logged self.new.lines) }
-        ensures told { self.old.is_quiet ≡ false
-            → self.new.tenants.items ≡ map (with_unread (B.unread broker.now)) self.old.tenants.items }
-        ensures others { self.new ≡ record self.old { tenants = self.new.tenants; lines = self.new.lines } }
+        ensures { TellsUnread T.logged now (B.counts broker.now).unread self.old self.new }
     {
-        if self.is_quiet {
-            return;
+        match unread_texts(alloc, &self.tenants, broker) {
+            Ok(texts) => {
+                tell_each(now, texts, &mut self.lines);
+                count_as_told(&mut self.tenants, broker);
+            }
+            Err(e) => self.lines.tell(now, Err(e)),
         }
-        tell_each(alloc, now, &mut self.tenants, broker, &mut self.lines);
     }
 }
 
-/// Tells the line of each of these tenants that has one.
-fn tell_each<B: RefusalCounts, T: LineLog>(
+/// The text of each of these tenants that has one.
+fn unread_texts<B: RefusalCounts>(
     alloc: Global,
-    now: u64,
-    tenants: &mut [Tenant],
+    tenants: &[Tenant],
     broker: &B,
-    lines: &mut T,
-)
-    ensures lines { TellsTexts now (unread_texts (B.unread broker.now) tenants.old) (T.logged lines.old) (T.logged lines.new) }
-    ensures told { tenants.new ≡ map (with_unread (B.unread broker.now)) tenants.old }
+) -> Result<Vec<String>, AllocError>
+    ensures { MakesTexts (unread_texts (B.counts broker.now).unread tenants.now) result }
 {
-    for tenant in tenants.iter_mut() {
-        tell_if(now, unread_text(alloc, tenant, broker), lines);
+    let mut texts = Vec::new(alloc);
+    for tenant in tenants {
+        push_if(&mut texts, unread_text(alloc, tenant, broker))?;
     }
+    Ok(texts)
 }
 
-/// The line of a tenant that waited since the last one: none where it did not. What it waited counts as told then.
+/// The text of a tenant that waited since the last one: none where it did not.
 fn unread_text<B: RefusalCounts>(
     alloc: Global,
-    tenant: &mut Tenant,
+    tenant: &Tenant,
     broker: &B,
 ) -> Result<Option<String>, AllocError>
-    ensures text { MakesText (unread_text (B.unread broker.now tenant.old.place) tenant.old) result }
-    ensures told { tenant.new ≡ with_unread (B.unread broker.now) tenant.old }
+    ensures { MakesText (unread_text ((B.counts broker.now).unread tenant.now.place) tenant.now) result }
 {
     let unread = broker.unread_of_tenant(tenant.place);
-    if tenant.waits.grown(unread.waits) == 0 {
+    if unread.waits <= tenant.waits.told {
         return Ok(None);
     }
     let line = waits_line(alloc, &tenant.name, unread.bytes)?;
     Ok(Some(line))
+}
+
+/// The waits of these tenants are told of.
+fn count_as_told<B: RefusalCounts>(tenants: &mut [Tenant], broker: &B)
+    ensures { tenants.new ≡ map (with_unread (B.counts broker.now).unread) tenants.old }
+{
+    for tenant in tenants.iter_mut() {
+        note_waits(tenant, broker);
+    }
+}
+
+/// The waits of a tenant are told of.
+fn note_waits<B: RefusalCounts>(tenant: &mut Tenant, broker: &B)
+    ensures { tenant.new ≡ with_unread (B.counts broker.now).unread tenant.old }
+{
+    tenant.waits.told = broker.unread_of_tenant(tenant.place).waits;
 }
 
 /// The line of the tenant of a name, of whose replies so many bytes are not read.

@@ -1,6 +1,7 @@
 use Rattle.std.proofs.Common.{◌≡◌, ◌∙◌, ap, subst}
 use Rattle.std.specs.Prelude.{IfOk, string_bytes}
-use Rattle.kb_operator.specs.Logins.{cause_text, name_at, shut_line}
+use Rattle.kb_operator.specs.Logged.{bytes_or_none}
+use Rattle.kb_operator.specs.Logins.{name_at, shut_line}
 use Rattle.kb_operator.specs.declared.journal.Journal.{Journal}
 use Rattle.kb_operator.proofs.Speaks.{speaks_shut}
 use Rattle.kb_operator.proofs.journal.Journal.tell_shut.Goals as goal
@@ -8,7 +9,7 @@ use Rattle.kb_operator.proofs.journal.Journal.tell_shut.Goals as goal
 pub returns : goal.returns
 returns g c =
     let old = c.args.self.now in
-    let cause = cause_text c.args.cause in
+    let cause = bytes_or_none c.args.cause in
     let others = c.tell_more_shut.ensures.others in
     let line = shut_line c.args.address (name_at old.tenants.items c.args.tenant) cause in
     let named = c.name_at.ensures

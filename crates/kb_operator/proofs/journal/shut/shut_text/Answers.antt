@@ -1,7 +1,8 @@
 use Rattle.std.proofs.Common.{◌≡◌, ◌∙◌, ◌++◌, ℕ, List, Bor, ap, append_assoc, codes, subst, sym}
 use Rattle.std.specs.Prelude.{IfOk, option_map, string_bytes}
 use Rattle.std.specs.Net.Text.{socket_text}
-use Rattle.kb_operator.specs.Logins.{cause_text, shut_line}
+use Rattle.kb_operator.specs.Logged.{bytes_or_none}
+use Rattle.kb_operator.specs.Logins.{shut_line}
 use Rattle.kb_operator.proofs.journal.shut.shut_text.Goals as goal
 
 -- the words of the line of a tenant, one behind the other
@@ -19,7 +20,7 @@ returns-in-Some c =
     let address = socket_text c.args.address in
     let line = words address c.in-Some.name.now (string_bytes c.in_ok-cause.cause)
     ∙ ap (λ t. shut_line c.args.address (option_map (λ (name : Bor (List ℕ)). name.now) t) (string_bytes c.in_ok-cause.cause)) (sym c.in-Some.is)
-    ∙ ap (λ r. shut_line c.args.address (option_map (λ (name : Bor (List ℕ)). name.now) c.args.tenant) (cause_text r)) (sym c.in_ok-cause.was) in
+    ∙ ap (λ r. shut_line c.args.address (option_map (λ (name : Bor (List ℕ)). name.now) c.args.tenant) (bytes_or_none r)) (sym c.in_ok-cause.was) in
     subst (λ text. IfOk c.format.result (λ it. string_bytes it ≡ text)) line c.format.ensures.ok
 
 pub returns : goal.returns
@@ -27,5 +28,5 @@ returns c =
     let address = socket_text c.args.address in
     let line = few_words address (string_bytes c.in_ok-cause.cause)
     ∙ ap (λ t. shut_line c.args.address (option_map (λ (name : Bor (List ℕ)). name.now) t) (string_bytes c.in_ok-cause.cause)) (sym c.in-None.is)
-    ∙ ap (λ r. shut_line c.args.address (option_map (λ (name : Bor (List ℕ)). name.now) c.args.tenant) (cause_text r)) (sym c.in_ok-cause.was) in
+    ∙ ap (λ r. shut_line c.args.address (option_map (λ (name : Bor (List ℕ)). name.now) c.args.tenant) (bytes_or_none r)) (sym c.in_ok-cause.was) in
     subst (λ text. IfOk c.format-in-None.result (λ it. string_bytes it ≡ text)) line c.format-in-None.ensures.ok

@@ -1,0 +1,8 @@
+use Rattle.std.proofs.Common.{◌≡◌, ◌++◌, drop, map, take}
+use Rattle.kb_operator.specs.Refused.{with_closed}
+use Rattle.kb_operator.proofs.journal.sockets.count_as_told.Given as goal
+
+-- the tenants so far are told of
+abbrev pub invariant-loop-tenant : goal.invariant-loop-tenant
+invariant-loop-tenant g l =
+    l.tenants ≡ map (with_closed (g.B.RefusalCounts.counts l.broker).closed) (take l.tenant-index l.fn.tenants) ++ drop l.tenant-index l.fn.tenants

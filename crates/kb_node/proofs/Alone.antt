@@ -1,18 +1,21 @@
 -- What becomes of sockets where that of one connection changes alone.
-use Rattle.std.proofs.Common.{◌≡◌, ◌≢◌, ◌<◌, ◌+◌, ◌-◌, ◌∙◌, ◌⊎◌, ℕ, zero, suc, List, [], ◌∷◌, ◌++◌, map, length, drop, nat_eq, Bool, true, false, cond, Option, None, Some, option_map, slice_get, slice_index_or, slice_set, vec_len, ap, refl, sym, subst, arith}
+use Rattle.std.proofs.Common.{◌≡◌, ◌≢◌, ◌<◌, ◌+◌, ◌-◌, ◌∙◌, ◌⊎◌, ℕ, zero, suc, List, [], ◌∷◌, ◌++◌, map, length, drop, nat_eq, Bool, true, false, cond, Option, None, Some, IfSome, option_map, slice_get, slice_index_or, slice_set, vec_len, ap, refl, sym, subst, arith}
+use Rattle.std.specs.List.{remove}
 use Rattle.std.specs.declared.alloc.Global.{Global}
 use Rattle.std.specs.declared.vec.Vec.{Vec}
 use Rattle.std.proofs.lemmas.List.{length-append, length-drop}
+use Rattle.std.proofs.lemmas.Option.{slice_get-get_or}
 use Rattle.kb_node.specs.declared.socket.Socket.{Socket}
 use Rattle.kb_node.specs.Carries.{unwritten_of}
-use Rattle.kb_node.specs.Closing.{ChangesAlone, IsBegunAt, IsClosed, IsGone, TookSome}
+use Rattle.kb_node.specs.Closing.{ChangesAlone, IsBegunAt, IsClosed, IsGone, IsRemoved, IsRoomMade, LeavesIfClosed, TookSome}
 use Rattle.kb_node.specs.Commits.{Host}
 use Rattle.kb_node.specs.Cores.{Core, core, cores, seen}
+use Rattle.kb_node.specs.Moves.{IsJoined}
 use Rattle.kb_node.specs.Numbers.{IsInOrder, socket_of}
 use Rattle.kb_node.specs.Streams.{core_of, is_closed_in}
 use Rattle.kb_node.specs.Waiting.{socket_at}
 use Rattle.kb_node.proofs.Cores.{held_at, item_at, set_at}
-use Rattle.kb_node.proofs.Numbers.{find_here, find_is, set_here, set_other}
+use Rattle.kb_node.proofs.Numbers.{behind_other, find_here, find_is, remove_here, remove_other, set_here, set_other}
 use Rattle.kb_node.proofs.Seats.{rising}
 
 some_is : {X : Type 0} (x y : X) → Some x ≡ Some y → x ≡ y
@@ -60,6 +63,72 @@ module _ {T : Type 0} where
   pub gone_none : {S : Type 0} (h : Host S) (xs : List (Socket T)) (n : ℕ) → (IsInOrder (seen h xs) → socket_at None xs ≡ socket_of n xs)
       → IsInOrder (seen h xs) → IsGone n (cores xs)
   gone_none h xs n found r = ap (λ o. is_closed_in o) (core_is n xs ∙ ap (λ o. option_map core o) (sym (found r)))
+
+  -- 3. It is closed, and left out
+
+  here_at : (xs ys : List (Socket T)) (p : ℕ) (s : Socket T) → p < length xs → s ≡ slice_index_or xs p s → xs ≡ ys → slice_get ys p ≡ Some s
+  here_at xs ys p s lt is same = subst (λ ws. slice_get ws p ≡ Some s) same (slice_get-get_or xs p s lt ∙ sym (ap (λ y. Some y) is))
+
+  closed_some : (o : Option (Socket T)) → is_closed_in (option_map core o) ≡ true → IfSome o (λ s. s.is_ended ≡ true)
+  closed_some None is = tt
+  closed_some (Some s) is = is
+
+  pub removed_then : (n : ℕ) (a b c : List (Socket T)) → IsClosed n (cores a) (cores b) → LeavesIfClosed n b c → IsRemoved n (cores a) (cores c)
+  removed_then n a b c closed left = record {
+    gone = core_is n c
+        ∙ ap (λ o. option_map core o) (left.gone (closed_some (socket_of n b) (ap (λ o. is_closed_in o) (sym (core_is n b)) ∙ closed.gone)));
+    others = λ m ne. core_is m c ∙ ap (λ o. option_map core o) (left.others m ne) ∙ sym (core_is m b) ∙ closed.alone.others m ne;
+  }
+
+  pub room_there : (b : Bool) (o : Option ℕ) (a : List (Core T)) → b ≡ true → IsRoomMade b o a a
+  room_there b o a is = subst (λ x. IsRoomMade x o a a) (sym is) refl
+
+  pub nobody_there : (b : Bool) (o : Option ℕ) (a : List (Core T)) → b ≡ false → o ≡ None → IsRoomMade b o a a
+  nobody_there b o a is none = subst (λ x. IsRoomMade x o a a) (sym is) (subst (λ p. IsRoomMade false p a a) (sym none) refl)
+
+  pub room_made : (b : Bool) (o : Option ℕ) (n : ℕ) (a c : List (Core T)) → b ≡ false → o ≡ Some n → IsRemoved n a c → IsRoomMade b o a c
+  room_made b o n a c is some removed = subst (λ x. IsRoomMade x o a c) (sym is) (subst (λ p. IsRoomMade false p a c) (sym some) removed)
+
+  pub others_made : (b : Bool) (o : Option ℕ) (a c : List (Core T)) → IsRoomMade b o a c → (n : ℕ) → Some n ≢ o → core_of n c ≡ core_of n a
+  others_made true o a c made n ne = ap (λ (cs : List (Core T)). core_of n cs) made
+  others_made false None a c made n ne = ap (λ (cs : List (Core T)). core_of n cs) made
+  others_made false (Some m) a c made n ne = made.others n (λ e. ne (ap (λ k. Some k) e))
+
+  pub others_joined : (stream : T) (m : ℕ) (a c : List (Core T)) → IsJoined stream m a c → (n : ℕ) → n ≢ m → core_of n c ≡ core_of n a
+  others_joined stream m a c joined n ne =
+      let new : Core T = record { connection = m; stream = stream; unwritten = []; unhanded = []; is_lost = false; is_ended = false } in
+      ap (λ (cs : List (Core T)). core_of n cs) joined.behind ∙ behind_other (λ (x : Core T). x.connection) n a new ne
+
+  -- where no socket carries it, none leaves
+  pub leaves_none : {S : Type 0} (h : Host S) (xs : List (Socket T)) (n : ℕ) → (IsInOrder (seen h xs) → socket_at None xs ≡ socket_of n xs)
+      → IsInOrder (seen h xs) → LeavesIfClosed n xs xs
+  leaves_none h xs n found r = record { gone = λ closed. sym (found r); kept = λ open_one. refl; others = λ m ne. refl }
+
+  -- the socket s at the place p of ys is that of n
+  pub leaves_open : {S : Type 0} (h : Host S) (xs ys : List (Socket T)) (p n : ℕ) (s : Socket T) → p < length xs → s ≡ slice_index_or xs p s
+      → xs ≡ ys → (IsInOrder (seen h ys) → slice_get ys p ≡ socket_of n ys) → IsInOrder (seen h ys) → s.is_ended ≡ false → LeavesIfClosed n ys ys
+  leaves_open h xs ys p n s lt is same found r unended =
+      let there : socket_of n ys ≡ Some s = sym (found r) ∙ here_at xs ys p s lt is same in
+      record {
+        gone = λ closed. absurd (let no : true ≡ false = sym (subst (λ o. IfSome o (λ x. x.is_ended ≡ true)) there closed) ∙ unended in cc);
+        kept = λ open_one. refl;
+        others = λ m ne. refl;
+      }
+
+  pub leaves_closed : {S : Type 0} (h : Host S) (xs ys zs : List (Socket T)) (p n : ℕ) (s : Socket T) → p < length xs → s ≡ slice_index_or xs p s
+      → xs ≡ ys → (IsInOrder (seen h ys) → slice_get ys p ≡ socket_of n ys) → IsInOrder (seen h ys) → s.is_ended ≡ true → zs ≡ remove ys p
+      → LeavesIfClosed n ys zs
+  leaves_closed h xs ys zs p n s lt is same found r ended left =
+      let at : slice_get ys p ≡ Some s = here_at xs ys p s lt is same in
+      let there : socket_of n ys ≡ Some s = sym (found r) ∙ at in
+      let number : s.connection ≡ n = find_is (λ (x : Socket T). x.connection) n ys s there in
+      record {
+        gone = λ closed. subst (λ ws. socket_of n ws ≡ None) (sym left) (subst (λ m. socket_of m (remove ys p) ≡ None) number
+            (remove_here (λ (x : Socket T). x.connection) 0 h.tried ys p s (rising h ys r) at));
+        kept = λ open_one. absurd (let no : true ≡ false = sym ended ∙ subst (λ o. IfSome o (λ x. x.is_ended ≡ false)) there open_one in cc);
+        others = λ m ne. subst (λ ws. socket_of m ws ≡ socket_of m ys) (sym left)
+            (remove_other (λ (x : Socket T). x.connection) m ys p s at (λ e. ne (e ∙ number)));
+      }
 
 -- the socket s at the place p of v is that of n, and t comes there
 module _ {S T : Type 0} (h : Host S) (v : Vec (Socket T) Global) (p n : ℕ) (s t : Socket T) (lt : p < vec_len v) (is : s ≡ slice_index_or v.items p s)

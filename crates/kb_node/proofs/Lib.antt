@@ -4,10 +4,12 @@ pub mod Closing
 pub mod Cores
 pub mod Counts
 pub mod Dealt
+pub mod Found
 pub mod Goes
 pub mod Handed
 pub mod Isolated
 pub mod Known
+pub mod Listed
 pub mod Many
 pub mod Numbers
 pub mod PutBack

@@ -138,15 +138,17 @@ back-destiny p setup n s (Moment now ∷ es) = back-destiny p setup n s es
 
 -- 3. A turn
 
-back-plainly : (p : List ℕ) (r : tenant.Reaction) (head : Head) (s : Session) → plainly r head (put_back p s) ≡ put_back p (plainly r head s)
-back-plainly p (Replies reply) head s = back-replied p head reply s
-back-plainly p (Waits deadline fetch places) head s = refl
-back-plainly p Silent head s = refl
-back-plainly p Shuts head s = refl
+back-plainly : (p : List ℕ) (r : tenant.Reaction) (head : Head) (version : ℤ) (body : List ℕ) (s : Session)
+    → plainly r head (put_back p s) ≡ put_back p (plainly r head s)
+back-plainly p (Replies reply) head version body s = back-replied p head reply s
+back-plainly p (Waits deadline limit places) head version body s = refl
+back-plainly p Silent head version body s = refl
+back-plainly p Shuts head version body s = refl
 
-back-reaction : (p : List ℕ) (r : Reaction) (head : Head) (s : Session) → after_reaction r head (put_back p s) ≡ put_back p (after_reaction r head s)
-back-reaction p (Plain r) head s = back-plainly p r head s
-back-reaction p Rebalances head s = refl
+back-reaction : (p : List ℕ) (r : Reaction) (head : Head) (version : ℤ) (body : List ℕ) (s : Session)
+    → after_reaction r head (put_back p s) ≡ put_back p (after_reaction r head s)
+back-reaction p (Plain r) head version body s = back-plainly p r head version body s
+back-reaction p Rebalances head version body s = refl
 
 back-served_by : (p : List ℕ) (setup : Setup) (kept : Kept) (clock n : ℕ) (head : Head) (a : Asked) (s : Session)
     → served_by setup kept clock n head a (put_back p s) ≡ put_back p (served_by setup kept clock n head a s)
@@ -155,7 +157,7 @@ back-served_by p setup kept clock n head Versions s = back-replied p head _ s
 back-served_by p setup kept clock n head OtherVersions s = back-replied p head _ s
 back-served_by p setup kept clock n head (Handshake version mechanism) s = back-replied p head _ s
 back-served_by p setup kept clock n head (Authenticate message) s = back-replied p head _ s
-back-served_by p setup kept clock n head (Another key version body) s = back-reaction p (reaction_to setup.node kept clock n key version body) head s
+back-served_by p setup kept clock n head (Another key version body) s = back-reaction p (reaction_to setup.node kept clock n key version body) head version body s
 back-served_by p setup kept clock n head Malformed s = refl
 
 back-served_at : (p : List ℕ) (setup : Setup) (kept : Kept) (clock n : ℕ) (s : Session) (f : Front)
@@ -172,7 +174,7 @@ back-after_turn p setup kept clock n s = back-served_at p setup kept clock n s (
 
 back-told : (p : List ℕ) (r : tenant.Reaction) (head : Head) (s : Session) → told r head (put_back p s) ≡ put_back p (told r head s)
 back-told p (Replies reply) head s = back-replied p head reply (record s { stage = without_wait s.stage })
-back-told p (Waits deadline fetch places) head s = refl
+back-told p (Waits deadline limit places) head s = refl
 back-told p Silent head s = refl
 back-told p Shuts head s = refl
 

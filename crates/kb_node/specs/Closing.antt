@@ -1,5 +1,5 @@
 -- Which sockets an edge closes.
-use Rattle.std.specs.Prelude.{◌≡◌, ◌≢◌, ◌≤◌, ◌<◌, ◌⊎◌, ℕ, List, length, map, nat_le, true, false, Option, None, Some}
+use Rattle.std.specs.Prelude.{◌≡◌, ◌≢◌, ◌≤◌, ◌<◌, ◌⊎◌, ℕ, List, length, map, nat_le, Bool, true, false, Option, None, Some, IfSome}
 use Rattle.kb_shares.specs.Shares.{Pool, has_room}
 use Rattle.kb_node.specs.declared.delays.Delays.{Delays}
 use Rattle.kb_node.specs.declared.silences.Silences.{Silences}
@@ -28,6 +28,24 @@ IsGone n cs = is_closed_in (core_of n cs) ≡ true
 pub record IsClosed {T : Type 0} (n : ℕ) (old new : List (Core T)) : Type 0 where
   pub alone : ChangesAlone n old new
   pub gone : IsGone n new
+
+-- That of a connection is kept no longer, if its connection is closed. Else it stays, as all others do.
+pub record LeavesIfClosed {T : Type 0} (n : ℕ) (old new : List (Socket T)) : Type 0 where
+  pub gone : IfSome (socket_of n old) (λ s. s.is_ended ≡ true) → socket_of n new ≡ None
+  pub kept : IfSome (socket_of n old) (λ s. s.is_ended ≡ false) → new ≡ old
+  pub others : (m : ℕ) → m ≢ n → socket_of m new ≡ socket_of m old
+
+-- it is there no longer, and all others stay
+pub record IsRemoved {T : Type 0} (n : ℕ) (old new : List (Core T)) : Type 0 where
+  pub gone : core_of n new ≡ None
+  pub others : (m : ℕ) → m ≢ n → core_of m new ≡ core_of m old
+
+-- Room is made for one more where there is none: that of the connection which has been a stranger for longest is there no longer. Where
+-- there is room, or nobody is a stranger, all stay.
+abbrev pub IsRoomMade : {T : Type 0} → Bool → Option ℕ → List (Core T) → List (Core T) → Type 0
+IsRoomMade true oldest old new = new ≡ old
+IsRoomMade false None old new = new ≡ old
+IsRoomMade false (Some n) old new = IsRemoved n old new
 
 -- something else was so, or it is closed, and all others stay
 pub record IsClosedUnless {T : Type 0} (n : ℕ) (Else : Type 0) (old new : List (Core T)) : Type 0 where

@@ -72,11 +72,14 @@ pub record Standing : Type 0 where
   pub lanes : Lanes
   pub ready : Vec ℕ Global
 
+-- a connection comes behind the others of a list, unless there is no memory for it
+abbrev pub ComesLast : ℕ → Vec ℕ Global → Vec ℕ Global → Type 0
+ComesLast n old new = (new.items ≡ old.items ++ n ∷ []) ⊎ ((vec_capacity old ≤ vec_len old) × (new.items ≡ old.items))
+
 -- a connection stays among those who can go on, unless there is no memory for it
 pub record StaysReady (n : ℕ) (old new : Standing) : Type 0 where
   pub lanes : new.lanes ≡ old.lanes
-  pub ready : (new.ready.items ≡ old.ready.items ++ n ∷ [])
-      ⊎ ((vec_capacity old.ready ≤ vec_len old.ready) × (new.ready.items ≡ old.ready.items))
+  pub ready : ComesLast n old.ready new.ready
 
 -- One that may stand in line stands there, which makes these lanes of them. One that may not, or for which there is no memory there, stays
 -- among those who can go on.

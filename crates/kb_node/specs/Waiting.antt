@@ -1,7 +1,8 @@
 -- How long an edge waits, and for what.
-use Rattle.std.specs.Prelude.{◌≡◌, ◌≤◌, ℕ, zero, suc, ◌+◌, ◌-◌, ◌^◌, ◌&&◌, ◌||◌, min, length, List, [], ◌∷◌, Bool, true, false, not, map, nat_eq, nat_le, nat_lt, slice_get, if◌then◌else◌, Option, Some, None}
+use Rattle.std.specs.Prelude.{ℕ, zero, suc, ◌+◌, ◌-◌, ◌^◌, ◌&&◌, ◌||◌, ◌++◌, min, length, List, [], ◌∷◌, Bool, true, false, not, map, nat_eq, nat_le, nat_lt, slice_get, if◌then◌else◌, Option, Some, None}
+use Rattle.std.specs.Option.{option_to_list}
 use Rattle.kb_shares.specs.Shares.{Pool, has_room, piece_for}
-use Rattle.kb_shares.specs.Turns.{Lines, after_next, enqueued}
+use Rattle.kb_shares.specs.Turns.{Lines, after_next, enqueued, next}
 use Rattle.kb_isolation_spec.specs.declared.login.Login.{Login}
 use Rattle.kb_isolation_spec.specs.declared.login.Login.TheVariants as logins
 use Rattle.kb_node.specs.declared.edge.Accepts.{Accepts}
@@ -96,12 +97,6 @@ abbrev pub behind : ℕ → Lines → Lines
 behind zero lane = lane
 behind (suc n) lane = behind n (after_next lane)
 
--- The lanes behind some turns of the long one, at most so many.
-pub record IsBehind (most : ℕ) (old new : Lanes) : Type 0 where
-  pub turns : ℕ
-  pub within : turns ≤ most
-  pub lanes : new ≡ record old { long = behind turns old.long }
-
 -- The lanes behind a round: one left the long lane, or the next 16 the short one.
 abbrev pub behind_round : Lanes → Lanes
 behind_round lanes =
@@ -117,6 +112,20 @@ begun_by (Some s) = s.input.progress.size
 abbrev pub room_behind : {T : Type 0} → ℕ → Option ℕ → List (Socket T) → ℕ
 room_behind room None sockets = 0
 room_behind room (Some n) sockets = room - begun_by (socket_of n sockets)
+
+-- How many turns the long lane has before a commit, and at most so many: the next as long as there is room for bytes, of which each takes as
+-- many as its request has.
+abbrev pub long_turns : {T : Type 0} → ℕ → ℕ → Lines → List (Socket T) → ℕ
+long_turns zero room lane sockets = 0
+long_turns (suc most) room lane sockets =
+    if nat_eq room 0 then 0 else suc (long_turns most (room_behind room (next lane) sockets) (after_next lane) sockets)
+
+-- and whose turns they are
+abbrev pub long_ones : {T : Type 0} → ℕ → ℕ → Lines → List (Socket T) → List ℕ
+long_ones zero room lane sockets = []
+long_ones (suc most) room lane sockets =
+    if nat_eq room 0 then []
+    else option_to_list (next lane) ++ long_ones most (room_behind room (next lane) sockets) (after_next lane) sockets
 
 abbrev pub socket_at : {T : Type 0} → Option ℕ → List (Socket T) → Option (Socket T)
 socket_at None sockets = None

@@ -1,7 +1,8 @@
 //! The listeners of an edge.
 
-ghost use Rattle.std.specs.Prelude.{◌≡◌, ◌<◌, vec_len, IfOk, OnErr, OnOk};
-ghost use Rattle.kb_node.specs.Doors.{first_port};
+ghost use Rattle.std.specs.Net.Grammar.{IsSocketText};
+ghost use Rattle.std.specs.Prelude.{◌≡◌, ◌≤◌, ◌<◌, ◌+◌, vec_len, IfOk, OnErr, OnOk};
+ghost use Rattle.kb_node.specs.Doors.{IsAtPort, IsListenedOn, first_port};
 
 use crate::watch::Watch;
 use std::alloc::{AllocError, AllocFailed, Global};
@@ -65,6 +66,8 @@ impl<R: Net> Doors<R> {
     ) -> Result<Doors<R>, DoorFault>
         ensures some { IfOk result (λ doors. 0 < vec_len doors.listeners) }
         ensures paired { IfOk result (λ doors. vec_len doors.addresses ≡ vec_len doors.listeners) }
+        // An address that is spelled out is one, and has one listener.
+        ensures spelled { (at : SocketAddr) → IsSocketText address.now at → IfOk result (λ doors. vec_len doors.listeners ≡ 1) }
     {
         let found = match address.to_socket_addrs(net) {
             Ok(found) => found,
@@ -88,21 +91,19 @@ impl<R: Net> Doors<R> {
     }
 
     /// Listens on one more address, unless it is listened on.
-    fn add(
-        &mut self,
-        net: &R,
-        mut address: SocketAddr,
-        watch: &Option<Watch>,
-    ) -> Result<(), DoorFault>
+    fn add(&mut self, net: &R, address: SocketAddr, watch: &Option<Watch>) -> Result<(), DoorFault>
         ensures paired { vec_len self.old.addresses ≡ vec_len self.old.listeners
             → vec_len self.new.addresses ≡ vec_len self.new.listeners }
         ensures listens { OnOk result (0 < vec_len self.new.addresses) }
+        ensures most { vec_len self.new.listeners ≤ vec_len self.old.listeners + 1 }
+        // It is listened on from now on, at one more listener, or was before.
+        ensures added { OnOk result (IsListenedOn address
+            (record { listeners = self.old.listeners.items; addresses = self.old.addresses.items })
+            (record { listeners = self.new.listeners.items; addresses = self.new.addresses.items })) }
         ensures refused { OnErr result ((self.new.listeners.items ≡ self.old.listeners.items)
             × (self.new.addresses.items ≡ self.old.addresses.items)) }
     {
-        if address.port() == 0 {
-            address.set_port(self.port());
-        }
+        let address = with_port(address, self.port());
         if self.addresses.contains(&address) {
             return Ok(());
         }
@@ -142,6 +143,16 @@ impl<R: Net> Doors<R> {
         }
         Err(io::Error::from(ErrorKind::WouldBlock))
     }
+}
+
+/// An address, but with that port where it names none.
+fn with_port(mut address: SocketAddr, port: u16) -> SocketAddr
+    ensures { IsAtPort port address result }
+{
+    if address.port() == 0 {
+        address.set_port(port);
+    }
+    address
 }
 
 fn not_bound(address: Option<SocketAddr>, error: io::Error) -> DoorFault {

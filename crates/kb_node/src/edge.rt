@@ -1,6 +1,6 @@
 //! A broker on a network. A turn waits for no peer.
 
-ghost use Rattle.std.specs.Prelude.{◌≡◌, ◌≤◌, ◌<◌, ◌⊎◌, ◌*◌, [], Err, None, Some, IfOk, IfErr, IfSome, OnErr, OnOk};
+ghost use Rattle.std.specs.Prelude.{◌≡◌, ◌≤◌, ◌<◌, ◌⊎◌, ◌*◌, ℕ, [], Err, None, Some, IfOk, IfErr, IfSome, OnErr, OnOk};
 ghost use Rattle.kb_wire.specs.declared.clock.TheConstants.{MAX_CLOCK};
 ghost use Rattle.std.specs.Prelude.{◌≢◌, length, option_map, replicate, slice_get, vec_len};
 ghost use Rattle.std.specs.Vec.{vec_capacity};
@@ -9,12 +9,14 @@ ghost use Rattle.kb_isolation_spec.specs.Machine.{Moment};
 ghost use Rattle.kb_broker.specs.Speakers.{speakers};
 ghost use Rattle.kb_node.specs.Bound.{bind_cause, bind_fault};
 ghost use Rattle.kb_node.specs.Cores.{cores, seen};
+ghost use Rattle.kb_node.specs.Deadlines.{oldest};
 ghost use Rattle.kb_node.specs.Known.{lasting};
 ghost use Rattle.kb_node.specs.Moves.{Goes, GoesWith, IsAdmitted, IsRunOf, IsTakenIn, IsTurn};
 ghost use Rattle.kb_node.specs.Numbers.{IsInOrder, socket_of};
 ghost use Rattle.kb_node.specs.Ready.{AreCalled};
 ghost use Rattle.kb_node.specs.Seats.{AreSeated, AreSeated-prop};
 ghost use Rattle.kb_node.specs.SocketShares.{IsSeated};
+ghost use Rattle.kb_node.specs.Streams.{core_of};
 ghost use Rattle.kb_node.specs.Traffic.{Happens};
 ghost use Rattle.kb_node.specs.Waiting.{socket_at};
 
@@ -508,6 +510,9 @@ impl<R: Net, S: Store, L: PartitionLog + Drop> Edge<R, S, L> {
             (seen self.new.host self.new.sockets.items) }
         ensures admitted { IsAdmitted S.disk R.Stream.contents R.Stream.remaining stream (seen self.old.host self.old.sockets.items)
             (seen self.new.host self.new.sockets.items) }
+        // All others stay, but the stranger that came first.
+        ensures others { (n : ℕ) → n ≤ self.old.host.tried → Some n ≢ oldest self.old.strangers.deadlines.entries
+            → core_of n (cores self.new.sockets.items) ≡ core_of n (cores self.old.sockets.items) }
     {
         turn.count_accepted();
         if !self.make_room(alloc, turn) {

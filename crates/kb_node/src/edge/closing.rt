@@ -7,9 +7,10 @@ ghost use Rattle.kb_shares.specs.Ledger.{amount_of, let_go};
 ghost use Rattle.kb_shares.specs.Shares.{has_room};
 ghost use Rattle.kb_isolation_spec.specs.Calls.{login_on};
 ghost use Rattle.kb_node.specs.Closing.{AreDealtWith, ChangesAlone, IsBegunAt, IsClosed, IsClosedUnless, IsForgotten, IsGone, IsPutOff};
-ghost use Rattle.kb_node.specs.Closing.{IsUsedOfLate, TookSome, silent_of};
+ghost use Rattle.kb_node.specs.Closing.{IsRoomMade, IsUsedOfLate, LeavesIfClosed, TookSome, silent_of};
 ghost use Rattle.kb_node.specs.Cores.{cores, open_ones, seen};
-ghost use Rattle.kb_node.specs.Deadlines.{due, has_moved, patience, silences_noted, silent, silent_since, stalled, without_stranger};
+ghost use Rattle.kb_node.specs.Deadlines.{due, has_moved, oldest, patience, silences_noted, silent, silent_since, stalled};
+ghost use Rattle.kb_node.specs.Deadlines.{without_stranger};
 ghost use Rattle.kb_node.specs.Moves.{Goes, GoesTelling};
 ghost use Rattle.kb_node.specs.Numbers.{socket_of};
 ghost use Rattle.kb_node.specs.ReaderWaits.{waited};
@@ -434,6 +435,7 @@ impl<R: Net, S: Store, L: PartitionLog + Drop> Edge<R, S, L> {
     #[tactic(auto, using(crate::proofs::Goes::goes_then, crate::proofs::Goes::goes_none, crate::proofs::Telling::telling_none))]
     pub(super) fn close(&mut self, alloc: Global, number: u64, turn: &mut Turn)
         ensures lanes { self.new.lanes ≡ self.old.lanes }
+        ensures line { (self.new.ready ≡ self.old.ready) × (self.new.asked ≡ self.old.asked) }
         ensures commits { self.new.host.commits ≡ self.old.host.commits }
         ensures closed { IsClosed number (cores self.old.sockets.items) (cores self.new.sockets.items) }
         ensures clock { self.new.clock ≡ self.old.clock }
@@ -491,6 +493,10 @@ impl<R: Net, S: Store, L: PartitionLog + Drop> Edge<R, S, L> {
         ensures strangers { OnTrue result (count_of self.new.shares.tenants self.new.shares.sockets < self.new.stranger_limit) }
         ensures room { result ≡ (nat_lt (vec_len self.new.sockets) self.new.limit
             && nat_lt (count_of self.new.shares.tenants self.new.shares.sockets) self.new.stranger_limit) }
+        // Where there was room all stays. Else the stranger that came first is there no longer.
+        ensures made { IsRoomMade (nat_lt (vec_len self.old.sockets) self.old.limit
+            && nat_lt (count_of self.old.shares.tenants self.old.shares.sockets) self.old.stranger_limit)
+            (oldest self.old.strangers.deadlines.entries) (cores self.old.sockets.items) (cores self.new.sockets.items) }
         // No connection opens.
         ensures tried { self.new.host.tried ≡ self.old.host.tried }
         ensures goes { Goes S.disk R.Stream.contents R.Stream.remaining (seen self.old.host self.old.sockets.items)
@@ -512,6 +518,7 @@ impl<R: Net, S: Store, L: PartitionLog + Drop> Edge<R, S, L> {
     #[tactic(auto, using(crate::proofs::Goes::goes_then, crate::proofs::Goes::goes_none))]
     fn remove(&mut self, number: u64)
         ensures host { self.new.host ≡ self.old.host }
+        ensures left { LeavesIfClosed number self.old.sockets.items self.new.sockets.items }
         ensures goes { Goes S.disk R.Stream.contents R.Stream.remaining (seen self.old.host self.old.sockets.items)
             (seen self.new.host self.new.sockets.items) }
     {

@@ -1,18 +1,21 @@
 //! How an edge serves its sockets.
 
-ghost use Rattle.std.specs.Prelude.{◌≡◌, ◌-◌, ◌&&◌, not, true, false, None, Some, IfErr, IfSome, OnOk, slice_get, slice_set, vec_len};
+ghost use Rattle.std.specs.Prelude.{◌≡◌, ◌≤◌, ◌+◌, ◌-◌, ◌++◌, ◌&&◌, not, true, false, vec_len};
+ghost use Rattle.std.specs.Prelude.{None, Some, IfErr, IfSome, OnOk, slice_get, slice_set};
+ghost use Rattle.std.specs.Vec.{vec_capacity};
 ghost use Rattle.kb_node.specs.Known.{hasty, lasting, telling};
 ghost use Rattle.kb_node.specs.Moves.{Goes, GoesTelling, GoesTellingWith, GoesWith};
 ghost use Rattle.kb_node.specs.Cores.{seen};
 ghost use Rattle.kb_node.specs.Commits.{may_tell, tells_at_once};
 ghost use Rattle.kb_shares.specs.Ledger.{set_to};
 ghost use Rattle.kb_shares.specs.Shares.{has_room};
-ghost use Rattle.kb_shares.specs.Turns.{after_next, next};
+ghost use Rattle.kb_shares.specs.Turns.{after_next};
 ghost use Rattle.kb_node.specs.Numbers.{IsInOrder, socket_of};
 ghost use Rattle.kb_node.specs.Seats.{FreesSeat};
 ghost use Rattle.kb_node.specs.TenantTraffic.{with_traffic};
+ghost use Rattle.kb_node.specs.Ready.{ComesLast};
 ghost use Rattle.kb_node.specs.Replies.{kept_for, holder_place};
-ghost use Rattle.kb_node.specs.Waiting.{IsBehind, begun_by, behind, room_behind};
+ghost use Rattle.kb_node.specs.Waiting.{begun_by, behind, long_ones, long_turns};
 
 use crate::committed::Committed;
 use crate::edge::Edge;
@@ -195,35 +198,46 @@ impl<R: Net, S: Store, L: PartitionLog + Drop> Edge<R, S, L> {
     /// The same for those of the long lane, eight at most, until their requests have too many bytes together.
     #[tactic(auto, using(crate::proofs::Goes::goes_then, crate::proofs::Goes::goes_none))]
     fn hand_on_long(&mut self, alloc: Global, turn: &mut Turn)
-        ensures lanes { IsBehind 8 self.old.lanes self.new.lanes }
+        // So many have their turns, and no more.
+        ensures lanes { self.new.lanes ≡ record self.old.lanes {
+          long = behind (long_turns 8 524288 self.old.lanes.long
+              self.old.sockets.items) self.old.lanes.long;
+        } }
         ensures goes { Goes S.disk R.Stream.contents R.Stream.remaining (seen self.old.host self.old.sockets.items)
             (seen self.new.host self.new.sockets.items) }
     {
+        let mut round = mem::replace(&mut self.spare, Vec::new(alloc));
+        self.take_long(&mut round);
+        for number in &round {
+            self.hand_on_next(alloc, *number, turn);
+        }
+        round.clear();
+        self.spare = round;
+    }
+
+    /// Those of the long lane whose turns they are leave it, and come behind those of a list.
+    fn take_long(&mut self, round: &mut Vec<u64>)
+        ensures lanes { self.new.lanes ≡ record self.old.lanes {
+          long = behind (long_turns 8 524288 self.old.lanes.long
+              self.old.sockets.items) self.old.lanes.long;
+        } }
+        // All of them, where there is room for eight.
+        ensures taken { vec_len round.old + 8 ≤ vec_capacity round.old → round.new.items
+            ≡ round.old.items ++ long_ones 8 524288 self.old.lanes.long self.old.sockets.items }
+        ensures rest { (self.new.host ≡ self.old.host) × (self.new.sockets ≡ self.old.sockets) }
+    {
         let mut room = LONG_TOGETHER;
         for _ in 0..MOST_LONG {
-            room = self.hand_on_within(alloc, room, turn);
+            let Some(number) = self.lanes.next_long() else {
+                break;
+            };
+            // there is room for each socket once
+            let _ = round.push(number);
+            room = room.saturating_sub(self.begun_on(number));
             if room == 0 {
                 break;
             }
         }
-    }
-
-    /// The same for the one of the long lane whose turn it is, where so many bytes more may be handed on. It answers how many may then:
-    /// none where nobody was in line.
-    #[tactic(auto, using(crate::proofs::Goes::goes_then, crate::proofs::Goes::goes_none))]
-    fn hand_on_within(&mut self, alloc: Global, room: u64, turn: &mut Turn) -> u64
-        ensures room { IsInOrder (seen self.old.host self.old.sockets.items)
-            → result ≡ room_behind room (next self.old.lanes.long) self.old.sockets.items }
-        ensures lanes { self.new.lanes ≡ record self.old.lanes { long = after_next self.old.lanes.long } }
-        ensures goes { Goes S.disk R.Stream.contents R.Stream.remaining (seen self.old.host self.old.sockets.items)
-            (seen self.new.host self.new.sockets.items) }
-    {
-        let Some(number) = self.lanes.next_long() else {
-            return 0;
-        };
-        let begun = self.begun_on(number);
-        self.hand_on_next(alloc, number, turn);
-        room.saturating_sub(begun)
     }
 
     /// How many bytes the request has that the socket of a connection has begun.
@@ -240,6 +254,11 @@ impl<R: Net, S: Store, L: PartitionLog + Drop> Edge<R, S, L> {
     #[tactic(auto, using(crate::proofs::Goes::goes_then, crate::proofs::Goes::goes_none, crate::proofs::Telling::telling_none))]
     fn hand_on_next(&mut self, alloc: Global, number: u64, turn: &mut Turn)
         ensures lanes { self.new.lanes ≡ self.old.lanes }
+        // It is among those that are told, or, where it was not asked, among those that can go on.
+        ensures line { (has_room (holder_place number self.old.shares) 1 self.old.replies.pool ≡ true
+            → (self.new.ready ≡ self.old.ready) × ComesLast number self.old.asked self.new.asked)
+            × (has_room (holder_place number self.old.shares) 1 self.old.replies.pool ≡ false
+            → (self.new.asked ≡ self.old.asked) × ComesLast number self.old.ready self.new.ready) }
         // Nothing is read or handed on where its holder has too much that is unread.
         ensures unasked { has_room (holder_place number self.old.shares) 1 self.old.replies.pool ≡ false
             → GoesTelling S.disk R.Stream.contents R.Stream.remaining (seen self.old.host self.old.sockets.items)
@@ -254,8 +273,8 @@ impl<R: Net, S: Store, L: PartitionLog + Drop> Edge<R, S, L> {
 
     /// A socket that was asked comes behind all that were not.
     fn put_in_line(&mut self, number: u64, was_asked: bool)
-        ensures asked { was_asked ≡ true → self.new.ready ≡ self.old.ready }
-        ensures unasked { was_asked ≡ false → self.new.asked ≡ self.old.asked }
+        ensures asked { was_asked ≡ true → (self.new.ready ≡ self.old.ready) × ComesLast number self.old.asked self.new.asked }
+        ensures unasked { was_asked ≡ false → (self.new.asked ≡ self.old.asked) × ComesLast number self.old.ready self.new.ready }
         ensures lanes { self.new.lanes ≡ self.old.lanes }
         ensures seen { seen self.new.host self.new.sockets.items ≡ seen self.old.host self.old.sockets.items }
     {
@@ -273,6 +292,7 @@ impl<R: Net, S: Store, L: PartitionLog + Drop> Edge<R, S, L> {
         ensures unasked { may_ask ≡ false → GoesTelling S.disk R.Stream.contents R.Stream.remaining
             (seen self.old.host self.old.sockets.items) (seen self.new.host self.new.sockets.items) }
         ensures lanes { self.new.lanes ≡ self.old.lanes }
+        ensures line { (self.new.ready ≡ self.old.ready) × (self.new.asked ≡ self.old.asked) }
         ensures goes { Goes S.disk R.Stream.contents R.Stream.remaining (seen self.old.host self.old.sockets.items)
             (seen self.new.host self.new.sockets.items) }
     {
@@ -443,6 +463,7 @@ impl<R: Net, S: Store, L: PartitionLog + Drop> Edge<R, S, L> {
     #[tactic(auto, using(crate::proofs::Telling::telling_then, crate::proofs::Telling::telling_none))]
     fn note_written(&mut self, alloc: Global, place: usize, before: Before, turn: &mut Turn) -> bool
         ensures lanes { self.new.lanes ≡ self.old.lanes }
+        ensures line { (self.new.ready ≡ self.old.ready) × (self.new.asked ≡ self.old.asked) }
         ensures commits { self.new.host.commits ≡ self.old.host.commits }
         ensures booked { result ≡ true → IfSome (slice_get self.old.sockets.items place) (λ s. self.new.replies
             ≡ set_to s.connection (holder_place s.connection self.old.shares)
@@ -477,6 +498,7 @@ impl<R: Net, S: Store, L: PartitionLog + Drop> Edge<R, S, L> {
     #[tactic(auto, using(crate::proofs::Telling::telling_then, crate::proofs::Telling::telling_none))]
     fn note_input(&mut self, alloc: Global, place: usize, before: Before, turn: &mut Turn) -> bool
         ensures lanes { self.new.lanes ≡ self.old.lanes }
+        ensures line { (self.new.ready ≡ self.old.ready) × (self.new.asked ≡ self.old.asked) }
         ensures commits { self.new.host.commits ≡ self.old.host.commits }
         ensures booked { result ≡ true → IfSome (slice_get self.old.sockets.items place) (λ s. self.new.inputs
             ≡ set_to s.connection (holder_place s.connection self.old.shares) s.input.progress.size self.old.inputs) }

@@ -1,17 +1,13 @@
-use Rattle.std.proofs.Common.{◌+◌, arith}
-use Rattle.kb_node.proofs.Goes.{goes_then}
-use Rattle.kb_node.proofs.Waiting.{one_more_turn}
+use Rattle.std.proofs.Common.{◌∙◌}
+use Rattle.kb_node.specs.Cores.{seen}
+use Rattle.kb_node.proofs.Goes.{goes_still, goes_then}
 use Rattle.kb_node.proofs.edge.Edge.hand_on_long.Goals as goal
 
-pub loop-preserved : goal.loop-preserved
-loop-preserved g c = (
-  one_more_turn c.loop.counter c.args.self.now.lanes c.loop.self.lanes _ c.loop.invariant.0 c.hand_on_within-room.ensures.lanes,
-  goes_then c.loop.invariant.1 c.hand_on_within-room.ensures.goes,
-)
+pub loop-number-init : goal.loop-number-init
+loop-number-init g c = (c.take_long.ensures.lanes, goes_still (λ i. seen (c.take_long.ensures.rest.0 i) (c.take_long.ensures.rest.1 i).items))
 
-pub returns-then-room-eq0-clause-lanes : goal.returns-then-room-eq0-clause-lanes
-returns-then-room-eq0-clause-lanes g c = record {
-  turns = c.loop.counter + 1;
-  within = omega (arith, c.loop-test.true);
-  lanes = one_more_turn c.loop.counter c.args.self.now.lanes c.loop.self.lanes _ c.loop.invariant.0 c.hand_on_within-room.ensures.lanes;
-}
+pub loop-number-preserved : goal.loop-number-preserved
+loop-number-preserved g c = (
+  c.hand_on_next.ensures.lanes ∙ c.loop-number.invariant.0,
+  goes_then c.loop-number.invariant.1 c.hand_on_next.ensures.goes,
+)

@@ -71,12 +71,6 @@ def heartbeat(group, generation, member):
     return 12, 0, text(group) + struct.pack(">i", generation) + text(member)
 
 
-def resident(broker):
-    """The resident size of the process."""
-    with open(f"/proc/{broker.process.pid}/status") as it:
-        return next(int(line.split()[1]) * 1024 for line in it if line.startswith("VmRSS:"))
-
-
 def flood(broker, joins, beat):
     """The codes of the joins in their order, and the most memory; it beats at each hundredth."""
     codes, most, metadata = [], 0, bytes(METADATA)
@@ -84,7 +78,7 @@ def flood(broker, joins, beat):
         client = Client(broker.port)
         codes.append(joined(client.ask(*join(b"big%d" % number, metadata)))[0])
         client.socket.close()
-        most = max(most, resident(broker))
+        most = max(most, broker.resident())
         if number % 100 == 0:
             beat()
     return codes, most
@@ -103,7 +97,7 @@ def looked_at(broker, joins):
     other, beats = Client(broker.port, b"bob", b"pw2"), []
     code, generation, member = joined(other.ask(*join(b"quiet", b"topics")))
     own = other.ask(*sync(b"quiet", generation, member))
-    before, began = resident(broker), time.monotonic()
+    before, began = broker.resident(), time.monotonic()
     codes, most = flood(broker, joins, lambda: beats.append(struct.unpack(">h", other.ask(*heartbeat(b"quiet", generation, member)))[0]))
     taken = codes.count(0)
     looks = {
@@ -149,10 +143,10 @@ def full(broker):
     """What is wrong where a tenant commits texts until it is refused."""
     ann, bob, beside = Client(broker.port), Client(broker.port, b"bob", b"pw2"), b"x" * BESIDE
     made = [it.create(b"read") for it in (ann, bob)]
-    before, most, codes, began = resident(broker), 0, [], time.monotonic()
+    before, most, codes, began = broker.resident(), 0, [], time.monotonic()
     for first in range(0, OFFSETS, 400):
         codes += ann.all([commit(group_of(it), b"read", beside, it) for it in range(first, first + 400)])
-        most = max(most, resident(broker))
+        most = max(most, broker.resident())
     fit = TEXTS // (BESIDE + len(group_of(0)))
     print(f"{OFFSETS} commits in {time.monotonic() - began:.0f} s: {codes.count(0)} taken; {before} bytes before, {most} at most")
     looks = {
@@ -178,7 +172,7 @@ def full_again(broker):
         "a deleted group makes room": ann.all([deletion(group_of(11)), deletion(group_of(12))]) == [0, 0]
         and [ann.commit(b"new-group-%d" % it, b"read", beside) for it in range(2)] == [0, 0],
     }
-    print(f"{resident(broker)} bytes after a start")
+    print(f"{broker.resident()} bytes after a start")
     return told(looks)
 
 

@@ -8,7 +8,6 @@ of each kind has a single batch above its limit. Nobody is connected for ten sec
 meanwhile, and how long a login took then, and is content below half a percent.
 """
 
-import os
 import sys
 import tempfile
 import time
@@ -35,13 +34,6 @@ def fill(client):
                 assert client.produce(topic, batch(b"x" * 500))[0] == 0
 
 
-def used(pid):
-    """The processor seconds of a process so far."""
-    with open(f"/proc/{pid}/stat", encoding="ascii") as it:
-        fields = it.read().rpartition(")")[2].split()
-    return (int(fields[11]) + int(fields[12])) / os.sysconf("SC_CLK_TCK")
-
-
 def main(program):
     """Whether the broker is idle."""
     with tempfile.TemporaryDirectory() as room:
@@ -55,9 +47,9 @@ def main(program):
             time.sleep(1)
             kept = [client.fetch(b"t%d-0" % kind, 0)[0] for kind in range(len(LIMITS))]
             client.socket.close()
-            before = used(broker.process.pid)
+            before = broker.processor()
             time.sleep(SECONDS)
-            share = (used(broker.process.pid) - before) / SECONDS
+            share = (broker.processor() - before) / SECONDS
             began = time.monotonic()
             Client(broker.port).socket.close()
             login = time.monotonic() - began

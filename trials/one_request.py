@@ -10,10 +10,9 @@ tenant asks for the versions again and again meanwhile, which costs nothing by i
 import struct
 import sys
 import tempfile
-import threading
 import time
 
-from wire import Broker, Client, batch, commit, create, delete_records, offset_at, produce, text
+from wire import Beside, Broker, Client, batch, commit, create, delete_records, offset_at, produce, text
 
 MOST = 0.1
 ENTRIES = 65_500
@@ -65,29 +64,6 @@ def requests():
     yield "DescribeConfigs, many names", 32, 0, struct.pack(">i", 1) + b"\4" + text(b"0") + keys
     # (a group counts 512: of more the connection is closed)
     yield "DeleteGroups, unknown groups", 42, 0, struct.pack(">i", ENTRIES // 512) + b"".join(text(b"g%d" % n) for n in range(ENTRIES // 512))
-
-
-class Beside:
-    """Another tenant, that asks for the versions each millisecond, and its longest wait."""
-
-    def __init__(self, port):
-        self.client, self.most, self.done = Client(port, b"bob", b"pw2"), 0.0, False
-        self.client.socket.settimeout(120)
-        self.thread = threading.Thread(target=self.run)
-        self.thread.start()
-
-    def run(self):
-        while not self.done:
-            began = time.monotonic()
-            self.client.ask(18, 0, b"")
-            self.most = max(self.most, time.monotonic() - began)
-            time.sleep(0.001)
-
-    def end(self):
-        self.done = True
-        self.thread.join()
-        self.client.socket.close()
-        return self.most
 
 
 def looked_at(broker, name, key, version, body):

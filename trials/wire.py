@@ -320,8 +320,42 @@ class Broker:
         with open(self.errors, encoding="utf-8") as it:
             return it.read()
 
+    def processor(self):
+        """The processor seconds of the process so far."""
+        with open(f"/proc/{self.process.pid}/stat", encoding="ascii") as it:
+            fields = it.read().rpartition(")")[2].split()
+        return (int(fields[11]) + int(fields[12])) / os.sysconf("SC_CLK_TCK")
+
+    def resident(self):
+        """The resident size of the process, in bytes."""
+        with open(f"/proc/{self.process.pid}/status", encoding="ascii") as it:
+            return next(int(line.split()[1]) * 1024 for line in it if line.startswith("VmRSS:"))
+
     def stop(self):
         """Ends the process."""
         if self.process.poll() is None:
             self.process.send_signal(signal.SIGKILL)
         return self.process.wait()
+
+
+class Beside:
+    """Another tenant, that asks for the versions each millisecond, and its longest wait."""
+
+    def __init__(self, port):
+        self.client, self.most, self.done = Client(port, b"bob", b"pw2"), 0.0, False
+        self.client.socket.settimeout(120)
+        self.thread = threading.Thread(target=self.run)
+        self.thread.start()
+
+    def run(self):
+        while not self.done:
+            began = time.monotonic()
+            self.client.ask(18, 0, b"")
+            self.most = max(self.most, time.monotonic() - began)
+            time.sleep(0.001)
+
+    def end(self):
+        self.done = True
+        self.thread.join()
+        self.client.socket.close()
+        return self.most

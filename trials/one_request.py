@@ -68,7 +68,7 @@ def requests():
 
 def looked_at(broker, name, key, version, body):
     """The longest wait of another beside a request, and whether it was answered."""
-    beside = Beside(broker.port)
+    beside = Beside(broker)
     client = Client(broker.port)
     client.socket.settimeout(120)
     time.sleep(0.05)
@@ -80,7 +80,7 @@ def looked_at(broker, name, key, version, body):
         answer = "closed"
     took = time.monotonic() - began
     time.sleep(0.05)
-    most = beside.end()
+    most, _ = beside.end()
     client.socket.close()
     print(f"{name:29} {len(body) / 1e6:5.2f} MB {answer:9} after {took * 1000:7.1f} ms; another waited {most * 1000:7.1f} ms", flush=True)
     return most <= MOST

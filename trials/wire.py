@@ -338,24 +338,45 @@ class Broker:
         return self.process.wait()
 
 
-class Beside:
-    """Another tenant, that asks for the versions each millisecond, and its longest wait."""
+def scheduled(process):
+    """How long a process of one thread, or "thread-self", had a processor, and how long it could run and had none: seconds. Both are 0
+    where the system does not tell."""
+    try:
+        with open(f"/proc/{process}/schedstat", encoding="ascii") as it:
+            return tuple(int(word) / 1e9 for word in it.read().split()[:2])
+    except OSError:
+        return 0.0, 0.0
 
-    def __init__(self, port):
-        self.client, self.most, self.done = Client(port, b"bob", b"pw2"), 0.0, False
+
+class Beside:
+    """Another tenant, that asks for the versions each millisecond, and its longest wait. What it was held up is that without the time for
+    which other programs had the processors, so that a busy machine is not taken for a busy broker."""
+
+    def __init__(self, broker):
+        self.client, self.broker = Client(broker.port, b"bob", b"pw2"), broker.process.pid
+        self.most, self.held, self.done = 0.0, 0.0, False
         self.client.socket.settimeout(120)
         self.thread = threading.Thread(target=self.run)
         self.thread.start()
 
+    def scheduled(self):
+        """How long the broker had a processor, and how long it or this thread had none."""
+        (ran, lacked), (_, own) = scheduled(self.broker), scheduled("thread-self")
+        return ran, lacked + own
+
     def run(self):
         while not self.done:
-            began = time.monotonic()
+            began, before = time.monotonic(), self.scheduled()
             self.client.ask(18, 0, b"")
-            self.most = max(self.most, time.monotonic() - began)
+            ran, lacked = (now - then for now, then in zip(self.scheduled(), before))
+            took = time.monotonic() - began
+            # (it is held up at least while the broker works, also where this thread has no processor meanwhile)
+            self.most, self.held = max(self.most, took), max(self.held, ran, took - lacked)
             time.sleep(0.001)
 
     def end(self):
+        """The longest wait, and the longest time for which it was held up: seconds."""
         self.done = True
         self.thread.join()
         self.client.socket.close()
-        return self.most
+        return self.most, self.held

@@ -45,9 +45,9 @@ def blob(value):
     return struct.pack(">i", len(value)) + value
 
 
-def join(group, metadata):
+def join(group, metadata, session=SESSION):
     """Joins a group as a new member."""
-    body = text(group) + struct.pack(">ii", SESSION, 60_000) + text(b"") + text(b"consumer")
+    body = text(group) + struct.pack(">ii", session, 60_000) + text(b"") + text(b"consumer")
     return 11, 1, body + struct.pack(">i", 1) + text(b"range") + blob(metadata)
 
 

@@ -3,7 +3,6 @@ mod Gathered
 mod Named
 mod Noted
 mod Opened
-mod Reported
 mod Scripts
 mod Told
 mod Turned

@@ -1,6 +1,6 @@
 //! Why a connection was shut, as it is told.
 
-ghost use Rattle.std.specs.Prelude.{◌≡◌, IfOk, option_map, string_bytes};
+ghost use Rattle.std.specs.Prelude.{◌≡◌, IfOk, map, option_map, slice_get, string_bytes};
 ghost use Rattle.kbroker.specs.Shut.{api_name, api_text, shut_words};
 
 use kb_isolation_spec::Shut;
@@ -110,7 +110,14 @@ fn name_at(api_key: i16) -> Option<&'static str>
     ensures { option_map (λ name. name.now) result ≡ api_name api_key }
 {
     match usize::try_from(api_key) {
-        Ok(place) => NAMES.get(place).copied(),
+        Ok(place) => name_in(&NAMES, place),
         Err(_) => None,
     }
+}
+
+/// The name at a place of these, where there is one.
+fn name_in(names: &[&'static str], place: usize) -> Option<&'static str>
+    ensures { option_map (λ name. name.now) result ≡ slice_get (map (λ name. name.now) names.now) place }
+{
+    names.get(place).copied()
 }

@@ -11,11 +11,10 @@ pub loop-closed-preserved : goal.loop-closed-preserved
 loop-closed-preserved g c =
     let before = c.loop-closed in
     let connections = c.first-connections.result.now in
-    let item = c.closed-item.result in
     let within : before.closed-index < length connections = omega arith in
     let Tells : Closed → Journal g.row.T.Denot → Journal g.row.T.Denot → Type 0 = TellsShutOne g.T.LineLog.logged c.args.now c.args.second c.args.request_bytes in
-    along_found Tells connections connections before.closed-index item c.args.journal.now before.journal c.tell_shut.new.journal refl within
-    before.invariant (subst (λ a. Tells a before.journal c.tell_shut.new.journal) c.closed-item.is c.tell_shut.ensures)
+    along_found Tells connections connections before.closed-index _ c.args.journal.now before.journal c.tell_shut.new.journal refl within
+    before.invariant c.tell_shut.ensures
 
 pub returns : goal.returns
 returns g c =

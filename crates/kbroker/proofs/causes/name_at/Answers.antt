@@ -1,4 +1,4 @@
-use Rattle.std.proofs.Common.{◌≡◌, ◌∙◌, List, ℕ, Bor, ap, subst}
+use Rattle.std.proofs.Common.{◌∙◌, List, ℕ, Bor, ap, subst}
 use Rattle.std.proofs.lemmas.Int.{to_z-of_z}
 use Rattle.std.proofs.Math.IntN.{nat_abs}
 use Rattle.std.specs.Prelude.{option_map}

@@ -1,4 +1,4 @@
-use Rattle.std.proofs.Common.{◌≡◌, ◌∙◌, List, ℕ, Bor, ap, sym}
+use Rattle.std.proofs.Common.{◌∙◌, List, ℕ, Bor, ap, sym}
 use Rattle.std.proofs.lemmas.Option.{slice_get-map}
 use Rattle.std.specs.Prelude.{option_map}
 use Rattle.kbroker.proofs.Why.{copied_at}

@@ -1,4 +1,4 @@
-use Rattle.std.proofs.Common.{◌≡◌, ◌∙◌, ap, subst}
+use Rattle.std.proofs.Common.{◌∙◌, ap, subst}
 use Rattle.std.specs.Prelude.{◌/◌}
 use Rattle.kb_node.specs.declared.news.News.{News}
 use Rattle.kb_operator.specs.Refused.{MayTellCounts, closed_with}

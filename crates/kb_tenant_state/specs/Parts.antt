@@ -4,13 +4,13 @@ use Rattle.std.specs.Ordering.{nat_cmp}
 use Rattle.std.specs.Map.{lookup}
 use Rattle.std.specs.BTreeMap.{is_at}
 use Rattle.kb_store.specs.Disk.{Disk, Table, Files}
-use Rattle.kb_log.specs.OnShelf.{Log}
+use Rattle.kb_log.specs.OnShelf.{Identity, Log}
 use Rattle.kb_log.specs.Shelf.{Shelved}
 use Rattle.kb_batch.specs.Batch.{natural}
 use Rattle.kb_topics.specs.Known.{Known, PartitionState, partition_at}
 use Rattle.kb_topics.specs.MetaLog.{IsFoldOf}
 use Rattle.kb_topics.specs.Catalog.{known, meta_log, catalog_identity}
-use Rattle.kb_tenant_state.specs.Partitions.{Entries, Owned, AreSound, AreExact, AreStarted, AreNamed, Agree, logs_of, places_of, IsUnmade}
+use Rattle.kb_tenant_state.specs.Partitions.{Entries, Owned, AreSound, AreExact, AreStarted, AreNamed, Agree, logs_of, places_of, partition_identity, IsUnmade}
 use Rattle.kb_tenant_state.specs.Scene.{Scene, HadFile}
 use Rattle.kb_topics.specs.declared.fault.CatalogFault.{CatalogFault}
 use Rattle.kb_topics.specs.declared.fault.CatalogFault.TheVariants as catalog
@@ -49,6 +49,20 @@ pub record IsSound {L : Type 0} (log : L → Log) (p : Parts L) (table : Table) 
   pub logs_named : AreNamed log (string_bytes p.tenant) p.segment_bytes (entries p)
   pub offsets : p.offsets ≡ up_to_end (offsets_in (known p.catalog))
   pub texts : p.texts ≡ up_to_end (texts_in (known p.catalog))
+
+-- None of the tenant's logs is of that identity, nor will one be: it is that of a partition of a topic that is gone, whose instance was given
+-- out; or that of a generation of the catalog below the next one, whose log is not the meta log.
+abbrev pub IsPast : {L : Type 0} → (L → Log) → Parts L → ℕ → Identity → Type 0
+IsPast {L} log p next who =
+    ((i : ℕ) × (n : ℕ) × (who ≡ partition_identity (string_bytes p.tenant) i n p.segment_bytes) × (i < (known p.catalog).creates)
+    × IsUnmade i (entries p))
+    ⊎ ((g : ℕ) × (who ≡ catalog_identity (string_bytes p.tenant) (pos g) p.segment_bytes) × (g < max 1 next)
+    × ((meta log p).identity.generation ≡ pos g → ⊥))
+
+-- A log that the tenant has no more had the file, with those bytes.
+pub record IsGivenUp {L : Type 0} (log : L → Log) (p : Parts L) (next file : ℕ) (bytes : List ℕ) : Type 0 where
+  pub had : HadFile log (string_bytes p.tenant) file bytes
+  pub past : IsPast log p next (log had.of).identity
 
 -- what the tenant sees
 abbrev pub world_of : {L : Type 0} → (L → Log) → Parts L → Files → World
@@ -89,7 +103,7 @@ scene_on log p d next = record {
   sound = IsSound log p d.table next;
   exact = (meta log p).exact d.table × AreExact log (entries p) d.table;
   agrees = Agrees log p d.files;
-  wrote = HadFile log (string_bytes p.tenant);
+  wrote = IsGivenUp log p next;
   disk = d;
   next = next;
   state = record { tenant = string_bytes p.tenant; world = world_of log p d.files; refusals = p.refusals; commands = (meta log p).end };

@@ -143,7 +143,8 @@ impl<F: Folder> FolderStore<F> {
 }
 
 /// Adds bytes behind the end of a file, call by call, up to the last one or to a refusal. A call that takes none is one.
-/// It answers how many were added, and what refused the rest.
+/// It answers how many were added, and what refused the rest: where a call was refused some were still to be added, since none is made
+/// for none.
 fn add_on<F: Folder>(
     folder: &mut F,
     file: u64,
@@ -154,6 +155,7 @@ fn add_on<F: Folder>(
     requires fits { end + length bytes.now < 2 ^ 64 }
     ensures count { result.0 ≤ length bytes.now }
     ensures whole { result.1 ≡ None → result.0 ≡ length bytes.now }
+    ensures short { IsSome result.1 → result.0 < length bytes.now }
     ensures added { AddsBytes (F.contents folder.old) file (take result.0 bytes.now) (F.contents folder.new) }
     ensures loss { Goes (Tears file end) (F.loss folder.old) (F.loss folder.new) }
 {
@@ -169,7 +171,7 @@ fn add_on<F: Folder>(
 }
 
 /// Adds bytes behind the end of a file, all of them. Where the folder refuses some of them, the ones that it took are cut off
-/// again, where it lets them. It answers how many were added, and what was refused.
+/// again, where it lets them. It answers how many were added, fewer than all then, and what was refused.
 fn add_whole<F: Folder>(
     folder: &mut F,
     file: u64,
@@ -180,6 +182,7 @@ fn add_whole<F: Folder>(
     requires fits { end + length bytes.now < 2 ^ 64 }
     ensures count { result.0 ≤ length bytes.now }
     ensures whole { result.1 ≡ None → result.0 ≡ length bytes.now }
+    ensures short { IsSome result.1 → result.0 < length bytes.now }
     ensures added { AddsBytes (F.contents folder.old) file (take result.0 bytes.now) (F.contents folder.new) }
     ensures loss { Goes (Tears file end) (F.loss folder.old) (F.loss folder.new) }
 {

@@ -75,9 +75,9 @@ Removes old file new = Becomes old (remove old.table file) (remove old.files fil
 abbrev pub MayCreate : Disk → ℕ → Disk → Type 0
 MayCreate old file new = Keeps old new ⊎ Creates old file new
 
--- A refused append leaves the old bytes and some prefix of the new ones.
+-- A refused append leaves the old bytes and some front of the new ones, never all of them. Of none nothing changes.
 abbrev pub AppendsSome : Disk → ℕ → List ℕ → Disk → Type 0
-AppendsSome old file bytes new = (k : ℕ) × (k ≤ length bytes) × Appends old file (take k bytes) new
+AppendsSome old file bytes new = (k : ℕ) × (k ≤ length bytes - 1) × Appends old file (take k bytes) new
 
 -- A count rose, or stands at u64's end.
 abbrev pub Grew : ℕ → ℕ → Type 0

@@ -1,5 +1,5 @@
 -- Which calls a fuse refuses, and the disk that a store with a fuse is.
-use Rattle.std.specs.Prelude.{◌≡◌, ℕ, ◌+◌, ◌==◌, min, Bool, true, false, if◌then◌else◌, nat_le, Result, Err}
+use Rattle.std.specs.Prelude.{◌≡◌, ℕ, ◌+◌, ◌-◌, ◌==◌, min, Bool, true, false, if◌then◌else◌, nat_le, Result, Err, List, length, take}
 use Rattle.kb_store.specs.Disk.{Disk, IsLawfulDisk}
 use Rattle.kb_store.specs.declared.fault.StoreFault.{StoreFault}
 use Rattle.kb_store.specs.declared.fault.StoreFault.TheVariants.{Device}
@@ -11,6 +11,10 @@ use Rattle.kb_store.specs.declared.fused.FusedStore.{FusedStore}
 abbrev pub refuses_call : Fuse → ℕ → Bool
 refuses_call (Once k) n = n == k
 refuses_call (From k) n = nat_le k n
+
+-- The bytes that are kept of a refused append: so many of the first ones, and never the last one.
+abbrev pub kept_front : ℕ → List ℕ → List ℕ
+kept_front keep bytes = take (min keep (length bytes - 1)) bytes
 
 -- One more, short of u64's end.
 abbrev pub one_more : ℕ → ℕ

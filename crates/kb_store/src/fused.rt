@@ -17,15 +17,15 @@ pub enum Fuse {
 /// A store whose device refuses the calls that a fuse names, and does the others as the store inside does them.
 ///
 /// Each refused call raises `failures`. A refused create leaves the file absent if `keep` is 0, else empty. A refused append
-/// leaves the first `keep` of the new bytes, at most all. The store inside is asked for that, and may refuse it, as `partial` tells.
-/// Any other refused call changes nothing.
+/// leaves the first `keep` of the new bytes, at most all but the last. The store inside is asked for that, and may refuse it, as
+/// `partial` tells. Any other refused call changes nothing.
 #[derive(Drop)]
 pub struct FusedStore<S: Store> {
     /// The store inside.
     pub store: S,
     /// Which calls are refused.
     pub fuse: Fuse,
-    /// How many bytes of a refused append are kept.
+    /// How many bytes of a refused append are kept, where it had more.
     pub keep: u64,
     /// How many calls there were, short of `u64`'s end.
     pub calls: u64,
@@ -85,7 +85,7 @@ impl<S: Store> Store for FusedStore<S> {
     ghost use Rattle.kb_store.specs.Disk.{IsThere, len_of, bytes_of, Keeps, Creates, Appends, Cuts, Removes, MayCreate, AppendsSome};
     ghost use Rattle.kb_store.specs.Disk.{HasCause};
     ghost use Rattle.kb_store.specs.Loss.{Goes, Only, Same, Makes, Tears, Drops, Clears};
-    ghost use Rattle.kb_store.specs.Fused.{disk_through, fused_lawful, Counts, CountsWhole, refuses_call, one_more};
+    ghost use Rattle.kb_store.specs.Fused.{disk_through, fused_lawful, Counts, CountsWhole, refuses_call, kept_front, one_more};
 
     ghost disk = { disk_through S.disk };
 
@@ -162,14 +162,16 @@ impl<S: Store> Store for FusedStore<S> {
         // leaves some front of them.
         ensures prefix { refuses_call self.old.fuse (one_more self.old.calls) ≡ true
             → OnOk self.new.partial
-            (Appends (disk_through S.disk self.old) file (take self.old.keep bytes.now) (disk_through S.disk self.new)) }
+            (Appends (disk_through S.disk self.old) file (kept_front self.old.keep bytes.now) (disk_through S.disk self.new)) }
         ensures cut_short { refuses_call self.old.fuse (one_more self.old.calls) ≡ true
-            → AppendsSome (disk_through S.disk self.old) file (take self.old.keep bytes.now) (disk_through S.disk self.new) }
+            → OnErr self.new.partial
+            (AppendsSome (disk_through S.disk self.old) file (kept_front self.old.keep bytes.now) (disk_through S.disk self.new)) }
         ensures partial { refuses_call self.old.fuse (one_more self.old.calls) ≡ true
             → HasCause (S.disk self.old.store) self.new.partial (S.disk self.new.store) }
     {
         if self.refuses() {
-            let kept = self.keep.min(bytes.len() as u64) as usize;
+            let most = bytes.len().saturating_sub(1) as u64;
+            let kept = self.keep.min(most) as usize;
             self.partial = self.store.append(file, &bytes[..kept]);
             return Err(StoreFault::Device);
         }

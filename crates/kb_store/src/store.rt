@@ -53,7 +53,8 @@ pub trait Store {
         ensures cause { HasCause (disk self.old) result (disk self.new) }
         ensures loss { Goes (Makes file) (loss self.old) (loss self.new) };
 
-    /// Adds bytes at the end of a file. After a refusal the file has its old bytes and some prefix of the new ones.
+    /// Adds bytes at the end of a file. After a refusal the file has its old bytes and some front of the new ones, never all of them.
+    /// So what was refused is not there whole.
     fn append(&mut self, file: u64, bytes: &[u8]) -> Result<(), StoreFault>
         requires { IsThere (disk self.old) file }
         ensures appended { OnOk result (Appends (disk self.old) file bytes.now (disk self.new)) }

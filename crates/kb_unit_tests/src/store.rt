@@ -43,7 +43,7 @@ fn make_and_append<S: Store>(store: &mut S, file: u64) -> Result<(bool, u64), St
 #[test]
 #[tactic(auto, using(kb_store::proofs::Disks::none_in_empty))]
 fn a_fuse_refuses(rt: HostRuntime) -> Result<(), Fail> {
-    for (keep, len) in [(0u64, 0u64), (4, 4), (99, 6)] {
+    for (keep, len) in [(0u64, 0u64), (4, 4), (6, 5), (99, 5)] {
         let mut store = FusedStore::new(MemoryStore::new(rt.alloc()), Fuse::Once(2), keep);
         assert_eq!(rt; make_and_append(&mut store, 7)?, (true, len));
         assert_eq!(rt; store.failures(), 1);

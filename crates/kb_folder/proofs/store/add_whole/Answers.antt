@@ -32,3 +32,6 @@ pub returns-in-Err-clause-loss : goal.returns-in-Err-clause-loss
 returns-in-Err-clause-loss g c =
     goes_torn c.args.file c.args.end c.args.end (g.F.Folder.loss c.args.folder.now) (g.F.Folder.loss c.add_on-added.new.folder) (g.F.Folder.loss c.cut.new.self) (omega arith)
     c.add_on-added.ensures.loss c.cut.ensures.loss
+
+pub returns-in-Ok-clause-short : goal.returns-in-Ok-clause-short
+returns-in-Ok-clause-short g c = λ some. omega (arith, c.add_on-added.ensures.short some)

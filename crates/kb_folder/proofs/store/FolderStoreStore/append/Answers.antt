@@ -1,4 +1,4 @@
-use Rattle.std.proofs.Common.{ap, ◌≡◌, ◌<◌, ◌+◌, List, ℕ, None, sym, subst, refl, take, arith, rules}
+use Rattle.std.proofs.Common.{ap, ◌≡◌, ◌≤◌, ◌<◌, ◌+◌, ◌-◌, List, ℕ, None, IsSome, length, sym, subst, refl, take, arith, rules}
 use Rattle.std.proofs.lemmas.List.{take_all}
 use Rattle.kb_store.specs.Disk.{IsThere, Appends, AppendsSome, len_of}
 use Rattle.kb_folder.specs.Store.{disk_over, folder_disk}
@@ -52,8 +52,10 @@ returns-in-Some-clause-refused g c =
     let added = c.add_whole-added in
     let has = g.F.Folder.contents added.new.folder in
     let small : c.kept_len-end.result + added.result.0 < 18446744073709551616 = search rules in
+    let some : IsSome added.result.1 = search rules in
+    let most : added.result.0 ≤ length c.args.bytes.now - 1 = omega (arith, added.ensures.short some) in
     subst (λ v. AppendsSome (disk_over g.F.Folder.contents v) c.args.file c.args.bytes.now (folder_disk has c.set_len.new.lens.entries c.fault_of.new.failures)) c.self.view_is
-    (added.result.0, added.ensures.count, grown had has c.self.inside.lens.entries c.set_len.new.lens.entries c.args.file c.kept_len-end.result added.result.0 c.args.bytes.now c.self.inside.failures c.fault_of.new.failures c.self.invariant c.kept_len-end.ensures small added.ensures.count c.set_len.ensures added.ensures.added)
+    (added.result.0, most, grown had has c.self.inside.lens.entries c.set_len.new.lens.entries c.args.file c.kept_len-end.result added.result.0 c.args.bytes.now c.self.inside.failures c.fault_of.new.failures c.self.invariant c.kept_len-end.ensures small added.ensures.count c.set_len.ensures added.ensures.added)
 
 pub returns-then-bytes-end-clause-loss : goal.returns-then-bytes-end-clause-loss
 returns-then-bytes-end-clause-loss g c =

@@ -15,6 +15,14 @@ abbrev pub reading_of : Option ℕ → Option ℕ → Reading
 reading_of wall steady =
     record { wall = micros_of (unwrap_or wall 0); steady = micros_of (unwrap_or steady 0) }
 
+-- a second, in microseconds of the steady clock
+abbrev pub a_second : ℕ
+a_second = 1000000
+
+-- half a minute, in halves of a microsecond
+abbrev pub half_a_minute : ℕ
+half_a_minute = 60000000
+
 -- a minute, in halves of a microsecond
 abbrev pub a_minute : ℕ
 a_minute = 120000000
@@ -46,6 +54,10 @@ expected clock reading = capped_time (clock.time + elapsed clock reading * 2)
 abbrev pub at_half_pace : GuardedClock → Reading → ℕ
 at_half_pace clock reading = capped_time (clock.time + elapsed clock reading)
 
+-- the time at twice that pace, for which a second counts at most
+abbrev pub at_twice_the_pace : GuardedClock → Reading → ℕ
+at_twice_the_pace clock reading = capped_time (clock.time + min (elapsed clock reading) a_second * 4)
+
 -- the wall clock is more than a minute ahead of the time that is expected
 abbrev pub is_ahead : GuardedClock → Reading → Bool
 is_ahead clock reading = nat_lt a_minute (wall_time reading - expected clock reading)
@@ -62,10 +74,16 @@ is_new clock reading = nat_lt (steady_after clock reading - since clock reading)
 abbrev pub is_held : GuardedClock → Reading → Bool
 is_held clock reading = is_ahead clock reading && is_new clock reading
 
--- The time is the expected one where the wall clock is not followed. Else it is the wall clock's, but goes on at half the pace at least.
+-- The time to go on to is the expected one where the wall clock is not followed. Else it is the wall clock's, but later than the last one
+-- by half the pace at least.
+abbrev pub aim : GuardedClock → Reading → ℕ
+aim clock reading =
+    if is_held clock reading then expected clock reading else max (wall_time reading) (at_half_pace clock reading)
+
+-- The time goes there at twice the pace at most, but stays no more than half a minute behind.
 abbrev pub time_after : GuardedClock → Reading → ℕ
 time_after clock reading =
-    if is_held clock reading then expected clock reading else max (wall_time reading) (at_half_pace clock reading)
+    min (aim clock reading) (max (at_twice_the_pace clock reading) (aim clock reading - half_a_minute))
 
 -- What is told: that the wall clock is ahead, once; and how that ends.
 abbrev pub notice : Option ℕ → Bool → Bool → Option Notice

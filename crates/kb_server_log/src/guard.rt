@@ -1,15 +1,21 @@
 //! A clock that follows the wall clock, but not each of its jumps.
 
-ghost use Rattle.std.specs.Prelude.{◌≡◌, ◌≤◌, ◌<◌, ◌+◌, ◌-◌, ◌/◌, option_map};
+ghost use Rattle.std.specs.Prelude.{◌≡◌, ◌≤◌, ◌<◌, ◌+◌, ◌-◌, ◌/◌, max, option_map};
 ghost use Rattle.kb_wire.specs.declared.clock.TheConstants.{MAX_CLOCK};
 ghost use Rattle.std.specs.Duration.{as_nanos};
 ghost use Rattle.kb_server_log.specs.Guard.{reading_of, micros_of};
-ghost use Rattle.kb_server_log.specs.Guard.{started_clock, clock_after, told, notice, at_half_pace, expected, since, steady_after};
-ghost use Rattle.kb_server_log.specs.Guard.{a_minute, ten_minutes};
+ghost use Rattle.kb_server_log.specs.Guard.{started_clock, clock_after, told, notice, aim, at_half_pace, at_twice_the_pace, expected};
+ghost use Rattle.kb_server_log.specs.Guard.{elapsed, since, steady_after, a_second, half_a_minute, a_minute, ten_minutes};
 
 use std::time::{Clock, Duration};
 
-/// How far ahead the wall clock is followed at once: a minute, in halves of a microsecond.
+/// How much of the time between two readings counts where the wall clock is caught up with: a second, in microseconds.
+const SECOND: u64 = 1_000_000;
+
+/// How far the time stays behind at most: half a minute, in halves of a microsecond.
+const HALF_A_MINUTE: u64 = 60_000_000;
+
+/// How far ahead the wall clock is followed: a minute, in halves of a microsecond.
 const MINUTE: u64 = 120_000_000;
 
 /// How long the wall clock is ahead before it is followed: ten minutes, in microseconds.
@@ -46,8 +52,10 @@ pub struct Tick {
 
 /// A clock that goes on with the wall clock and never goes back.
 ///
-/// Where the wall clock is behind, it goes on at half its pace until they meet. Where the wall clock is more than a minute ahead, it
-/// goes on at its own pace, and follows only after ten minutes.
+/// Where the wall clock is behind, it goes on at half its pace until they meet. Where the wall clock is ahead, it goes on at twice its pace
+/// at most, and by two seconds at a reading: so what waits to be read behind a standstill is read before its time is over. But it stays no
+/// more than half a minute behind. Where the wall clock is more than a minute ahead, it goes on at its own pace, and follows only after ten
+/// minutes.
 #[derive(Clone, Copy, Debug, PartialEq, Eq)]
 pub struct GuardedClock {
     /// The time, in halves of a microsecond since the beginning of 1970.
@@ -94,8 +102,11 @@ impl GuardedClock {
         ensures told { result.told ≡ told self.old reading }
         ensures bounded { result.moment ≤ MAX_CLOCK }
         ensures never_back { self.old.time ≤ self.new.time }
-        ensures at_half_pace { at_half_pace self.old reading ≤ self.new.time }
-        ensures no_jump { steady_after self.old reading - since self.old reading < ten_minutes → self.new.time ≤ expected self.old reading + a_minute }
+        ensures at_half_pace { elapsed self.old reading ≤ a_second → at_half_pace self.old reading ≤ self.new.time }
+        ensures at_twice_the_pace { self.new.time ≤ max (at_twice_the_pace self.old reading) (aim self.old reading - half_a_minute) }
+        ensures near { aim self.old reading ≤ self.new.time + half_a_minute }
+        ensures no_jump { steady_after self.old reading - since self.old reading < ten_minutes
+            → self.new.time ≤ expected self.old reading + a_minute }
     {
         let elapsed = reading.steady.saturating_sub(self.steady);
         let steady = self.steady.max(reading.steady);
@@ -105,11 +116,13 @@ impl GuardedClock {
         let since = self.ahead_since.unwrap_or(steady);
         let is_held = is_ahead && steady.saturating_sub(since) < TEN_MINUTES;
         let told = notice_of(self.ahead_since, is_ahead, is_held);
-        self.time = if is_held {
+        let aim = if is_held {
             expected
         } else {
             wall.max(self.time.saturating_add(elapsed))
         };
+        let at_twice_the_pace = self.time.saturating_add(elapsed.min(SECOND) * 4);
+        self.time = aim.min(at_twice_the_pace.max(aim.saturating_sub(HALF_A_MINUTE)));
         self.steady = steady;
         self.ahead_since = is_held.then_some(since);
         Tick {

@@ -1,6 +1,7 @@
 //! What is tested of a server's time and of its lines.
 
 use kb_server_log::{GuardedClock, Missed, Notice, Reading, Sink};
+use std::process::Abort;
 use std::test::*;
 
 /// Readings of the wall clock and of the steady clock in seconds, and what they come to: the moment in seconds, and what is told.
@@ -10,27 +11,52 @@ const READINGS: [(u32, u32, u32, Option<Notice>); 10] = [
     (1063, 2, 1002, Some(Notice::Ahead)),
     (1004, 3, 1004, Some(Notice::Back)),
     // 59 seconds ahead
-    (1064, 4, 1064, None),
-    // behind, for ten seconds
-    (1000, 14, 1069, None),
-    (1072, 16, 1072, None),
+    (1064, 4, 1034, None),
+    // behind, for ten seconds in which nothing was read
+    (1000, 14, 1036, None),
+    (1072, 16, 1042, None),
     // ahead for ten minutes
-    (9000, 17, 1073, Some(Notice::Ahead)),
-    (9599, 616, 1672, None),
-    (9600, 617, 9600, Some(Notice::Taken)),
-    (0, 617, 9600, None),
+    (9000, 17, 1043, Some(Notice::Ahead)),
+    (9599, 616, 1612, None),
+    (9600, 617, 9570, Some(Notice::Taken)),
+    (0, 617, 9570, None),
+];
+
+/// The same of a standstill of eight seconds, and of one of fifty.
+const STANDSTILLS: [(u32, u32, u32, Option<Notice>); 10] = [
+    (1008, 8, 1002, None),
+    (1009, 9, 1004, None),
+    (1010, 10, 1006, None),
+    (1011, 11, 1008, None),
+    (1012, 12, 1010, None),
+    (1013, 13, 1012, None),
+    (1014, 14, 1014, None),
+    (1015, 15, 1015, None),
+    (1065, 65, 1035, None),
+    (1066, 66, 1037, None),
 ];
 
 const SECOND: u64 = 1_000_000;
 
-/// A clock that starts at 1000 seconds.
+/// A clock that starts at 1000 seconds does not follow each jump.
 #[test]
 fn a_clock_is_guarded(rt: HostRuntime) -> Result<(), Fail> {
+    comes_to(&rt, &READINGS)
+}
+
+/// Where nothing was read for some seconds, the time goes on by two, and then at twice its pace. It stays half a minute behind at most.
+#[test]
+fn a_standstill_is_caught_up_with(rt: HostRuntime) -> Result<(), Fail> {
+    comes_to(&rt, &STANDSTILLS)
+}
+
+/// Whether a clock that starts at 1000 seconds comes to what readings tell.
+fn comes_to(rt: &impl Abort, readings: &[(u32, u32, u32, Option<Notice>)]) -> Result<(), Fail> {
     let mut clock = GuardedClock::starting(Reading {
         wall: 1000 * SECOND,
         steady: 0,
     });
-    for (wall, steady, seconds, told) in READINGS {
+    for &(wall, steady, seconds, told) in readings {
         let tick = clock.next(Reading {
             wall: u64::from(wall) * SECOND,
             steady: u64::from(steady) * SECOND,

@@ -24,6 +24,9 @@ pub enum OperatorFault {
     /// Another process serves the folder at this path.
     #[error("kbroker: another process serves {0}")]
     Held(String),
+    /// No file of the folder at this path names a tenant.
+    #[error("kbroker: no file in {0} names a tenant")]
+    Nobody(String),
     /// What the system refuses, or has too little of.
     #[error("kbroker: {0}")]
     System(String),

@@ -15,7 +15,7 @@ use std::alloc::{AllocError, Global};
 use std::collections::BTreeSet;
 
 /// The settings of a file that has a user for each tenant that the files of a journal's folder name, and nothing else. Where they name
-/// none, there is one of no files. A tenant's name is one of settings, too, since a header with another cannot be read.
+/// none, that is the fault. A tenant's name is one of settings, too, since a header with another cannot be read.
 pub fn settings_of_files(
     rt: &HostRuntime,
     folder: &FolderJournal,
@@ -26,12 +26,12 @@ pub fn settings_of_files(
         Ok(names) => names,
         Err(fault) => return Err(folder.of_store(alloc, fault)),
     };
+    if names.is_empty() {
+        return Err(OperatorFault::Nobody(String::from_str(alloc, folder.folder())?));
+    }
     let mut text = String::new(alloc);
     for name in &names {
         push_user(alloc, &mut text, name)?;
-    }
-    if names.is_empty() {
-        push_user(alloc, &mut text, "nobody")?;
     }
     settings_in(alloc, folder.folder(), &text)
 }

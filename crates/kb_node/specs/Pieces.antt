@@ -2,11 +2,19 @@
 use Rattle.std.specs.Prelude.{ℕ, List, drop, length, Bool, ◌&&◌, nat_eq, if◌then◌else◌}
 use Rattle.kb_node.specs.declared.input.Input.{Input}
 use Rattle.kb_node.specs.declared.input.Progress.{Progress}
-use Rattle.kb_node.specs.Requests.{awaited, gone_on, may_begin, piece_len}
+use Rattle.kb_node.specs.Requests.{awaited, gone_on, is_too_long, may_begin, piece_len}
 
 -- what was read and is not handed on
 abbrev pub unhanded : Input → List ℕ
 unhanded i = drop i.handed i.bytes.items
+
+-- the request in front, of which nothing was handed on, is too long before the login
+abbrev pub has_too_long : Bool → Input → Bool
+has_too_long is_bound i = is_too_long is_bound (awaited i.progress.left (unhanded i))
+
+-- a piece begins too long a request before the login: nothing is kept in front of it
+abbrev pub begins_too_long : Bool → List ℕ → Input → Bool
+begins_too_long is_bound piece i = nat_eq (length (unhanded i)) 0 && is_too_long is_bound (awaited i.progress.left piece)
 
 -- A piece may be handed on past what is kept: nothing is, and its request is begun, or may begin where none begins of more than `most` bytes.
 abbrev pub may_pass : Bool → ℕ → List ℕ → Input → Bool

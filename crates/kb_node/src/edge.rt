@@ -350,7 +350,7 @@ impl<R: Net, S: Store, L: PartitionLog + Drop> Edge<R, S, L> {
         self.host.broker()
     }
 
-    /// The logins of the last turn, and the connections that the broker shut in it: of each kind the first 16.
+    /// The logins of the last turn, and the connections that were closed in it for a cause: of each kind the first 16.
     pub fn news(&self) -> &News
         ensures { result.now ≡ self.now.news }
     {

@@ -33,7 +33,7 @@ mod transfer;
 mod turn;
 mod watch;
 
-pub use closed::Closed;
+pub use closed::{Cause, Closed};
 pub use doors::BindCause;
 pub use edge::{BindFault, BindRefused, Edge};
 pub use fault::{NodeFault, StartFault};
@@ -51,6 +51,7 @@ pub use promises::{
 pub use reader_waits::ReaderWaits;
 pub use replies::{input_shares, reply_shares};
 pub use script::{play_script, play_script_on, play_script_with};
+pub use socket::STRANGER_FRAME;
 pub use socket_shares::SocketShares;
 pub use start::{data_folder, read_settings};
 pub use tenant_traffic::{API_KEYS, TenantTraffic};

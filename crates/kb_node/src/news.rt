@@ -1,4 +1,4 @@
-//! What happened in a turn and is told one by one: logins, and connections that the broker shut.
+//! What happened in a turn and is told one by one: logins, and connections that were closed for a cause.
 
 ghost use Rattle.std.specs.Prelude.{◌≡◌, [], IfOk};
 
@@ -24,7 +24,7 @@ pub struct News {
     pub logins: Firsts<LoginAttempt>,
     /// The logins that failed.
     pub denied: Firsts<LoginAttempt>,
-    /// The connections that the broker shut and that are closed, but for logins that failed.
+    /// The connections that are closed for a cause that is told, but for logins that failed.
     pub closed: Firsts<Closed>,
 }
 

@@ -18,6 +18,7 @@ use crate::input::Input;
 use crate::socket_shares::SocketShares;
 use crate::tenant_traffic::Heading;
 use crate::turn::Turn;
+pub use asking::STRANGER_FRAME;
 use kb_broker::Broker;
 use kb_isolation_spec::Shut;
 use kb_log::PartitionLog;

@@ -1,4 +1,4 @@
--- Why a connection was shut.
+-- Why a connection was closed.
 use Rattle.std.proofs.Common.{◌≡◌, ◌∙◌, ℕ, ℤ, pos, negsuc, List, Bor, Option, None, Some, Result, Ok, Err, inl, inr, ap, length, refl, sym, string_bytes}
 use Rattle.std.proofs.lemmas.Option.{slice_get_past, slice_get_read}
 use Rattle.std.proofs.Math.IntN.{nat_abs}
@@ -6,12 +6,12 @@ use Rattle.std.specs.Prelude.{IfOk, option_copied, slice_get}
 use Rattle.std.specs.Int.{FitsUnsignedBits}
 use Rattle.std.specs.Slice.{IsItemAt}
 use Rattle.std.specs.declared.string.String.{String}
-use Rattle.kb_isolation_spec.specs.declared.shut.Shut.{Shut}
+use Rattle.kb_node.specs.declared.closed.Cause.{Cause}
 use Rattle.kb_operator.specs.Logged.{bytes_or_none}
-use Rattle.kbroker.specs.Shut.{IsWhy, api_name, api_names, shut_words}
+use Rattle.kbroker.specs.Shut.{IsWhy, api_name, api_names, cause_words}
 
-pub why_of : {A E : Type 0} (r : Result (String A) E) (cause : Shut) (request_bytes : ℕ)
-    → IfOk r (λ text. string_bytes text ≡ shut_words cause request_bytes) → IsWhy cause request_bytes (bytes_or_none r)
+pub why_of : {A E : Type 0} (r : Result (String A) E) (cause : Cause) (request_bytes : ℕ)
+    → IfOk r (λ text. string_bytes text ≡ cause_words cause request_bytes) → IsWhy cause request_bytes (bytes_or_none r)
 why_of (Ok text) cause request_bytes is = inl is
 why_of (Err e) cause request_bytes is = inr refl
 

@@ -1,8 +1,11 @@
--- Why a connection was shut, in words.
+-- Why a connection was closed, in words.
 use Rattle.std.specs.Prelude.{◌≡◌, ◌⊎◌, ◌++◌, ℕ, ℤ, pos, negsuc, List, [], ◌∷◌, codes, decimal, Option, None, slice_get, unwrap_or}
 use Rattle.std.specs.Fmt.{signed_decimal}
 use Rattle.kb_isolation_spec.specs.declared.shut.Shut.{Shut}
 use Rattle.kb_isolation_spec.specs.declared.shut.Shut.TheVariants as causes
+use Rattle.kb_node.specs.Requests.{stranger_frame}
+use Rattle.kb_node.specs.declared.closed.Cause.{Cause}
+use Rattle.kb_node.specs.declared.closed.Cause.TheVariants as closings
 
 -- the names of the APIs by their keys, from 0 (Kafka protocol guide, "API Keys")
 unfoldable pub api_names : List (List ℕ)
@@ -29,7 +32,7 @@ api_name (negsuc n) = None
 abbrev pub api_text : ℤ → List ℕ
 api_text key = unwrap_or (api_name key) (codes "API " ++ signed_decimal key)
 
--- the words for a cause, where no request of more than so many bytes is read
+-- the words for why the broker shut it, where no request of more than so many bytes is read
 abbrev pub shut_words : Shut → ℕ → List ℕ
 shut_words causes.TooShort request_bytes = codes "a request is too short for its header"
 shut_words causes.TooLong request_bytes = codes "a request is longer than " ++ (decimal request_bytes ++ codes " bytes")
@@ -43,6 +46,12 @@ shut_words causes.Denied request_bytes = codes "its login failed"
 shut_words causes.Overrun request_bytes = codes "more came than there was room for"
 shut_words causes.Memory request_bytes = codes "out of memory"
 
--- why it was shut, or nothing where there was no memory for the words
-abbrev pub IsWhy : Shut → ℕ → List ℕ → Type 0
-IsWhy cause request_bytes why = (why ≡ shut_words cause request_bytes) ⊎ (why ≡ [])
+-- the words for why it was closed
+abbrev pub cause_words : Cause → ℕ → List ℕ
+cause_words (closings.Shut shut) request_bytes = shut_words shut request_bytes
+cause_words closings.LongBeforeLogin request_bytes =
+    codes "a request is longer than " ++ (decimal stranger_frame ++ codes " bytes before its login")
+
+-- why it was closed, or nothing where there was no memory for the words
+abbrev pub IsWhy : Cause → ℕ → List ℕ → Type 0
+IsWhy cause request_bytes why = (why ≡ cause_words cause request_bytes) ⊎ (why ≡ [])

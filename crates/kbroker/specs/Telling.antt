@@ -44,7 +44,7 @@ module _ {T : Type 0} (logged : T → Option (List LogLine)) (now second : ℕ) 
   TellsDenied address (logins.Failed name) old new = TellsFailed logged now second address name old new
   TellsDenied address login old new = new ≡ old
 
-  -- a connection that the broker shut, and why, in words; no request of more than so many bytes is read
+  -- a connection that was closed for a cause, and that, in words; no request of more than so many bytes is read
   abbrev pub TellsShutOne : ℕ → shut.Closed → Journal T → Journal T → Type 0
   TellsShutOne request_bytes c old new =
       (why : List ℕ) × IsWhy c.cause request_bytes why × TellsShutFor logged now second c.address c.tenant why old new
@@ -63,8 +63,8 @@ module _ {T : Type 0} (logged : T → Option (List LogLine)) (now second : ℕ) 
   TellsShuts request_bytes cs old new =
       (told : Journal T) × Along (TellsShutOne request_bytes) cs.first.items old told × (new ≡ record told { shut = with_more cs.more told.shut })
 
--- All of a turn at a moment, one behind the other: logins, connections that were shut, what was passed over in seconds before, the clock, and
--- what is counted.
+-- All of a turn at a moment, one behind the other: logins, connections that were closed for a cause, what was passed over in seconds before,
+-- the clock, and what is counted.
 pub record TellsTurn {T : Type 0} (logged : T → Option (List LogLine)) (now moment request_bytes : ℕ) (news : News) (notice : Option Notice)
     (turn : Turn) (counts : BrokerCounts) (old new : Journal T) : Type 0 where
   pub behind_right : Journal T

@@ -1,9 +1,10 @@
-//! Why a connection was shut, as it is told.
+//! Why a connection was closed, as it is told.
 
 ghost use Rattle.std.specs.Prelude.{◌≡◌, IfOk, map, option_map, slice_get, string_bytes};
-ghost use Rattle.kbroker.specs.Shut.{api_name, api_text, shut_words};
+ghost use Rattle.kbroker.specs.Shut.{api_name, api_text, cause_words, shut_words};
 
 use kb_isolation_spec::Shut;
+use kb_node::{Cause, STRANGER_FRAME};
 use std::alloc::{AllocError, Global};
 
 /// The names of the APIs by their keys, from 0 (Kafka protocol guide, "API Keys").
@@ -58,9 +59,22 @@ const NAMES: [&str; 48] = [
     "OffsetDelete",
 ];
 
-/// Why a connection was shut on which no request of more than `request_bytes` is read, in words. They depend on nothing else but the
+/// Why a connection was closed on which no request of more than `request_bytes` is read, in words. They depend on nothing else but the
 /// cause.
-pub fn text_of(alloc: Global, cause: Shut, request_bytes: u32) -> Result<String, AllocError>
+pub fn cause_text(alloc: Global, cause: Cause, request_bytes: u32) -> Result<String, AllocError>
+    ensures { IfOk result (λ text. string_bytes text ≡ cause_words cause request_bytes) }
+{
+    match cause {
+        Cause::Shut(shut) => text_of(alloc, shut, request_bytes),
+        Cause::LongBeforeLogin => {
+            format!(in alloc; "a request is longer than {STRANGER_FRAME} bytes before its login")
+        }
+    }
+}
+
+/// Why the broker shut a connection on which no request of more than `request_bytes` is read, in words. They depend on nothing else but the
+/// cause.
+fn text_of(alloc: Global, cause: Shut, request_bytes: u32) -> Result<String, AllocError>
     ensures { IfOk result (λ text. string_bytes text ≡ shut_words cause request_bytes) }
 {
     match cause {

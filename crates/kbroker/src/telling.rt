@@ -9,7 +9,7 @@ ghost use Rattle.kbroker.specs.Telling.{length_lines, notice_lines, silent_in, T
 ghost use Rattle.kbroker.specs.Telling.{TellsShutOne, TellsTurn, TellsUser, TellsWrong};
 ghost use Rattle.kbroker.specs.Unread.{unread_at};
 
-use crate::causes::text_of;
+use crate::causes::cause_text;
 use kb_broker::Broker;
 use kb_isolation_spec::Login;
 use kb_log::PartitionLog;
@@ -248,7 +248,7 @@ fn tell_wrong<T: LineLog>(
     }
 }
 
-/// Tells the connections of a turn in a second that the broker shut, on which no request of more than `request_bytes` is read.
+/// Tells the connections of a turn in a second that were closed for a cause, on which no request of more than `request_bytes` is read.
 fn tell_closed<T: LineLog>(
     alloc: Global,
     now: u64,
@@ -266,7 +266,7 @@ fn tell_closed<T: LineLog>(
     journal.count_shut(shut.more());
 }
 
-/// Tells a connection that the broker shut, on which no request of more than `request_bytes` is read.
+/// Tells a connection that was closed for a cause, on which no request of more than `request_bytes` is read.
 fn tell_shut<T: LineLog>(
     alloc: Global,
     now: u64,
@@ -277,6 +277,6 @@ fn tell_shut<T: LineLog>(
 )
     ensures { TellsShutOne T.logged now second request_bytes closed.now journal.old journal.new }
 {
-    let cause = text_of(alloc, closed.cause, request_bytes);
+    let cause = cause_text(alloc, closed.cause, request_bytes);
     journal.tell_shut(alloc, now, second, closed.address, closed.tenant, cause);
 }

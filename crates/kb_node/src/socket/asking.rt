@@ -7,7 +7,7 @@ ghost use Rattle.kb_broker.specs.Places.{numbers};
 ghost use Rattle.kb_node.specs.Carries.{Carries, HandsOn, unhanded_of, unwritten_of};
 ghost use Rattle.kb_node.specs.Commits.{tells_at_once};
 ghost use Rattle.kb_node.specs.Notices.{one_more_if};
-ghost use Rattle.kb_node.specs.Pieces.{passed_len, progress_behind, progress_on, unhanded};
+ghost use Rattle.kb_node.specs.Pieces.{begins_too_long, has_too_long, passed_len, progress_behind, progress_on, unhanded};
 ghost use Rattle.kb_node.specs.Replies.{reserve_for};
 ghost use Rattle.kb_node.specs.Requests.{awaited, is_short, is_too_long, may_begin, reach};
 ghost use Rattle.kb_node.specs.Seats.{KeepsSeat};
@@ -32,8 +32,8 @@ const FETCH_REPLY: usize = 8_388_608;
 /// How many bytes are kept free for another reply.
 const OTHER_REPLY: usize = 65_536;
 
-/// The most bytes of a request before the login, and those of its size.
-const STRANGER_FRAME: usize = 65_536 + SIZE;
+/// The most bytes of a request before the login, those of its size not among them.
+pub const STRANGER_FRAME: usize = 65_536;
 
 /// The bytes of a request's size.
 const SIZE: usize = 4;
@@ -63,9 +63,12 @@ impl<T: Read + Write + Drop> Socket<T> {
         ensures fits { turn.new.read ≤ turn.old.read
             + min (room_of self.old.connection host.old.broker.state) (reach self.old.input.progress.left most) }
         ensures reserved { host.new ≢ host.old → 65536 ≤ result }
-        // What is kept of a request that may not begin is not handed on.
-        ensures held { may_begin self.old.is_bound most
-            (awaited self.old.input.progress.left (drop self.old.input.handed self.old.input.bytes.items)) ≡ false → host.new ≡ host.old }
+        // What is kept of a request that may not begin is not handed on. One whose request in front is too long before the login is closed
+        // for that, and counted, and nothing more is read.
+        ensures held { (may_begin self.old.is_bound most (awaited self.old.input.progress.left (unhanded self.old.input)) ≡ false
+            → host.new ≡ host.old) × (self.old.is_lost ≡ false → has_too_long self.old.is_bound self.old.input ≡ true
+            → (self.new ≡ record self.old { is_over = true })
+            × (turn.new ≡ record turn.old { strangers = one_more_if true turn.old.strangers })) }
         // What is kept is handed on as far as its request goes, where that may begin. It is noted that one became whole only where none is
         // begun.
         ensures progress { (self.old.is_lost ≡ false → is_short self.old.input.progress.left (unhanded self.old.input) ≡ false
@@ -122,12 +125,19 @@ impl<T: Read + Write + Drop> Socket<T> {
             ≡ record turn.old { strangers = one_more_if (is_too_long self.old.is_bound size) turn.old.strangers } }
         ensures read { turn.new.read ≡ turn.old.read }
     {
-        if !self.is_bound && size > STRANGER_FRAME {
+        if is_too_long(self.is_bound, size) {
             self.is_over = true;
             turn.count_stranger();
             return false;
         }
         size as u64 <= most
+    }
+
+    /// Whether the request in front is too long before the login. Nothing of it was handed on.
+    pub(super) fn has_too_long(&self) -> bool
+        ensures { result ≡ has_too_long self.now.is_bound self.now.input }
+    {
+        is_too_long(self.is_bound, self.input.awaited())
     }
 
     /// Hands on what of a piece may be handed on where nothing is kept, and keeps the rest.
@@ -149,11 +159,16 @@ impl<T: Read + Write + Drop> Socket<T> {
         ensures numbers { numbers host.new.broker.state ≡ numbers host.old.broker.state }
         ensures sync { (host.new.tried ≡ host.old.tried) × (host.new.commits.sync ≡ host.old.commits.sync)
             × (tells_at_once host.old.commits ≡ true → tells_at_once host.new.commits ≡ true) }
-        ensures read { turn.new.read ≡ turn.old.read }
         ensures progress { self.new.input.progress ≡ progress_behind self.old.is_bound most room piece.now self.old.input }
         ensures reserved { host.new ≢ host.old → 65536 ≤ result }
-        // Nothing is handed on of a request that may not begin.
-        ensures held { may_begin self.old.is_bound most (awaited self.old.input.progress.left piece.now) ≡ false → host.new ≡ host.old }
+        // Nothing is handed on of a request that may not begin. One whose piece begins too long a request before the login is closed for
+        // that, and counted. The piece is kept, unless it is lost.
+        ensures held { (may_begin self.old.is_bound most (awaited self.old.input.progress.left piece.now) ≡ false → host.new ≡ host.old)
+            × (begins_too_long self.old.is_bound piece.now self.old.input ≡ true → (self.new.is_over ≡ true)
+            × (self.new.is_lost ≡ false → has_too_long self.new.is_bound self.new.input ≡ true)) }
+        ensures counted { turn.new ≡ record turn.old {
+          strangers = one_more_if (begins_too_long self.old.is_bound piece.now self.old.input) turn.old.strangers;
+        } }
         ensures anew { self.old.is_anew ≡ false → self.new.is_anew ≡ true → self.new.input.progress.left ≡ 0 }
     {
         let is_begun = self.input.is_begun();
@@ -182,6 +197,11 @@ impl<T: Read + Write + Drop> Socket<T> {
         ensures unhanded { unhanded_of self.new ≡ unhanded_of self.old }
         ensures rest { self.new ≡ record self.old { input = self.new.input; is_over = self.new.is_over } }
         ensures over { self.old.is_over ≡ true → self.new.is_over ≡ true }
+        // One whose piece begins too long a request before the login is closed for that, and counted.
+        ensures refused { self.new.is_over ≡ (self.old.is_over || begins_too_long self.old.is_bound piece.now self.old.input) }
+        ensures counted { turn.new ≡ record turn.old {
+          strangers = one_more_if (begins_too_long self.old.is_bound piece.now self.old.input) turn.old.strangers;
+        } }
         ensures read { turn.new.read ≡ turn.old.read }
     {
         let awaited = self.input.awaited_in(piece);
@@ -216,6 +236,13 @@ impl<T: Read + Write + Drop> Socket<T> {
         }
         0
     }
+}
+
+/// Whether a request of so many bytes, those of its size among them, is too long for a socket that has not logged in.
+fn is_too_long(is_bound: bool, size: usize) -> bool
+    ensures { result ≡ is_too_long is_bound size }
+{
+    !is_bound && size > STRANGER_FRAME + SIZE
 }
 
 /// How many bytes are kept free for the reply to a piece of a request, until it is there: many where that may be a Fetch, as where its API

@@ -16,7 +16,7 @@ ghost use Rattle.kb_node.specs.Seats.{IsReseated, KeepsSeat};
 ghost use Rattle.kb_node.specs.Sockets.{is_denied, is_done, is_held};
 ghost use Rattle.kb_node.specs.declared.socket.Next.TheVariants.{End};
 
-use crate::closed::Closed;
+use crate::closed::{Cause, Closed};
 use crate::committed::Committed;
 use crate::input::Input;
 use crate::news::{LoginAttempt, News};
@@ -245,13 +245,14 @@ impl<T: Read + Write + Drop> Socket<T> {
         }
     }
 
-    /// Tells of its connection, which is closed now, where the broker shut it.
+    /// Tells of its connection, which is closed now, where the broker shut it, or too long a request came before the login.
     fn tell_closed<S: Store, L: PartitionLog + Drop>(&self, broker: &Broker<S, L>, news: &mut News)
         ensures told { IsAddedIf (closed_told true self.now broker.now.state) news.old.closed news.new.closed }
         ensures others { (news.new.logins ≡ news.old.logins) × (news.new.denied ≡ news.old.denied) }
     {
         let tenant = broker.tenant_of(self.connection);
-        if let Some(closed) = Closed::of(self.peer, tenant, broker.why(self.connection)) {
+        let cause = Cause::of(broker.why(self.connection), self.has_too_long());
+        if let Some(closed) = Closed::of(self.peer, tenant, cause) {
             news.closed.add(closed);
         }
     }

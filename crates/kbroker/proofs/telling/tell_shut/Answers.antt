@@ -4,5 +4,5 @@ use Rattle.kbroker.proofs.telling.tell_shut.Goals as goal
 
 pub returns : goal.returns
 returns g c =
-    let why = c.text_of-cause in
+    let why = c.cause_text-cause in
     (bytes_or_none why.result, why_of why.result c.args.closed.now.cause c.args.request_bytes why.ensures, c.tell_shut.ensures)

@@ -3,6 +3,7 @@ mod Gathered
 mod Named
 mod Noted
 mod Opened
+mod Reported
 mod Scripts
 mod Told
 mod Turned

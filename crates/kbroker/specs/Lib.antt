@@ -8,6 +8,7 @@ pub mod Lines
 pub mod Observed
 pub mod Pages
 pub mod Refusals
+pub mod Reported
 pub mod Scripts
 pub mod Server
 pub mod Shortened

@@ -1,6 +1,6 @@
 //! The opening of a data folder, and what refuses it.
 
-ghost use Rattle.std.specs.Prelude.{◌≡◌, ◌++◌, IfOk, OnOk, Some, codes};
+ghost use Rattle.std.specs.Prelude.{◌≡◌, ◌++◌, IfOk, OnErr, OnOk, Some, codes, string_bytes};
 ghost use Rattle.std.specs.FinMap.{get};
 ghost use Rattle.std.specs.List.{flat_map};
 ghost use Rattle.kb_tenants.specs.Members.{HaveNoGroup};
@@ -8,6 +8,7 @@ ghost use Rattle.kb_broker.specs.Opening.{opening_over};
 ghost use Rattle.kb_restart.specs.Restart.{have_nothing_refused};
 ghost use Rattle.kbroker.specs.Ended.{memory};
 ghost use Rattle.kbroker.specs.Found.{held_of, left_of, HaveLengths};
+ghost use Rattle.kbroker.specs.Reported.{IsReported, IsReportedInPart};
 ghost use Rattle.kbroker.specs.Words.{IsFlag};
 
 use crate::Fault;
@@ -88,14 +89,18 @@ pub fn open_on<S: PutsOff + Drop>(
     Ok((opened, held))
 }
 
-/// Writes what a start on a journal's folder, whose store that is, would find. Where it would be refused the answer is its fault.
+/// Writes what a start on a journal's folder, whose store that is, would find. Where it would be refused the answer is its fault. After a
+/// fault some front of that was written, or nothing.
 pub fn report_on<S: PutsOff + Drop, W: Write>(
     rt: &HostRuntime,
     start: Start<'_>,
     store: S,
     folder: &FolderJournal,
     writer: &mut W,
-) -> Result<(), Fault> {
+) -> Result<(), Fault>
+    ensures ok { OnOk result (IsReported (string_bytes folder.now.folder) (W.contents writer.old) (W.contents writer.new)) }
+    ensures err { OnErr result (IsReportedInPart (string_bytes folder.now.folder) (W.contents writer.old) (W.contents writer.new)) }
+{
     let alloc = rt.alloc();
     let (opened, files, deleted) = open_over(rt, start, store, folder)?;
     let names = tenant_names(alloc, &start.settings.users)?;

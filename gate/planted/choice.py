@@ -87,6 +87,12 @@ def by_hand(crate, edits: List[str]) -> Dict[str, str]:
     return found
 
 
+def has_line(crate, edit: str, was: Dict[str, Tried]) -> bool:
+    """Whether the edit was refused once, whatever changed since."""
+    line = was.get(name_of(crate, edit))
+    return bool(line) and line.holds
+
+
 def is_current(crate, edit: str, was: Dict[str, Tried]) -> bool:
     """Whether the edit has a line of just these texts, which says by which clause it is refused where the prover cannot."""
     line = was.get(name_of(crate, edit))

@@ -10,8 +10,7 @@ it is the last record's, in the other there is none so late. Another tenant asks
 Each request has to be answered rightly, and may hold the other tenant up for 100 ms. Its longest wait is printed too; what it was held up
 is that without the time for which other programs had the processors. The last line is `N of M wrong`.
 
-Today a look into the batch reads its records from the first on, one into the file reads all that is left of the file, and the request is
-served whole: all others wait for the sum.
+Today a look into the batch reads its records from the first on, and the request is served whole: all others wait for the sum.
 """
 
 import struct

@@ -9,9 +9,6 @@ meanwhile is in their sockets. Each heartbeat has to be answered 0, also those b
 within 12 seconds it has to be expelled (25, UNKNOWN_MEMBER_ID), and no other may be.
 
 How often each code is answered is printed. The last line is `N of M wrong`.
-
-Today sessions end by the time that passed, before what came meanwhile is read. So a standstill that is longer than a session expels the
-members of all tenants.
 """
 
 import collections

@@ -9,8 +9,6 @@ DeleteRecords, and all else is due in one moment. Another tenant asks for the ve
 
 Within 60 seconds all that is due has to be gone, and it may hold the other tenant up for 100 ms. Its longest wait is printed too; what it
 was held up is that without the time for which other programs had the processors. The last line is `N of M wrong`.
-
-Today all that is due goes in one turn, in which each batch is read.
 """
 
 import struct

@@ -4,7 +4,8 @@
     trials/why_closed.py KBROKER
 
 Hand-made frames shut a connection each: too short, too long, a version that is not served, a body that does not match, a request before
-the login, and a wrong password. Each has its line, with the address and the tenant, and no line has a password. kafka-python is told that
+the login, and a wrong password. The fronts of a TLS hello and of an HTTP request close theirs, as each size above 65,536 before the login.
+Each has its line, with the address and the tenant, and no line has a password. kafka-python is told that
 the broker is Kafka 2.1, and sends Produce 7: that has its line too. The process may then take 4 MB more alone, and twelve connections
 send the front of a long request each: those that are shut have a line, and no other; the broker serves on. At last 200 connections are
 shut at once: each has a line, or is in the count of the others. It prints `N of M wrong`. It needs Debian's python3-kafka.
@@ -26,6 +27,10 @@ import kafka
 import kafka.errors
 
 MANY, FULL = 200, 12
+
+TLS_HELLO = bytes.fromhex("1603010200 010001fc 0303")
+HTTP_REQUEST = b"GET / HTTP/1.1\r\n"
+LONG = "closed {}: a request is longer than 65536 bytes before its login"
 
 
 def frame(key, version, body):
@@ -60,6 +65,10 @@ def cases():
         (struct.pack(">i", 4), False, "closed {}: a request is too short for its header"),
         (struct.pack(">i", -1), True, "closed {} of tenant a: a request is too short for its header"),
         (struct.pack(">i", 2_097_153), True, "closed {} of tenant a: a request is longer than 2097152 bytes"),
+        (TLS_HELLO, False, LONG),
+        (HTTP_REQUEST, False, LONG),
+        (struct.pack(">i", 65_537), False, LONG),
+        (struct.pack(">i", -1), False, LONG),
         (frame(1, 12, b""), False, "closed {}: version 12 of Fetch is not served"),
         (frame(32, 4, b""), True, "closed {} of tenant a: version 4 of DescribeConfigs is not served"),
         (frame(99, 1, b""), True, "closed {} of tenant a: version 1 of API 99 is not served"),

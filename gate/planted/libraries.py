@@ -10,36 +10,48 @@ from planted.prover import LIB, RT
 
 
 class Libraries:
-    """The libraries that there are of a repository's crates. What of `rt ci`'s is asked for stands in a room, by its key.
+    """The libraries that there are of a repository's crates. What of `rt ci`'s is asked for stands in a room, by its key. What `rt lib` built, as
+    `gate/build` asks it to, stands in each crate's own folder.
 
-    A toolchain whose `rt ci` keeps nothing leaves what it and `rt lib` built in each crate's own folder, and that is taken there."""
+    A library fits only those that it was built over. So a check takes either kind alone: what was built where that is all, and else what was
+    kept. A toolchain whose `rt ci` keeps nothing has built ones alone, and they are taken where only some are there, too."""
 
     def __init__(self, crates, room: str):
         RT.Crate.allowed = RT.handles_of(os.getcwd())
         self.kept = RT.Kept([*crates]) if hasattr(RT, "Kept") else None
-        if not self.kept:
-            # (each crate asks those below it for theirs, again and again)
-            LIB.Crate.stamp = functools.cache(LIB.Crate.stamp)
+        # (each crate asks those below it for theirs, again and again)
+        LIB.Crate.stamp = functools.cache(LIB.Crate.stamp)
         self.room, self.alone = room, threading.RLock()
-        self.found: Dict[str, str] = {}
+        # where the libraries are of each kind, and of which crates it is known whether they are there
+        self.taken: Dict[str, str] = {}
+        self.built: Dict[str, str] = {}
         self.asked = set()
 
-    def has(self, crate) -> bool:
-        """Whether the crate's own library was kept of just these sources: all in it is proved then, and its library stands in the room."""
+    def look(self, crate):
+        """Looks for the crate's libraries, and for those below it."""
         with self.alone:
-            if crate.name not in self.asked:
-                self.asked.add(crate.name)
-                if all([self.has(it) for it in crate.below()]):
-                    self.take(crate) if self.kept else self.take_built(crate)
-            return crate.name in self.found
+            if crate.name in self.asked:
+                return
+            self.asked.add(crate.name)
+            for it in crate.below():
+                self.look(it)
+            if self.kept and all(it.name in self.taken for it in crate.below()):
+                self.take(crate)
+            if all(it.name in self.built for it in crate.below()):
+                self.take_built(crate)
+
+    def has(self, crate) -> bool:
+        """Whether a library of the crate is there, of just these sources: all in it is proved then."""
+        self.look(crate)
+        return crate.name in self.taken or crate.name in self.built
 
     def take_built(self, crate):
         """Takes a library from its crate's folder, where it is of these sources by its stamp, or newer than they and the libraries below."""
         at = f"{crate.folder}/out/rlib/{crate.name}.rlib"
-        older = [*LIB.files_of(crate.folder), *(self.found[it.name] for it in crate.below())]
+        older = [*LIB.files_of(crate.folder), *(self.built[it.name] for it in crate.below())]
         is_newer = os.path.isdir(at) and all(os.path.getmtime(it) <= os.path.getmtime(at) for it in older)
         if crate.makes_rlib() and (is_newer or crate.is_built()):
-            self.found[crate.name] = at
+            self.built[crate.name] = at
 
     def take(self, crate):
         key = self.kept.key(crate)
@@ -54,16 +66,23 @@ class Libraries:
         except (OSError, ValueError, KeyError):
             return
         self.kept.rlibs[crate.name] = hashlib.sha256(repr(files).encode()).hexdigest()
-        self.found[crate.name] = f"{to}/{crate.name}.rlib"
+        self.taken[crate.name] = f"{to}/{crate.name}.rlib"
+
+    def found(self, crate) -> Dict[str, str]:
+        """Where the libraries are of the crates below it, all of one kind."""
+        self.look(crate)
+        names = [it.name for it in crate.below()]
+        of = self.built if not self.kept or all(it in self.built for it in names) else self.taken
+        return {it: of[it] for it in names if it in of}
 
     def sources(self, crate) -> list:
-        """The crates below it whose libraries were not kept."""
-        return [it for it in crate.below() if not self.has(it)]
+        """The crates below it of which no library is taken."""
+        found = self.found(crate)
+        return [it for it in crate.below() if it.name not in found]
 
     def words(self, crate) -> List[str]:
         """The words of a check of the crate over those libraries, and over the sources of the others."""
-        sources = self.sources(crate)
-        found = {it.name: self.found[it.name] for it in crate.below() if it.name in self.found}
+        sources, found = self.sources(crate), self.found(crate)
         below = [*dict.fromkeys(name for it in [crate, *sources] for name in ["core", *it.of_kit])]
         words = ["--crate-name", crate.name, "src/main.rt" if crate.is_program else "src/lib.rt", "-L", f"dependency={RT.KIT}/rlibs"]
         for name in below:

@@ -71,8 +71,7 @@ class Crate:
         self.name, self.room = crate.name, Room(crate, below, scratch, keeps)
         # (where the crate's own library is there, all of it is proved as it stands)
         self.is_proved = below.has(crate)
-        # (where there is no code, the definitions are what is tried, and whichever law is false then refuses)
-        self.tried = ("src/", "specs/") if source.is_of_laws(crate.folder) else ("src/",)
+        self.folder = crate.folder
         self.calls: Dict[str, set] = {}
         self.goals: Dict[str, set] = {}
         self.rounds = 0
@@ -88,11 +87,15 @@ class Crate:
         plan = Plan(edit, texts or {}, {path: self.before[path] for path in texts or {}})
         if why:
             plan.judge(GONE, why)
-        elif not all(path.startswith(self.tried) for path in texts):
+        elif not all(self.is_tried(path) for path in texts):
             plan.judge(NOT_CODE, "it changes " + ", ".join(sorted(texts)))
         elif plan.change.in_a_contract or plan.change.functions and not plan.change.in_a_body:
             plan.judge(CONTRACT)
         return plan
+
+    def is_tried(self, path: str) -> bool:
+        """Whether a file is code; or has definitions by which laws alone say something, and whichever law is false then refuses."""
+        return path.startswith("src/") or path.startswith("specs/") and source.is_of_laws(self.folder, path)
 
     def run(self, has_time=lambda: True, told=lambda: None):
         """Tries all edits, as long as there is time, and those of each run whatever time there is. Says after each round that it is told."""

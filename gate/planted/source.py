@@ -145,14 +145,24 @@ def change(before: Dict[str, str], after: Dict[str, str]) -> Change:
     return Change(frozenset(changed), in_a_body, in_a_contract, branches, frozenset(new), frozenset(constants))
 
 
-def is_of_laws(folder: str) -> bool:
-    """Whether a crate has definitions and laws: nine of ten of its functions have an empty body, and say what their contracts say."""
-    bodies = []
-    for path, _, names in os.walk(f"{folder}/src"):
-        for name in (it for it in names if it.endswith(".rt")):
-            with open(f"{path}/{name}", encoding="utf-8") as it:
-                text = it.read()
-            bodies += [text[it.body : it.end].split() for it in functions_in(name, text).values()]
+def is_of_laws(folder: str, path: str) -> bool:
+    """Whether laws alone say something by a file of definitions, through others too: the functions of those files of code that name it have
+    an empty body, nine of ten, and say what their contracts say."""
+    crate, module = os.path.basename(folder), lambda file: file[len("specs/") : -len(".antt")].replace("/", ".")
+    texts = {}
+    for part in ("specs", "src"):
+        for at, _, names in os.walk(f"{folder}/{part}"):
+            for name in (it for it in names if it.endswith((".rt", ".antt"))):
+                with open(f"{at}/{name}", encoding="utf-8") as it:
+                    texts[os.path.relpath(f"{at}/{name}", folder)] = it.read()
+    found, waiting = set(), [path]
+    while waiting:
+        named = re.compile(rf"\b{crate}\.specs\.{re.escape(module(waiting.pop()))}\b")
+        more = [file for file, text in texts.items() if file not in found and named.search(text)]
+        found.update(more)
+        waiting += [file for file in more if file.startswith("specs/")]
+    code = [(file, texts[file]) for file in found if file.startswith("src/")]
+    bodies = [text[it.body : it.end].split() for file, text in code for it in functions_in(file, text).values()]
     return bool(bodies) and 10 * sum(it in (["{}"], ["{", "}"]) for it in bodies) >= 9 * len(bodies)
 
 

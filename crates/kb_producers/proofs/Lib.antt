@@ -1,5 +1,4 @@
 pub mod Finding
-pub mod Fives
-pub mod Summaries
-pub mod Tables
+pub mod Places
 pub mod Stamps
+pub mod Tables

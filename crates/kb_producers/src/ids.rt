@@ -2,8 +2,9 @@
 ghost use Rattle.std.specs.Prelude.{◌≡◌, fold, map, max};
 ghost use Rattle.kb_producers.specs.Ids as spec;
 ghost use Rattle.kb_producers.specs.Ids.{ids_kept};
+ghost use Rattle.kb_producers.specs.Table.{kept_from};
 
-use crate::kept::Kept;
+use crate::link::Link;
 
 /// The number behind a producer id, which is 0 where the id is below 0.
 fn behind(id: i64) -> u64
@@ -13,8 +14,8 @@ fn behind(id: i64) -> u64
 }
 
 /// The least number, from that one on, which is above the producer id of each of some batches.
-pub(crate) fn next_among(batches: &[Kept], from: u64) -> u64
-    ensures { result ≡ fold max from (map spec.behind (ids_kept batches.now)) }
+pub(crate) fn next_among(batches: &[Link], from: u64) -> u64
+    ensures { result ≡ fold max from (map spec.behind (ids_kept (map kept_from batches.now))) }
 {
     let mut next = from;
     for batch in batches {

@@ -1,5 +1,5 @@
 //! What idempotence keeps of a batch.
-ghost use Rattle.std.specs.Prelude.{◌≡◌, int_le};
+ghost use Rattle.std.specs.Prelude.{◌≡◌};
 
 /// A batch of an idempotent producer, as far as later batches of it are judged by it.
 #[derive(Clone, Copy, Debug, PartialEq, Eq)]
@@ -18,16 +18,6 @@ pub struct Kept {
 }
 
 impl Kept {
-    ghost use Rattle.kb_producers.specs.Table.{end_of};
-
-    /// Whether it ends at that offset or below, so that no record of it is at the offset or above.
-    pub(crate) fn ends_by(&self, offset: i64) -> bool
-        ensures { result ≡ int_le (end_of self.now) offset }
-    {
-        // The end may lie above the greatest offset.
-        self.base_offset as i128 + self.record_count as i128 <= offset as i128
-    }
-
     /// The same batch, at another offset.
     pub(crate) fn at(self, base_offset: i64) -> Kept
         ensures { result ≡ record self { base_offset = base_offset } }

@@ -9,11 +9,12 @@ mod batch;
 mod ids;
 mod judge;
 mod kept;
-mod producer;
+mod link;
 mod promises;
 mod recent;
 mod table;
 mod verdict;
+mod walk;
 
 pub use kept::Kept;
 pub use promises::next_id_is_least;

@@ -1,5 +1,5 @@
 //! A producer's last batches.
-ghost use Rattle.std.specs.Prelude.{◌≡◌, ◌≤◌, ◌∷◌, [], take};
+ghost use Rattle.std.specs.Prelude.{◌≡◌, ◌≤◌, ◌<◌, ◌∷◌, ◌++◌, ◌+◌, []};
 
 use crate::kept::Kept;
 
@@ -14,36 +14,28 @@ pub struct Recent {
 impl Recent {
     ghost use Rattle.kb_producers.specs.Recent.{recent_of};
 
-    /// One batch.
-    pub fn of(batch: Kept) -> Recent
-        ensures { recent_of result ≡ batch ∷ [] }
+    /// No batch; the given one only fills the places.
+    pub fn none(filler: Kept) -> Recent
+        ensures none { recent_of result ≡ [] }
+        ensures len { result.len ≡ 0 }
     {
         Recent {
-            batches: [batch; 5],
-            len: 1,
+            batches: [filler; 5],
+            len: 0,
         }
     }
 
-    /// With one more, and without the sixth.
-    pub fn push(self, batch: Kept) -> Recent
-        ensures { recent_of result ≡ take 5 (batch ∷ recent_of self) }
+    /// With one more, which is older.
+    pub fn with_older(self, batch: Kept) -> Recent
+        requires { self.len < 5 }
+        ensures added { recent_of result ≡ recent_of self ++ batch ∷ [] }
+        ensures len { result.len ≡ self.len + 1 }
     {
-        let batches = self.batches;
-        let [first, second, third, fourth, _] = batches;
-        Recent {
-            batches: [batch, first, second, third, fourth],
-            len: (self.len + 1).min(5),
-        }
-    }
-
-    /// The newest of them alone.
-    pub fn newest(self, count: usize) -> Recent
-        ensures { recent_of result ≡ take count (recent_of self) }
-    {
-        let batches = self.batches;
+        let mut batches = self.batches;
+        batches[self.len] = batch;
         Recent {
             batches,
-            len: self.len.min(count),
+            len: self.len + 1,
         }
     }
 

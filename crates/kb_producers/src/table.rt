@@ -1,37 +1,44 @@
 //! The table of a partition's producers.
 ghost use Rattle.std.specs.Prelude.{◌≡◌, ◌≤◌, ◌<◌, ◌∷◌, ◌++◌, [], OnOk, drop};
 ghost use Rattle.kb_producers.specs.Ids.{ids_kept, least_above};
-ghost use Rattle.kb_producers.specs.Verdict.{verdict};
-ghost use Rattle.kb_producers.specs.Table.{TableState, since};
+ghost use Rattle.kb_producers.specs.Verdict.{last_sequence, verdict};
+ghost use Rattle.kb_producers.specs.Table.{TableState, newest_place, since};
 
 use crate::ids::next_among;
 use crate::judge::judged;
 use crate::kept::Kept;
-use crate::producer::Producer;
+use crate::link::Link;
 use crate::verdict::Verdict;
+use crate::walk::last_batches;
 use std::alloc::{AllocError, Global};
 use std::collections::{HashMap, VecDeque};
 use std::marker::Model;
 
 /// The batches of idempotent producers that are in a partition's list now.
+///
+/// A batch takes a link of 32 bytes. Each producer takes an entry beside: 12 bytes, and some 15 to 22 that the map adds, by its load.
+/// What both have to grow comes on top.
 #[derive(Drop)]
 pub struct ProducerTable {
-    list: VecDeque<Kept>,
-    producers: HashMap<i64, Producer>,
+    list: VecDeque<Link>,
+    /// How many batches there had been with each producer's newest one. It wraps, as `gone` does.
+    newest: HashMap<i64, u32>,
+    /// How many batches are gone from the front.
+    gone: u32,
 }
 
 impl Model for ProducerTable {
-    ghost use Rattle.std.specs.Prelude.{◌-◌, min};
+    ghost use Rattle.std.specs.Prelude.{◌-◌};
     ghost use Rattle.std.specs.Ordering.{int_eq};
     ghost use Rattle.std.specs.VecDeque.{deque_len, deque_capacity};
     ghost use Rattle.std.specs.HashMap.{get, spare};
-    ghost use Rattle.kb_producers.specs.Table.{TableState, AreSummaries};
+    ghost use Rattle.kb_producers.specs.Table.{TableState, IsTable, table_state};
 
     ghost Value = { TableState };
 
-    ghost view = { λ t. record { kept = t.list.items; room = min (deque_capacity t.list - deque_len t.list) (spare t.producers) } };
+    ghost view = { λ t. table_state t.list.items (deque_capacity t.list - deque_len t.list) (spare t.newest) };
 
-    ghost invariant = { λ t. AreSummaries t.list.items (get int_eq t.producers) };
+    ghost invariant = { λ t. IsTable t.list.items (get int_eq t.newest) t.gone };
 }
 
 impl ProducerTable {
@@ -41,7 +48,8 @@ impl ProducerTable {
     {
         ProducerTable {
             list: VecDeque::new(alloc),
-            producers: HashMap::new(alloc),
+            newest: HashMap::new(alloc),
+            gone: 0,
         }
     }
 
@@ -52,9 +60,17 @@ impl ProducerTable {
         if batch.producer_id == -1 {
             return Verdict::Append;
         }
-        match self.producers.get(&batch.producer_id) {
-            Some(producer) => judged(batch, producer.recent.as_slice()),
-            None => judged(batch, &[]),
+        let newest = self.newest_place(batch.producer_id);
+        judged(batch, last_batches(&self.list, batch, newest).as_slice())
+    }
+
+    /// The place of a producer's newest batch, where the oldest of the list is at 1; 0 where it has none.
+    fn newest_place(&self, id: i64) -> u32
+        ensures { result ≡ newest_place id self.now.kept }
+    {
+        match self.newest.get(&id) {
+            Some(count) => count.wrapping_sub(self.gone),
+            None => 0,
         }
     }
 
@@ -72,37 +88,40 @@ impl ProducerTable {
         ensures unchanged { self.new.kept ≡ self.old.kept }
         ensures room { self.old.room ≤ self.new.room }
     {
+        if self.list.len() >= u32::MAX as usize {
+            return Err(AllocError);
+        }
         self.list.reserve(1)?;
-        self.producers.reserve(1)
+        self.newest.reserve(1)
     }
 
     /// Adds a batch, which takes no memory.
     pub(crate) fn append_kept(&mut self, batch: Kept)
-        requires { 0 < self.old.room }
+        requires room { 0 < self.old.room }
+        requires whole { batch.last_sequence ≡ last_sequence batch.base_sequence batch.record_count }
         ensures { self.new.kept ≡ self.old.kept ++ batch ∷ [] }
     {
-        let producer = Producer::after(self.producers.get(&batch.producer_id).copied(), batch);
-        self.list.push_back_reserved(batch);
-        let _ = self.producers.insert(batch.producer_id, producer);
+        let newest = self.newest_place(batch.producer_id);
+        let place = self.list.len() as u32 + 1;
+        let link = Link::of(batch, place - newest);
+        self.list.push_back_reserved(link);
+        let count = self.gone.wrapping_add(place);
+        let _ = self.newest.insert(batch.producer_id, count);
     }
 
     /// Drops the oldest batch, if there is one.
     fn drop_first(&mut self)
         ensures { self.new.kept ≡ drop 1 self.old.kept }
     {
-        let Some(first) = self.list.pop_front() else {
+        let Some(first) = self.list.front() else {
             return;
         };
-        let Some(producer) = self.producers.get(&first.producer_id).copied() else {
-            return;
-        };
-        match producer.without_oldest() {
-            Some(left) => {
-                let _ = self.producers.insert(first.producer_id, left);
-            }
-            None => {
-                self.producers.remove(&first.producer_id);
-            }
+        let id = first.producer_id;
+        let newest = self.newest_place(id);
+        let _ = self.list.pop_front();
+        self.gone = self.gone.wrapping_add(1);
+        if newest == 1 {
+            self.newest.remove(&id);
         }
     }
 

@@ -1,7 +1,7 @@
 use Rattle.std.proofs.Common.{rules, ◌≡◌, refl, pos, ◌+ℤ◌, to_z, w64, FitsSigned}
 use Rattle.std.proofs.lemmas.Int.{to_z-of_z}
 use mir.Syntax.{w128}
-use Rattle.kb_producers.proofs.kept.Kept.ends_by.Goals as goal
+use Rattle.kb_producers.proofs.link.Link.ends_by.Goals as goal
 
 pub returns : goal.returns
 returns c =

@@ -13,8 +13,8 @@ class Libraries:
     """The libraries that there are of a repository's crates. What of `rt ci`'s is asked for stands in a room, by its key. What `rt lib` built, as
     `gate/build` asks it to, stands in each crate's own folder.
 
-    A library fits only those that it was built over. So a check takes either kind alone: what was built where that is all, and else what was
-    kept. A toolchain whose `rt ci` keeps nothing has built ones alone, and they are taken where only some are there, too."""
+    A library fits only those that it was built over. So a check takes either kind alone: what was built where that is all and the other is
+    not, and else what was kept. A toolchain whose `rt ci` keeps nothing has built ones alone, and takes them where only some are there, too."""
 
     def __init__(self, crates, room: str):
         RT.Crate.allowed = RT.handles_of(os.getcwd())
@@ -72,7 +72,8 @@ class Libraries:
         """Where the libraries are of the crates below it, all of one kind."""
         self.look(crate)
         names = [it.name for it in crate.below()]
-        of = self.built if not self.kept or all(it in self.built for it in names) else self.taken
+        is_whole = lambda of: all(it in of for it in names)
+        of = self.built if not self.kept or is_whole(self.built) and not is_whole(self.taken) else self.taken
         return {it: of[it] for it in names if it in of}
 
     def sources(self, crate) -> list:

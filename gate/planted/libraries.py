@@ -10,8 +10,8 @@ from planted.prover import LIB, RT
 
 
 class Libraries:
-    """The libraries that there are of a repository's crates. What of `rt ci`'s is asked for stands in a room, by its key. What `rt lib` built, as
-    `gate/build` asks it to, stands in each crate's own folder.
+    """The libraries that there are of a repository's crates. What of `rt ci`'s is asked for stands in a room, by its key. What `gate/build` or
+    `rt lib` built stands in each crate's own folder.
 
     A library fits only those that it was built over. So a check takes either kind alone: what was built where that is all and the other is
     not, and else what was kept. A toolchain whose `rt ci` keeps nothing has built ones alone, and takes them where only some are there, too."""
@@ -46,10 +46,11 @@ class Libraries:
         return crate.name in self.taken or crate.name in self.built
 
     def take_built(self, crate):
-        """Takes a library from its crate's folder, where it is of these sources by its stamp, or newer than they and the libraries below."""
+        """Takes a library from its crate's folder, where it is of these sources by its stamp. Where the toolchain keeps nothing, and `rt ci` leaves
+        libraries there without a stamp, it is enough that it is newer than they and the libraries below."""
         at = f"{crate.folder}/out/rlib/{crate.name}.rlib"
         older = [*LIB.files_of(crate.folder), *(self.built[it.name] for it in crate.below())]
-        is_newer = os.path.isdir(at) and all(os.path.getmtime(it) <= os.path.getmtime(at) for it in older)
+        is_newer = not self.kept and os.path.isdir(at) and all(os.path.getmtime(it) <= os.path.getmtime(at) for it in older)
         if crate.makes_rlib() and (is_newer or crate.is_built()):
             self.built[crate.name] = at
 

@@ -16,15 +16,15 @@ use Rattle.std.proofs.lemmas.Map.Steps.{set_value_same}
 use Rattle.std.proofs.lemmas.Option.{slice_get-map, slice_get-get_or, slice_get_past}
 use Rattle.kb_store.specs.Disk.{Disk, Files}
 use Rattle.kb_log.specs.Apart.{Stays, other_stays}
-use Rattle.kb_log.specs.OnShelf.{Log, Spares, Frames, IsLawfulLog}
+use Rattle.kb_log.specs.OnShelf.{Log, Spares, Frames, IsLawfulLog, no_file}
 use Rattle.kb_log.specs.OnShelf as one
 use Rattle.kb_producers.specs.Batches.{kept_all}
 use Rattle.kb_tenant_state.specs.OneLog.{StaysTold}
 use Rattle.kb_tenant_state.specs.Logs.{LogState, log_at, with_log, put_log}
 use Rattle.kb_tenant_state.specs.Partitions.{Entries, Owned, AreSound, AreNamed, AreStarted, Restarts, partition_at, partition_identity, places_of, log_state, logs_of, scene_on}
-use Rattle.kb_tenant_state.specs.Scene.{Frame, Settles, WritesOwn}
+use Rattle.kb_tenant_state.specs.Scene.{Frame, GivesUp, Settles}
 use Rattle.kb_tenant_state.specs.declared.partition.Partition.{Partition}
-use Rattle.kb_tenant_state.proofs.Left.{strays_writes}
+use Rattle.kb_tenant_state.proofs.Left.{gives_writes, strays_gives}
 use Rattle.kb_tenant_state.proofs.Put.{cases, found_put, get_here, get_kept, get_put, own_number, same_number, map_same, map_put, put_same, lookup_put, values_put}
 
 -- the partition at a place becomes another
@@ -185,11 +185,16 @@ module _ {L : Type 0} (es es' : Entries L) (i p : ℕ) (x x' : Partition L) (c :
       };
     }
 
-    -- where it is written
-    pub changed_writes : WritesOwn (scene_on log es d next) (scene_on log es' d' next')
-    changed_writes =
-        strays_writes (scene_on log es d next) (scene_on log es' d' next') (log x.log).owns (log x'.log).owns
-        (λ file own. record { instance = i; number = p; partition = x'; at = new_at; own = own }) frames.strays
+    -- where it is written, and that no file is given up
+    pub changed_gives : GivesUp no_file (scene_on log es d next) (scene_on log es' d' next')
+    changed_gives =
+        strays_gives (scene_on log es d next) (scene_on log es' d' next') (log x.log).owns (log x'.log).owns
+        (λ file own. record { instance = i; number = p; partition = x'; at = new_at; own = own })
+        (λ file o. ⊎_elim
+        (λ s. inl (subst (λ (v : Partition L). (log v.log).owns file) s o.own))
+        (λ at. inr (record { instance = o.instance; number = o.number; partition = o.partition; at = at; own = o.own }))
+        (kept_at o.instance o.number o.partition o.at))
+        frames.strays
 
     -- each log is still the one that it was
     pub changed_named : (tenant : List ℕ) (size : ℕ) → AreNamed log tenant size es → AreNamed log tenant size es'
@@ -226,7 +231,8 @@ module _ {L : Type 0} (es es' : Entries L) (i p : ℕ) (x x' : Partition L) (c :
                 frames.others.lengths file ((law y.log).given_out d.table next (sound.each j q y at) file mine) (λ theirs. sound.apart j q i p y x at old_at ne file mine theirs)),
             old.1,
           ));
-      writes = changed_writes;
+      timed = λ old. each_partition (λ j q y. (log y.log).timed) (timed (old i p x old_at)) (λ j q y at ne. old j q y at);
+      writes = gives_writes (scene_on log es d next) (scene_on log es' d' next') no_file changed_gives;
     }
 
     same_state : d'.honest → (j q : ℕ) (y : Partition L) → partition_at j q es ≡ Some y → ((j ≡ i) × (q ≡ p) → ⊥) → log_state (log y.log) d'.files ≡ log_state (log y.log) d.files
@@ -266,14 +272,15 @@ frame_same {L} log es es' d next e sound = subst (λ (fs : Entries L). Frame (sc
   agrees = λ honest agree. agree;
 })
 
--- no file is another, whatever the entries are
-pub writes_same : {L : Type 0} (log : L → Log) (es es' : Entries L) (d : Disk) (next : ℕ) → WritesOwn (scene_on log es d next) (scene_on log es' d next)
-writes_same log es es' d next honest file there not some = (there, refl)
+-- no file is another, and each is its owner's still
+pub gives_same : {L : Type 0} (log : L → Log) (es es' : Entries L) (given : ℕ → Type 0) (d : Disk) (next : ℕ) → es' ≡ es → GivesUp given (scene_on log es d next) (scene_on log es' d next)
+gives_same {L} log es es' given d next e honest file there not some = (there, refl, λ own. absurd (not (subst (λ (fs : Entries L). Owned log fs file) (sym e) own)))
 
 pub settles_same : {L : Type 0} (log : L → Log) (es es' : Entries L) (d : Disk) (next : ℕ) → es' ≡ es → Settles (scene_on log es d next) (scene_on log es' d next)
 settles_same {L} log es es' d next e = subst (λ (fs : Entries L). Settles (scene_on log es d next) (scene_on log fs d next)) (sym e) (record {
   accounts = λ file there not. (there, not);
   exact = λ exact. exact;
+  timed = λ timed. timed;
   writes = λ honest file there not some. (there, refl);
 })
 

@@ -27,7 +27,8 @@ use Rattle.kb_tenant_state.specs.Stored.{up_to_end}
 use Rattle.kb_tenant_state.specs.Tied.{counted, partition_count}
 use Rattle.kb_tenant_state.specs.declared.parts.Parts.{Parts}
 use Rattle.kb_tenant_state.proofs.StillKept.{kept_created}
-use Rattle.kb_tenant_state.proofs.Left.{own_leaves, strays_writes}
+use Rattle.kb_tenant_state.proofs.GivenUp.{given_up_stays}
+use Rattle.kb_tenant_state.proofs.Left.{none_leaves, strays_gives, strays_writes}
 use Rattle.kb_tenant_state.proofs.Moves.{IsMove, as_step}
 use Rattle.kb_tenant_state.proofs.Recorded.{Resume, on_shelf}
 use Rattle.kb_tenant_state.proofs.Spared as spared
@@ -65,6 +66,16 @@ module _ {L : Type 0} (log : L → Log) (law : (l : L) → IsLawfulLog (log l)) 
           → IsUnmade i ps.topics.entries
       by true e h = let same = same_number (known p.catalog).creates i e in absurd (omega (arith, same, lt))
       by false e h = h ∙ sound.unmade i (omega (arith, lt))
+
+  -- an instance that is gone is not the new one
+  still_gone : (i : ℕ) → i < (known p.catalog).creates → IsUnmade i (entries p) → IsUnmade i ps.topics.entries
+  still_gone i lt none = by (is_at (nat_cmp (known p.catalog).creates) i) refl (made.counts i)
+    where
+      by : (b : Bool) → is_at (nat_cmp (known p.catalog).creates) i ≡ b
+          → lookup (is_at (nat_cmp i)) (places_of ps.topics.entries) ≡ cond b (Some count) (lookup (is_at (nat_cmp i)) (places_of (entries p)))
+          → IsUnmade i ps.topics.entries
+      by true e h = let same = same_number (known p.catalog).creates i e in absurd (omega (arith, same, lt))
+      by false e h = h ∙ none
 
   small : count ≤ 64 → (i n : ℕ) → lookup (is_at (nat_cmp i)) (places_of ps.topics.entries) ≡ Some n → n ≤ 64
   small le i n is = by (is_at (nat_cmp (known p.catalog).creates) i) (made.counts i)
@@ -108,6 +119,7 @@ module _ {L : Type 0} (log : L → Log) (law : (l : L) → IsLawfulLog (log l)) 
         tied = tied new topics (ap (λ ps. length ps) many ∙ length-replicate count new_partition);
         catalog_named = named_still _ _ _ _ frames.identity sound.catalog_named;
         logs_named = named sound.logs_named;
+        begun = let is = ap (λ (i : Identity). natural i.generation) frames.identity in omega (arith, sound.begun, is, frames.others.later);
         offsets = sound.offsets ∙ sym (ap up_to_end (created_offsets (known p.catalog) (known changed) count new none topics many));
         texts = sound.texts ∙ sym (ap up_to_end (created_texts (known p.catalog) (known changed) count new none topics many));
       };
@@ -135,12 +147,14 @@ module _ {L : Type 0} (log : L → Log) (law : (l : L) → IsLawfulLog (log l)) 
     grows = omega arith;
     commands = omega (arith, longer);
     creates = omega (arith, more);
-    wrote = λ file bytes had. had;
+    generation = ap (λ (i : Identity). natural i.generation) frames.identity;
+    wrote = let is = ap (λ (i : Identity). natural i.generation) frames.identity in given_up_stays log p (record p { catalog = changed; partitions = ps }) (refl, refl) (omega (arith, more)) still_gone (omega (arith, is));
     leaves = λ honest agree.
-        let new = record p { catalog = changed; partitions = ps } in
-        own_leaves log p new d d' next next' refl (ap (λ (i : Identity). i.tenant) sound.catalog_named) sound.logs_named
-        (strays_writes (parts.scene_on log p d next) (parts.scene_on log new d' next') (meta log p).owns (log (meta_log changed)).owns (λ file own. inl own) frames.strays)
-        honest agree.catalog agree.logs;
+        let a = parts.scene_on log p d next in
+        let b = parts.scene_on log (record p { catalog = changed; partitions = ps }) d' next' in
+        none_leaves a b
+        (strays_gives a b (meta log p).owns (log (meta_log changed)).owns (λ file own. inl own) (λ file own. ⊎_elim (λ mine. inl mine) (λ theirs. inr (inr (made.owned_old file theirs))) own) frames.strays)
+        honest;
   }
 
   create_settles : one.Settles (on_shelf (meta log p) d next) (on_shelf (log (meta_log changed)) d' next') → Settles (parts.scene_on log p d next) (parts.scene_on log (record p { catalog = changed; partitions = ps }) d' next')
@@ -149,6 +163,7 @@ module _ {L : Type 0} (log : L → Log) (law : (l : L) → IsLawfulLog (log l)) 
         let before = settles.accounts file there (λ own. not (inl own)) in
         (before.0, λ own. ⊎_elim (λ mine. before.1 mine) (λ theirs. not (inr (made.owned_old file theirs))) own);
     exact = λ exact. (settles.exact exact.0, spared.spared_exact log law ps.topics.entries d d' next next' (made.sound d.table next sound.logs) frames.others.later lengths contents (made.exact d.table exact.1));
+    timed = made.timed;
     writes =
         let new = record p { catalog = changed; partitions = ps } in
         strays_writes (parts.scene_on log p d next) (parts.scene_on log new d' next') (meta log p).owns (log (meta_log changed)).owns (λ file own. inl own) frames.strays;

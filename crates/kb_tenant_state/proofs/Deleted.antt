@@ -1,6 +1,8 @@
 -- A topic is deleted: its command, and then its partitions go.
-use Rattle.std.proofs.Common.{◌≡◌, ◌∙◌, ◌+◌, ◌⊎◌, ⊎_elim, ℕ, Bool, true, false, cond, List, Option, Some, None, sym, ap, refl, subst, length, arith}
-use Rattle.std.specs.Prelude.{IfSome, option_map}
+use Rattle.std.proofs.Common.{◌≡◌, ◌∙◌, ◌+◌, ◌≤◌, ◌<◌, ◌⊎◌, ⊎_elim, inl, ℕ, Bool, true, false, cond, nat_lt, List, Option, Some, None, sym, ap, refl, subst, length, arith}
+use Rattle.std.specs.FinMap.{get}
+use Rattle.std.specs.Prelude.{IfSome, option_map, string_bytes}
+use Rattle.std.proofs.lemmas.Bool.Decides.{nat_tests}
 use Rattle.std.specs.Ordering.{nat_cmp}
 use Rattle.std.specs.Cmp.{nat_cmp_total, eq_by_cmp_equiv}
 use Rattle.std.specs.List.Sorted.{IsStrictlySortedBy}
@@ -11,8 +13,8 @@ use Rattle.std.specs.declared.vec.Vec.{Vec}
 use Rattle.std.proofs.lemmas.Map.{lookup-remove_entry}
 use Rattle.std.proofs.lemmas.Map.Keys.{IsDistinct-from_sorted}
 use Rattle.std.proofs.lemmas.Map.Made.{keys_of-map_values}
-use Rattle.kb_store.specs.Disk.{Disk}
-use Rattle.kb_log.specs.OnShelf.{Log, Frames, IsLawfulLog}
+use Rattle.kb_store.specs.Disk.{Disk, Files}
+use Rattle.kb_log.specs.OnShelf.{Identity, Log, Frames, IsLawfulLog}
 use Rattle.kb_log.specs.OnShelf as one
 use Rattle.kb_topics.specs.Calls.{StaysFold}
 use Rattle.kb_topics.specs.Catalog.{known, meta_log}
@@ -20,8 +22,8 @@ use Rattle.kb_topics.specs.declared.catalog.Catalog.{Catalog}
 use Rattle.kb_topics.specs.Known.{Known, named, topic_at, without_topic, step}
 use Rattle.kb_topics.specs.declared.command.Command.TheVariants as commands
 use Rattle.kb_tenant_state.specs.Logs.{without_logs}
-use Rattle.kb_tenant_state.specs.Partitions.{Agree, AreStarted, Entries, IsUnmade, logs_of, partition_at, places_of, scene_on}
-use Rattle.kb_tenant_state.specs.Scene.{Frame, Settles, WhereHonest, WritesOwn}
+use Rattle.kb_tenant_state.specs.Partitions.{Agree, AreStarted, Entries, IsUnmade, OwnedBy, logs_of, partition_at, places_of, scene_on}
+use Rattle.kb_tenant_state.specs.Scene.{Frame, GivesUp, IsGivenUp, Settles, WhereHonest}
 use Rattle.kb_tenant_state.specs.Gone.{Went, stored_without}
 use Rattle.kb_tenant_state.specs.Stored.{bytes_in_all}
 use Rattle.kb_tenant_state.specs.declared.partition.Partition.{Partition}
@@ -29,7 +31,7 @@ use Rattle.kb_tenant_state.specs.declared.partitions.Partitions.{Partitions}
 use Rattle.kb_tenant_state.proofs.Gone.{told_went}
 use Rattle.kb_tenant_state.proofs.Put.{own_number}
 use Rattle.kb_tenant_state.specs.Parts as parts
-use Rattle.kb_tenant_state.specs.Parts.{IsSound, Agrees, meta, entries, recorded_start, world_of}
+use Rattle.kb_tenant_state.specs.Parts.{IsSound, Agrees, IsPast, meta, entries, recorded_start, world_of}
 use Rattle.kb_tenant_state.specs.Steps.{IsStep, settles_then}
 use Rattle.kb_tenant_state.specs.Tied.{counted, partition_count}
 use Rattle.kb_tenant_state.specs.declared.parts.Parts.{Parts}
@@ -73,6 +75,10 @@ module _ {L : Type 0} (i : ℕ) (es es' : Entries L) (ordered : IsStrictlySorted
       by true h = absurd (let bad : None ≡ Some n = sym h ∙ some in cc)
       by false h = sym h ∙ some
 
+  -- the topic's own instance has none
+  pub unmade_here : IsUnmade i es'
+  unmade_here = lookups i ∙ ap (λ b. cond b None (lookup (is_at (nat_cmp i)) (places_of es))) (own_number i)
+
   -- a partition that is left is of another topic
   pub left_other : (j q : ℕ) (x : Partition L) → partition_at j q es' ≡ Some x → j ≡ i → ⊥
   left_other j q x at same =
@@ -80,6 +86,17 @@ module _ {L : Type 0} (i : ℕ) (es es' : Entries L) (ordered : IsStrictlySorted
       let here : is_at (nat_cmp i) j ≡ true = subst (λ k. is_at (nat_cmp i) k ≡ true) (sym same) (own_number i) in
       let none : lookup (is_at (nat_cmp j)) (places_of es') ≡ None = lookups j ∙ ap (λ b. cond b None (lookup (is_at (nat_cmp j)) (places_of es))) here in
       let bad : Some c.count ≡ None = sym c.of ∙ none in cc
+
+-- the instance of a topic that has partitions was given out
+pub was_given_out : {L : Type 0} (es : Entries L) (creates i q : ℕ) (x : Partition L) → ((j : ℕ) → creates ≤ j → IsUnmade j es) → partition_at i q es ≡ Some x → i < creates
+was_given_out es creates i q x unmade at = by (nat_lt i creates) refl
+  where
+    by : (t : Bool) → nat_lt i creates ≡ t → i < creates
+    by true e = grind (arith, nat_tests, e)
+    by false e =
+        let c = retained.counted es i q x at in
+        let none = unmade i (grind (arith, nat_tests, e)) in
+        absurd (let bad : None ≡ Some c.count = sym none ∙ c.of in cc)
 
 module _ {L : Type 0} (log : L → Log) (law : (l : L) → IsLawfulLog (log l)) (old : Parts L) (changed : Catalog L) (d d' : Disk) (next next' : ℕ) (i : ℕ)
     (sound : IsSound log old d.table next) (new : known changed ≡ without_topic (known old.catalog) i) (gone : topic_at i (known changed).topics ≡ None)
@@ -95,7 +112,7 @@ module _ {L : Type 0} (log : L → Log) (law : (l : L) → IsLawfulLog (log l)) 
 
   module _ (ps : Partitions L) (e : Disk) (last : ℕ) (places : places_of ps.topics.entries ≡ remove_entry (is_at (nat_cmp i)) (places_of (entries old)))
       (frame : Frame (scene_on log (entries old) d' next') (scene_on log ps.topics.entries e last))
-      (writes : WritesOwn (scene_on log (entries old) d' next') (scene_on log ps.topics.entries e last))
+      (gives : GivesUp (OwnedBy log i (entries old)) (scene_on log (entries old) d' next') (scene_on log ps.topics.entries e last))
       (removed : WhereHonest (scene_on log (entries old) d' next') (scene_on log ps.topics.entries e last) (logs_of log ps.topics.entries e.files ≡ without_logs i (logs_of log (entries old) d'.files))) where
     tied : places_of ps.topics.entries ≡ counted partition_count (known changed).topics
     tied =
@@ -108,14 +125,26 @@ module _ {L : Type 0} (log : L → Log) (law : (l : L) → IsLawfulLog (log l)) 
         let ne = left_other i (entries old) ps.topics.entries sound.logs.ordered places j q x at in
         subst (λ n. (log x.log).resumes n) (sym (ap (λ k. recorded_start k j q) new ∙ delete_starts (known old.catalog) i j q ne)) (started j q x at)
 
+    -- the files of its logs are given up: the instance was given out, and no topic has it again
+    up : (files : Files) → Agree log (entries old) files → (file : ℕ) (bytes : List ℕ) → get files file ≡ Some bytes → OwnedBy log i (entries old) file
+        → IsGivenUp log (string_bytes old.tenant) (IsPast log (record old { catalog = changed; partitions = ps })) file bytes
+    up files agree file bytes had o =
+        let who = sound.logs_named i o.number o.partition o.at in
+        let given = was_given_out (entries old) (known old.catalog).creates i o.number o.partition sound.unmade o.at in
+        let same = ap (λ k. k.creates) new in
+        record {
+          had = record { of = o.partition.log; files = files; tenants = ap (λ (w : Identity). w.tenant) who; owns = o.own; agrees = agree.each i o.number o.partition o.at; had = had };
+          past = inl (record { instance = i; number = o.number; named = who; given_out = omega (arith, given, same); gone = unmade_here i (entries old) ps.topics.entries sound.logs.ordered places });
+        }
+
     -- and the partitions are gone
     pub delete_move : (bytes : Option ℕ) → IfSome bytes (λ n. WhereHonest (scene_on log (entries old) d' next') (scene_on log ps.topics.entries e last) (Went (bytes_in_all (logs_of log (entries old) d'.files)) (bytes_in_all (logs_of log ps.topics.entries e.files)) n)) → (o t : ℕ) → IsCounted o t (known changed) → KeepNames log (entries old) ps.topics.entries → KeepStarts log (entries old) ps.topics.entries
         → IsMove (parts.scene_on log old d next) (parts.scene_on log (record old { catalog = changed; partitions = ps; stored = stored_without bytes old.stored; offsets = o; texts = t }) e last)
     delete_move bytes lost o t counts named starts =
         move_then (parts.scene_on log old d next) (untied_on log (recorded_start (known old.catalog)) (record old { catalog = changed }) d' next') (parts.scene_on log (record old { catalog = changed; partitions = ps; stored = stored_without bytes old.stored; offsets = o; texts = t }) e last) recorded
-        (parts_move log law (recorded_start (known old.catalog)) (record old { catalog = changed }) (record old { catalog = changed; partitions = ps; stored = stored_without bytes old.stored; offsets = o; texts = t }) d' e next' last refl (refl, refl) named
+        (parts_move log law (recorded_start (known old.catalog)) (record old { catalog = changed }) (record old { catalog = changed; partitions = ps; stored = stored_without bytes old.stored; offsets = o; texts = t }) (OwnedBy log i (entries old)) d' e next' last refl (refl, refl) named
         (still_unmade i (entries old) ps.topics.entries sound.logs.ordered places) (still_small i (entries old) ps.topics.entries sound.logs.ordered places) (omega arith) tied
-        recorded.frame.sound frame writes (λ honest agree. still (starts (recorded_start (known old.catalog)) agree.started))
+        recorded.frame.sound frame gives (λ honest agree. up d'.files agree.logs) (λ honest agree. still (starts (recorded_start (known old.catalog)) agree.started))
         (λ honest agree. kept_deleted old.next_retention_time (world_of log (record old { catalog = changed }) d'.files) (world_of log (record old { catalog = changed; partitions = ps }) e.files) i gone
         (as_before (known changed) (known changed) refl) (removed honest agree.logs) agree.until)
         counts (λ honest agree. told_went old.stored bytes (logs_of log (entries old) d'.files) (logs_of log ps.topics.entries e.files) e.honest (Agree log (entries old) d'.files) lost honest agree.logs agree.stored))

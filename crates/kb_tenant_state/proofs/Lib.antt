@@ -8,6 +8,7 @@ pub mod Deleted
 pub mod Discarded
 pub mod Dropping
 pub mod Foretold
+pub mod GivenUp
 pub mod Gone
 pub mod GroupDeleted
 pub mod Issued

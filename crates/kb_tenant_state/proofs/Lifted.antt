@@ -1,5 +1,5 @@
 -- A call for the partitions or for the catalog alone, as a step of the parts.
-use Rattle.std.proofs.Common.{◌≡◌, ◌∙◌, ◌⊎◌, ⊎_elim, inl, inr, ◌≤◌, ◌<◌, ◌+◌, ◌^◌, ℕ, ℤ, nat_lt, Bool, true, false, cond, Option, Some, sym, ap, subst, refl, arith}
+use Rattle.std.proofs.Common.{◌≡◌, ◌∙◌, ◌⊎◌, ⊎_elim, inl, inr, ◌≤◌, ◌<◌, ◌+◌, ◌^◌, ℕ, ℤ, nat_lt, Bool, true, false, cond, List, Option, Some, sym, ap, subst, refl, arith}
 use Rattle.std.proofs.lemmas.Bool.Decides.{nat_tests}
 use Rattle.std.specs.Prelude.{IsSome, Err, string_bytes}
 use Rattle.std.specs.FinMap.{get}
@@ -8,14 +8,14 @@ use Rattle.std.specs.Map.{lookup}
 use Rattle.std.specs.BTreeMap.{is_at}
 use Rattle.kb_store.specs.Disk.{Disk, Keeps}
 use Rattle.kb_batch.specs.Batch.{natural}
-use Rattle.kb_log.specs.OnShelf.{Identity, Log, IsLawfulLog}
+use Rattle.kb_log.specs.OnShelf.{Log, IsLawfulLog, no_file}
 use Rattle.kb_topics.specs.MetaLog.{IsFoldOf}
 use Rattle.kb_topics.specs.Catalog.{known, meta_log}
 use Rattle.kb_topics.specs.declared.catalog.Catalog.{Catalog}
 use Rattle.kb_topics.specs.CatalogFault.{IsWant}
 use Rattle.kb_tenant_state.specs.PartitionCalls.{IsRefusedWant, Same}
-use Rattle.kb_tenant_state.specs.Partitions.{Entries, Owned, AreSound, AreExact, AreNamed, AreStarted, Agree, IsUnmade, logs_of, scene_on, places_of}
-use Rattle.kb_tenant_state.specs.Scene.{Scene, Frame, Settles, WritesOwn}
+use Rattle.kb_tenant_state.specs.Partitions.{Entries, Owned, AreSound, AreExact, AreTimed, AreNamed, AreStarted, Agree, IsUnmade, logs_of, scene_on, places_of}
+use Rattle.kb_tenant_state.specs.Scene.{Scene, Frame, GivesUp, IsGivenUp, Settles}
 use Rattle.kb_tenant_state.specs.declared.fault.PartitionFault.{PartitionFault}
 use Rattle.kb_tenant_state.specs.declared.fault.PartitionFault.TheVariants as partition
 use Rattle.kb_topics.specs.declared.fault.CatalogFault.{CatalogFault}
@@ -23,12 +23,13 @@ use Rattle.kb_topics.specs.declared.fault.CatalogFault.TheVariants as catalog
 use Rattle.kb_tenant_state.specs.Parts as parts
 use Rattle.kb_tenant_state.specs.RetentionTime.{AreAllKept}
 use Rattle.kb_tenant_state.specs.Stored.{IsTold, offsets_in, stored_in, texts_in, up_to_end}
-use Rattle.kb_tenant_state.specs.Parts.{IsSound, Agrees, Seen, meta, entries, recorded_start, world_of, raised, refused, counted_for, counted_for_catalog}
+use Rattle.kb_tenant_state.specs.Parts.{IsSound, Agrees, IsBegun, IsPast, Seen, meta, entries, recorded_start, world_of, raised, refused, counted_for, counted_for_catalog}
 use Rattle.kb_tenant_state.specs.Counts.{END, IsCalm}
 use Rattle.kb_tenant_state.specs.Steps.{IsStep, Meets, calm_then}
 use Rattle.kb_tenant_state.specs.Tied.{counted, partition_count}
 use Rattle.kb_tenant_state.specs.declared.parts.Parts.{Parts}
-use Rattle.kb_tenant_state.proofs.Left.{keeps_writes, own_leaves, wrote_as}
+use Rattle.kb_tenant_state.proofs.GivenUp.{given_up_stays}
+use Rattle.kb_tenant_state.proofs.Left.{given_leaves, keeps_gives, keeps_writes}
 use Rattle.kb_tenant_state.proofs.Moves.{IsMove, as_move, as_step}
 use Rattle.kb_tenant_state.proofs.StillKept.{as_before, kept_by}
 use Rattle.kb_tenant_state.proofs.Sums.{still_told}
@@ -43,18 +44,19 @@ abbrev pub AreTallied : {L : Type 0} → Parts L → Parts L → Type 0
 AreTallied q p = (tally q ≡ tally p) × (q.stored ≡ p.stored)
 
 -- A call for the partitions: the catalog is as before, and topics that had no partitions have none, or as many as they had. Behind it
--- the catalog says how many, and where their logs start.
-pub parts_move : {L : Type 0} (log : L → Log) (law : (l : L) → IsLawfulLog (log l)) (recorded : ℕ → ℕ → ℕ) (p p' : Parts L) (d d' : Disk) (next next' : ℕ)
+-- the catalog says how many, and where their logs start. Each file that is given up is of a log that the tenant has no more.
+pub parts_move : {L : Type 0} (log : L → Log) (law : (l : L) → IsLawfulLog (log l)) (recorded : ℕ → ℕ → ℕ) (p p' : Parts L) (given : ℕ → Type 0) (d d' : Disk) (next next' : ℕ)
     → p'.catalog ≡ p.catalog → AreOf p' p → KeepNames log (entries p) (entries p')
     → ((i : ℕ) → IsUnmade i (entries p) → IsUnmade i (entries p'))
     → ((i n : ℕ) → lookup (is_at (nat_cmp i)) (places_of (entries p')) ≡ Some n → lookup (is_at (nat_cmp i)) (places_of (entries p)) ≡ Some n) → p.refusals ≤ p'.refusals
     → places_of (entries p') ≡ counted partition_count (known p'.catalog).topics
-    → IsUntied log p d.table next → Frame (scene_on log (entries p) d next) (scene_on log (entries p') d' next') → WritesOwn (scene_on log (entries p) d next) (scene_on log (entries p') d' next')
+    → IsUntied log p d.table next → Frame (scene_on log (entries p) d next) (scene_on log (entries p') d' next') → GivesUp given (scene_on log (entries p) d next) (scene_on log (entries p') d' next')
+    → (d'.honest → AgreesBy log recorded p d.files → (file : ℕ) (bytes : List ℕ) → get d.files file ≡ Some bytes → given file → IsGivenUp log (string_bytes p'.tenant) (IsPast log p') file bytes)
     → (d'.honest → AgreesBy log recorded p d.files → AreStarted log (recorded_start (known p'.catalog)) (entries p'))
     → (d'.honest → AgreesBy log recorded p d.files → AreAllKept p'.next_retention_time (world_of log p' d'.files))
     → AreCounted p' → (d'.honest → AgreesBy log recorded p d.files → IsTold p'.stored (up_to_end (stored_in (world_of log p' d'.files))))
     → IsMove (untied_on log recorded p d next) (parts.scene_on log p' d' next')
-parts_move {L} log law recorded p p' d d' next next' catalog of named unmade small grows tied sound frame writes started until counts stored =
+parts_move {L} log law recorded p p' given d d' next next' catalog of named unmade small grows tied sound frame gives up started until counts stored =
     let m = meta log p in
     let lawful : IsLawfulLog m = law (meta_log p.catalog) in
     let same : meta log p' ≡ m = ap (λ c. log (meta_log c)) catalog in
@@ -75,6 +77,7 @@ parts_move {L} log law recorded p p' d d' next next' catalog of named unmade sma
           tied = tied;
           catalog_named = meta_named p p' (meta log p').identity m.identity of (ap (λ (l : Log). l.identity) same) sound.catalog_named;
           logs_named = named (string_bytes p'.tenant) p'.segment_bytes (named_as log p p' (entries p) of sound.logs_named);
+          begun = let is = ap (λ (l : Log). natural l.identity.generation) same in omega (arith, sound.begun, is, others.later);
           offsets = counts.0;
           texts = counts.1;
         };
@@ -106,10 +109,14 @@ parts_move {L} log law recorded p p' d d' next next' catalog of named unmade sma
       grows = grows;
       commands = let ends : (meta log p').end ≡ m.end = ap (λ (l : Log). l.end) same in omega (arith, ends);
       creates = let made = ap (λ c. (known c).creates) catalog in omega (arith, made);
-      wrote = wrote_as log p p' of.0;
+      generation = ap (λ (l : Log). natural l.identity.generation) same;
+      wrote = let made = ap (λ c. (known c).creates) catalog in let is = ap (λ (l : Log). natural l.identity.generation) same in given_up_stays log p p' of (omega (arith, made)) (λ i lt none. unmade i none) (omega (arith, is));
       leaves = λ honest agree.
-          own_leaves log p p' d d' next next' of.0 (ap (λ (i : Identity). i.tenant) sound.catalog_named) sound.logs_named
-          (λ h file there not some. writes h file there (λ theirs. not (inr theirs)) some) honest agree.catalog agree.logs;
+          given_leaves (untied_on log recorded p d next) (parts.scene_on log p' d' next') given
+          (λ h file there not some.
+          let was = gives h file there (λ theirs. not (inr theirs)) some in
+          (was.0, was.1, λ own. ⊎_elim (λ mine. absurd (not (inl (subst (λ (l : Log). l.owns file) (sym same) mine)))) (λ theirs. was.2 theirs) own))
+          honest (up honest agree);
     }
 
 -- what such a call leaves where it was refused nothing
@@ -129,6 +136,7 @@ parts_settle {L} log law p p' d d' next next' catalog sound frame settles =
             (lawful.exact_stays d.table d'.table exact.0 (λ file own. frame.others.lengths file (lawful.given_out d.table next sound.catalog file own) (sound.apart file own))),
         settles.exact exact.1,
       );
+      timed = settles.timed;
       writes = λ honest file there not some. settles.writes honest file there (λ own. not (inr own)) some;
     }
 
@@ -136,16 +144,17 @@ parts_settle {L} log law p p' d d' next next' catalog sound frame settles =
 pub logs_move : {L : Type 0} (log : L → Log) (law : (l : L) → IsLawfulLog (log l)) (p p' : Parts L) (d d' : Disk) (next next' : ℕ)
     → p'.catalog ≡ p.catalog → AreOf p' p → KeepNames log (entries p) (entries p') → KeepStarts log (entries p) (entries p')
     → places_of (entries p') ≡ places_of (entries p) → p.refusals ≤ p'.refusals
-    → IsSound log p d.table next → Frame (scene_on log (entries p) d next) (scene_on log (entries p') d' next') → WritesOwn (scene_on log (entries p) d next) (scene_on log (entries p') d' next')
+    → IsSound log p d.table next → Frame (scene_on log (entries p) d next) (scene_on log (entries p') d' next') → GivesUp no_file (scene_on log (entries p) d next) (scene_on log (entries p') d' next')
     → (d'.honest → AgreesBy log (recorded_start (known p.catalog)) p d.files → AreAllKept p'.next_retention_time (world_of log p' d'.files))
     → tally p' ≡ tally p → (d'.honest → AgreesBy log (recorded_start (known p.catalog)) p d.files → IsTold p'.stored (up_to_end (stored_in (world_of log p' d'.files))))
     → IsMove (parts.scene_on log p d next) (parts.scene_on log p' d' next')
-logs_move log law p p' d d' next next' catalog of named starts places grows sound frame writes until counts stored =
+logs_move log law p p' d d' next next' catalog of named starts places grows sound frame gives until counts stored =
     from_untied log p (parts.scene_on log p' d' next') d next
-    (parts_move log law (recorded_start (known p.catalog)) p p' d d' next next' catalog of named
+    (parts_move log law (recorded_start (known p.catalog)) p p' no_file d d' next next' catalog of named
     (λ i none. ap (λ ps. lookup (is_at (nat_cmp i)) ps) places ∙ none)
     (λ i n e. ap (λ ps. lookup (is_at (nat_cmp i)) ps) (sym places) ∙ e) grows
-    (places ∙ sound.tied ∙ sym (ap (λ c. counted partition_count (known c).topics) catalog)) (untied log p d.table next sound) frame writes
+    (places ∙ sound.tied ∙ sym (ap (λ c. counted partition_count (known c).topics) catalog)) (untied log p d.table next sound) frame gives
+    (λ honest agree file bytes had no. absurd no)
     (λ honest agree. subst (λ c. AreStarted log (recorded_start (known c)) (entries p')) (sym catalog) (starts (recorded_start (known p.catalog)) agree.started)) until
     (ap (λ (n : ℕ × ℕ). n.0) counts ∙ sound.offsets ∙ sym (ap (λ c. up_to_end (offsets_in (known c))) catalog), ap (λ (n : ℕ × ℕ). n.1) counts ∙ sound.texts ∙ sym (ap (λ c. up_to_end (texts_in (known c))) catalog)) stored)
 
@@ -153,11 +162,11 @@ logs_move log law p p' d d' next next' catalog of named starts places grows soun
 pub read_move : {L : Type 0} (log : L → Log) (law : (l : L) → IsLawfulLog (log l)) (p p' : Parts L) (d d' : Disk) (next next' : ℕ)
     → p'.catalog ≡ p.catalog → AreOf p' p → KeepNames log (entries p) (entries p') → KeepStarts log (entries p) (entries p')
     → places_of (entries p') ≡ places_of (entries p) → p.refusals ≤ p'.refusals → p'.next_retention_time ≡ p.next_retention_time → AreTallied p' p
-    → IsSound log p d.table next → Frame (scene_on log (entries p) d next) (scene_on log (entries p') d' next') → WritesOwn (scene_on log (entries p) d next) (scene_on log (entries p') d' next')
+    → IsSound log p d.table next → Frame (scene_on log (entries p) d next) (scene_on log (entries p') d' next') → GivesUp no_file (scene_on log (entries p) d next) (scene_on log (entries p') d' next')
     → Same (scene_on log (entries p) d next) (scene_on log (entries p') d' next')
     → IsMove (parts.scene_on log p d next) (parts.scene_on log p' d' next')
-read_move log law p p' d d' next next' catalog of named starts places grows until tallied sound frame writes same =
-    logs_move log law p p' d d' next next' catalog of named starts places grows sound frame writes
+read_move log law p p' d d' next next' catalog of named starts places grows until tallied sound frame gives same =
+    logs_move log law p p' d d' next next' catalog of named starts places grows sound frame gives
     (λ honest agree. subst (λ u. AreAllKept u (world_of log p' d'.files)) (sym until)
     (kept_by p.next_retention_time (world_of log p d.files) (world_of log p' d'.files)
     (as_before (known p.catalog) (known p'.catalog) (ap (λ c. (known c).topics) catalog)) (same honest agree.logs) agree.until))
@@ -168,6 +177,7 @@ pub kept_settle : {L : Type 0} (log : L → Log) (p : Parts L) (d d' : Disk) (ne
 kept_settle log p d d' next next' keeps = record {
   accounts = λ file there not. (subst (λ table. IsSome (get table file)) keeps.table there, not);
   exact = λ exact. subst (λ table. (meta log p).exact table × AreExact log (entries p) table) (sym keeps.table) exact;
+  timed = λ timed. timed;
   writes = keeps_writes (parts.scene_on log p d next) (parts.scene_on log p d' next') keeps;
 }
 
@@ -178,7 +188,7 @@ pub read_step : {L : Type 0} (log : L → Log) (law : (l : L) → IsLawfulLog (l
 read_step log law p d d' next next' sound frame same keeps =
     as_step (parts.scene_on log p d next) (parts.scene_on log p d' next')
     (read_move log law p p d d' next next' refl (refl, refl) (λ tenant size named. named) (λ recorded started. started) refl (omega arith) refl (refl, refl) sound frame
-    (keeps_writes (scene_on log (entries p) d next) (scene_on log (entries p) d' next') keeps) same)
+    (keeps_gives (scene_on log (entries p) d next) (scene_on log (entries p) d' next') (λ file own. own) keeps) same)
     (λ calm. kept_settle log p d d' next next' keeps)
 
 -- ---- counts
@@ -193,6 +203,9 @@ pub recast_move : {L : Type 0} (log : L → Log) (a : Scene Seen) (p q : Parts L
 recast_move {L} log a p q d next c of e until tallied le move =
     let s = move.frame.sound in
     let m : meta log q ≡ meta log p = ap (λ (k : Catalog L). log (meta_log k)) c in
+    let made = ap (λ (k : Catalog L). (known k).creates) c in
+    let generation = ap (λ (l : Log). natural l.identity.generation) m in
+    let still = given_up_stays log p q of (omega (arith, made)) (λ i lt none. subst (λ (es : Entries L). IsUnmade i es) (sym e) none) (omega (arith, generation)) in
     record {
       frame = record {
         sound = record {
@@ -205,6 +218,7 @@ recast_move {L} log a p q d next c of e until tallied le move =
           tied = ap places_of e ∙ s.tied ∙ sym (ap (λ (k : Catalog L). counted partition_count (known k).topics) c);
           catalog_named = meta_named p q (meta log q).identity (meta log p).identity of (ap (λ (l : Log). l.identity) m) s.catalog_named;
           logs_named = named_as log p q (entries q) of (subst (AreNamed log (string_bytes p.tenant) p.segment_bytes) (sym e) s.logs_named);
+          begun = subst (λ (l : Log). IsBegun l.identity.generation next) (sym m) s.begun;
           offsets = ap (λ (n : ℕ × ℕ). n.0) tallied.0 ∙ s.offsets ∙ sym (ap (λ (k : Catalog L). up_to_end (offsets_in (known k))) c);
           texts = ap (λ (n : ℕ × ℕ). n.1) tallied.0 ∙ s.texts ∙ sym (ap (λ (k : Catalog L). up_to_end (texts_in (known k))) c);
         };
@@ -232,10 +246,11 @@ recast_move {L} log a p q d next c of e until tallied le move =
       grows = le;
       commands = let ends : (meta log q).end ≡ (meta log p).end = ap (λ (l : Log). l.end) m in omega (arith, move.commands, ends);
       creates = let made = ap (λ (k : Catalog L). (known k).creates) c in omega (arith, move.creates, made);
-      wrote = λ file bytes had. wrote_as log p q of.0 file bytes (move.wrote file bytes had);
+      generation = generation ∙ move.generation;
+      wrote = λ file bytes had. still file bytes (move.wrote file bytes had);
       leaves = λ honest agree file there not some other. move.leaves honest agree file there
           (λ own. not (⊎_elim (λ mine. inl (subst (λ (l : Log). l.owns file) (sym m) mine)) (λ theirs. inr (subst (λ (es : Entries L). Owned log es file) (sym e) theirs)) own))
-          some (λ had. other (wrote_as log p q of.0 file _ had));
+          some (λ had. other (still file _ had));
     }
 
 pub recast_settles : {L : Type 0} (log : L → Log) (a : Scene Seen) (p q : Parts L) (d : Disk) (next : ℕ) → q.catalog ≡ p.catalog → entries q ≡ entries p
@@ -247,6 +262,7 @@ recast_settles {L} log a p q d next c e settles =
           (λ own. not (⊎_elim (λ mine. inl (subst (λ (l : Log). l.owns file) (sym m) mine)) (λ theirs. inr (subst (λ (es : Entries L). Owned log es file) (sym e) theirs)) own));
       exact = λ exact. let x = settles.exact exact in
           (subst (λ (l : Log). l.exact d.table) (sym m) x.0, subst (λ (es : Entries L). AreExact log es d.table) (sym e) x.1);
+      timed = λ timed. subst (λ (es : Entries L). AreTimed log es) (sym e) (settles.timed timed);
       writes = λ honest file there not. settles.writes honest file there
           (λ own. not (⊎_elim (λ mine. inl (subst (λ (l : Log). l.owns file) (sym m) mine)) (λ theirs. inr (subst (λ (es : Entries L). Owned log es file) (sym e) theirs)) own));
     }
@@ -336,6 +352,7 @@ kept_step log a p u d next until step =
           tied = s.tied;
           catalog_named = s.catalog_named;
           logs_named = s.logs_named;
+          begun = s.begun;
           offsets = s.offsets;
           texts = s.texts;
         };
@@ -361,7 +378,8 @@ kept_step log a p u d next until step =
       grows = step.grows;
       commands = step.commands;
       creates = step.creates;
-      settles = λ calm. let s = step.settles calm in record { accounts = s.accounts; exact = s.exact; writes = s.writes };
+      generation = step.generation;
+      settles = λ calm. let s = step.settles calm in record { accounts = s.accounts; exact = s.exact; timed = s.timed; writes = s.writes };
       wrote = step.wrote;
       leaves = λ honest agree file there not some other. step.leaves honest agree file there not some other;
     }
@@ -383,6 +401,7 @@ told_step log a p o d next stored step =
           tied = s.tied;
           catalog_named = s.catalog_named;
           logs_named = s.logs_named;
+          begun = s.begun;
           offsets = s.offsets;
           texts = s.texts;
         };
@@ -408,7 +427,8 @@ told_step log a p o d next stored step =
       grows = step.grows;
       commands = step.commands;
       creates = step.creates;
-      settles = λ calm. let s = step.settles calm in record { accounts = s.accounts; exact = s.exact; writes = s.writes };
+      generation = step.generation;
+      settles = λ calm. let s = step.settles calm in record { accounts = s.accounts; exact = s.exact; timed = s.timed; writes = s.writes };
       wrote = step.wrote;
       leaves = λ honest agree file there not some other. step.leaves honest agree file there not some other;
     }

@@ -179,6 +179,7 @@ module _ {L : Type 0} (log : L → Log) (instance count : ℕ) (es es' : Entries
       own = o.own;
     };
     exact = λ table exact i p x at. ⊎_elim (λ (new : IsEmptyPartition log x). (new.begun.exact table, new.begun.timed)) (λ was. exact i p x was) (made_at i p x at);
+    timed = λ timed i p x at. ⊎_elim (λ (new : IsEmptyPartition log x). new.begun.timed) (λ was. timed i p x was) (made_at i p x at);
     sound = λ table next s. record {
       ordered = ordered;
       each = λ i p x at. ⊎_elim (λ (new : IsEmptyPartition log x). new.begun.sound table next) (λ was. s.each i p x was) (made_at i p x at);

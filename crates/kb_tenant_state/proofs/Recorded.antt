@@ -25,7 +25,8 @@ use Rattle.kb_tenant_state.specs.World.{World}
 use Rattle.kb_tenant_state.specs.declared.parts.Parts.{Parts}
 use Rattle.kb_tenant_state.proofs.StillKept.{WereThere, as_before, kept_by}
 use Rattle.kb_tenant_state.proofs.Lifted.{AreTallied, counted_step_catalog, loud, recast_move, recast_settles}
-use Rattle.kb_tenant_state.proofs.Left.{own_leaves, strays_writes}
+use Rattle.kb_tenant_state.proofs.GivenUp.{given_up_stays}
+use Rattle.kb_tenant_state.proofs.Left.{none_leaves, strays_gives, strays_writes}
 use Rattle.kb_tenant_state.proofs.Moves.{IsMove, as_step}
 use Rattle.kb_tenant_state.proofs.Spared as spared
 use Rattle.kb_tenant_state.proofs.Starts.{SameStarts, same_topics}
@@ -71,6 +72,7 @@ module _ {L : Type 0} (log : L → Log) (law : (l : L) → IsLawfulLog (log l)) 
         small = sound.small;
         catalog_named = named_still _ _ _ _ frames.identity sound.catalog_named;
         logs_named = sound.logs_named;
+        begun = let is = ap (λ (i : Identity). natural i.generation) frames.identity in omega (arith, sound.begun, is, frames.others.later);
       };
       others = record {
         later = frames.others.later;
@@ -95,12 +97,14 @@ module _ {L : Type 0} (log : L → Log) (law : (l : L) → IsLawfulLog (log l)) 
     grows = omega arith;
     commands = longer;
     creates = more;
-    wrote = λ file bytes had. had;
+    generation = ap (λ (i : Identity). natural i.generation) frames.identity;
+    wrote = let is = ap (λ (i : Identity). natural i.generation) frames.identity in given_up_stays log p (record p { catalog = changed; offsets = o; texts = t }) (refl, refl) more (λ i lt none. none) (omega (arith, is));
     leaves = λ honest agree.
-        let new = record p { catalog = changed; offsets = o; texts = t } in
-        own_leaves log p new d d' next next' refl (ap (λ (i : Identity). i.tenant) sound.catalog_named) sound.logs_named
-        (strays_writes (parts.scene_on log p d next) (parts.scene_on log new d' next') (meta log p).owns (log (meta_log changed)).owns (λ file own. inl own) frames.strays)
-        honest agree.catalog agree.logs;
+        let a = parts.scene_on log p d next in
+        let b = parts.scene_on log (record p { catalog = changed; offsets = o; texts = t }) d' next' in
+        none_leaves a b
+        (strays_gives a b (meta log p).owns (log (meta_log changed)).owns (λ file own. inl own) (λ file own. ⊎_elim (λ mine. inl mine) (λ theirs. inr (inr theirs)) own) frames.strays)
+        honest;
   }
 
   -- each topic has as many partitions as before, which start where they did
@@ -119,6 +123,7 @@ module _ {L : Type 0} (log : L → Log) (law : (l : L) → IsLawfulLog (log l)) 
         let before = settles.accounts file there (λ own. not (inl own)) in
         (before.0, λ own. ⊎_elim (λ mine. before.1 mine) (λ theirs. not (inr theirs)) own);
     exact = λ exact. (settles.exact exact.0, spared.spared_exact log law (entries p) d d' next next' sound.logs frames.others.later lengths contents exact.1);
+    timed = λ timed. timed;
     writes =
         let new = record p { catalog = changed; offsets = o; texts = t } in
         strays_writes (parts.scene_on log p d next) (parts.scene_on log new d' next') (meta log p).owns (log (meta_log changed)).owns (λ file own. inl own) frames.strays;

@@ -16,11 +16,11 @@ use Rattle.kb_log.specs.OnShelf.{Log, Accounts, OnlyRemoves, Spares, IsLawfulLog
 use Rattle.kb_producers.specs.Batches.{kept_all}
 use Rattle.kb_tenant_state.specs.Logs.{LogState, without_logs}
 use Rattle.kb_tenant_state.specs.Partitions.{Entries, Owned, OwnedBy, AreSound, AreNamed, AreStarted, partition_at, places_of, log_state, logs_of, scene_on}
-use Rattle.kb_tenant_state.specs.Scene.{Frame, Settles}
+use Rattle.kb_tenant_state.specs.Scene.{Frame, GivesUp, Settles}
 use Rattle.kb_tenant_state.specs.Topic.{AreApartLogs, OwnedAmong}
 use Rattle.kb_tenant_state.specs.declared.partition.Partition.{Partition}
 use Rattle.kb_tenant_state.proofs.Changed.{found_at, shown}
-use Rattle.kb_tenant_state.proofs.Left.{removes_writes}
+use Rattle.kb_tenant_state.proofs.Left.{removes_gives, removes_writes}
 use Rattle.kb_tenant_state.proofs.Put.{cases, each_value, map_same, other_number, same_number, values_same}
 
 -- an entry is taken out before its value is looked at, or after
@@ -112,6 +112,13 @@ module _ {L : Type 0} (log : L → Log) (i : ℕ) (es : Entries L) (t : Vec (Par
     pub removed_started : (recorded : ℕ → ℕ → ℕ) → AreStarted log recorded es → AreStarted log recorded es'
     removed_started recorded started j q y at = started j q y (rest_at j q y at).0
 
+    -- of the files those alone are given up that were of the topic's logs
+    pub removed_gives : OnlyRemoves d d' → GivesUp (OwnedBy log i es) (scene_on log es d next) (scene_on log es' d' next')
+    removed_gives = removes_gives (scene_on log es d next) (scene_on log es' d' next') (OwnedBy log i es) (λ file o not. ⊎_elim
+        (λ at. record { number = o.number; partition = o.partition; at = at_place o.number o.partition at; own = o.own })
+        (λ at. absurd (not (record { instance = o.instance; number = o.number; partition = o.partition; at = at; own = o.own })))
+        (left_at o.instance o.number o.partition o.at))
+
     pub removed_settles : OnlyRemoves d d' → Accounts (OwnedAmong log t.items) no_file d d' → Settles (scene_on log es d next) (scene_on log es' d' next')
     removed_settles left accounts = record {
       accounts = λ file here not.
@@ -130,6 +137,7 @@ module _ {L : Type 0} (log : L → Log) (i : ℕ) (es : Entries L) (t : Vec (Par
                 (λ o. sound.apart j q i o.number y o.partition rest.0 (at_place o.number o.partition o.at) (λ bad. rest.1 bad.0) file theirs o.own)),
             old.1,
           );
+      timed = λ timed j q y at. timed j q y (rest_at j q y at).0;
       writes = removes_writes (scene_on log es d next) (scene_on log es' d' next') left;
     }
 

@@ -23,7 +23,7 @@ use Rattle.kb_tenant_state.specs.Partitions.{Entries, Owned, Agree, AreSound, Ar
 use Rattle.kb_tenant_state.specs.Scene.{Scene}
 use Rattle.kb_tenant_state.specs.declared.partition.Partition.{Partition}
 use Rattle.kb_tenant_state.specs.RetentionTime.{AreAllKept}
-use Rattle.kb_tenant_state.specs.Parts.{Agrees, IsSound, Seen, entries, meta, recorded_start, scene_on, world_of}
+use Rattle.kb_tenant_state.specs.Parts.{Agrees, IsBegun, IsSound, Seen, entries, meta, recorded_start, scene_on, world_of}
 use Rattle.kb_tenant_state.specs.Stored.{IsTold, offsets_in, stored_in, texts_in, up_to_end}
 use Rattle.kb_tenant_state.specs.Tied.{IsTied, counted, partition_count}
 use Rattle.kb_tenant_state.specs.declared.parts.Parts.{Parts}
@@ -138,6 +138,7 @@ pub record IsUntied {L : Type 0} (log : L → Log) (p : Parts L) (table : Table)
   pub small : (i count : ℕ) → lookup (is_at (nat_cmp i)) (places_of (entries p)) ≡ Some count → count ≤ 64
   pub catalog_named : (meta log p).identity ≡ catalog_identity (string_bytes p.tenant) (meta log p).identity.generation p.segment_bytes
   pub logs_named : AreNamed log (string_bytes p.tenant) p.segment_bytes (entries p)
+  pub begun : IsBegun (meta log p).identity.generation next
 
 -- in agreement, with those starts recorded of the partitions
 pub record AgreesBy {L : Type 0} (log : L → Log) (recorded : ℕ → ℕ → ℕ) (p : Parts L) (files : Files) : Type 0 where
@@ -162,6 +163,7 @@ untied log p table next s = record {
   small = s.small;
   catalog_named = s.catalog_named;
   logs_named = s.logs_named;
+  begun = s.begun;
 }
 
 by_recorded : {L : Type 0} (log : L → Log) (p : Parts L) (files : Files) → Agrees log p files → AgreesBy log (recorded_start (known p.catalog)) p files
@@ -187,6 +189,7 @@ from_untied log p b d next move = record {
   grows = move.grows;
   commands = move.commands;
   creates = move.creates;
+  generation = move.generation;
   wrote = move.wrote;
   leaves = λ honest agree. move.leaves honest (by_recorded log p d.files agree);
 }
@@ -207,6 +210,7 @@ tie log a recorded p d next tied same counted move =
           tied = tied;
           catalog_named = s.catalog_named;
           logs_named = s.logs_named;
+          begun = s.begun;
           offsets = counted.0;
           texts = counted.1;
         };
@@ -226,6 +230,7 @@ tie log a recorded p d next tied same counted move =
       grows = move.grows;
       commands = move.commands;
       creates = move.creates;
+      generation = move.generation;
       wrote = move.wrote;
       leaves = move.leaves;
     }

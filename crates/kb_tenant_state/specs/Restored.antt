@@ -11,7 +11,7 @@ use Rattle.kb_topics.specs.Catalog.{known, meta_log, catalog_identity}
 use Rattle.kb_topics.specs.declared.catalog.Catalog.{Catalog}
 use Rattle.kb_tenant_state.specs.Partitions.{Owned, AreSound, AreStarted, AreNamed, Agree, logs_of, places_of, IsUnmade}
 use Rattle.kb_tenant_state.specs.declared.partitions.Partitions.{Partitions}
-use Rattle.kb_tenant_state.specs.Parts.{recorded_start}
+use Rattle.kb_tenant_state.specs.Parts.{IsBegun, recorded_start}
 use Rattle.kb_tenant_state.specs.Tied.{counted, partition_count}
 use Rattle.kb_tenant_state.specs.World.{World}
 
@@ -23,7 +23,7 @@ IsOfEither log c ps file = (log (meta_log c)).owns file ⊎ Owned log ps.topics.
 abbrev pub restored_world : {L : Type 0} → (L → Log) → Catalog L → Partitions L → Files → World
 restored_world log c ps files = record { known = known c; logs = logs_of log ps.topics.entries files }
 
--- Each log is sound and the tenant's own, the meta log in whatever generation, with files of so many bytes, and no file is of two
+-- Each log is sound and the tenant's own, the meta log in a generation that was begun, with files of so many bytes, and no file is of two
 -- logs. No instance that is still to be given out has partitions, and no topic has more than 64. Each topic has as many partitions as
 -- the catalog says, under its instance, and there are no others.
 pub record AreFitting {L : Type 0} (log : L
@@ -37,6 +37,7 @@ pub record AreFitting {L : Type 0} (log : L
   pub tied : places_of ps.topics.entries ≡ counted partition_count (known c).topics
   pub catalog_named : (log (meta_log c)).identity ≡ catalog_identity tenant (log (meta_log c)).identity.generation size
   pub logs_named : AreNamed log tenant size ps.topics.entries
+  pub begun : IsBegun (log (meta_log c)).identity.generation next
 
 -- Each log agrees with its files, and would start where it does if it were opened from them again; and the catalog is what its meta
 -- log comes to.

@@ -1,28 +1,25 @@
 -- How the parts of a tenant go from one moment to the next.
-use Rattle.std.specs.Prelude.{◌≡◌, ◌≤◌, ◌<◌, ℕ, List, [], Option, Some, string_bytes, unwrap_or}
-use Rattle.std.specs.FinMap.{get}
+use Rattle.std.specs.Prelude.{◌≡◌, ◌≤◌, ◌<◌, ℕ, List, [], Option, unwrap_or}
 use Rattle.std.proofs.Common.{◌∙◌, sym, refl, subst, ap, inl, inr, ⊎_elim, arith}
-use Rattle.kb_store.specs.Disk.{Disk, Files, Table, bytes_of}
-use Rattle.kb_log.specs.OnShelf.{Identity, Log, Spares}
-use Rattle.kb_topics.specs.Catalog.{meta_log}
-use Rattle.kb_tenant_state.specs.Scene.{Scene, Frame, HadFile, LeavesOwn, Settles}
-use Rattle.kb_tenant_state.specs.Partitions.{Agree, AreNamed}
-use Rattle.kb_tenant_state.specs.Parts.{Agrees, IsSound, Owns, Seen, entries, meta}
+use Rattle.kb_store.specs.Disk.{Disk, bytes_of}
+use Rattle.kb_log.specs.OnShelf.{Spares}
+use Rattle.kb_tenant_state.specs.Scene.{Scene, Frame, LeavesOwn, Settles}
+use Rattle.kb_tenant_state.specs.Parts.{Seen}
 use Rattle.kb_tenant_state.specs.Counts.{END, IsCalm}
-use Rattle.kb_tenant_state.specs.declared.parts.Parts.{Parts}
 
--- What each call keeps, also where it is refused: whose the parts are; the files of all others are as they were; and the counts of
--- refusals, of recorded commands and of topics that were made only rise.
+-- What each call keeps, also where it is refused: whose the parts are, and the generation of the meta log; the files of all others are as
+-- they were; and the counts of refusals, of recorded commands and of topics that were made only rise.
 -- Where nothing was refused each file is accounted for; and nothing but batches is in the files, and each log's memory tells what
 -- retention asks of its first batch, if it was so before.
--- Also where it is refused no file is left to nobody, but one without a byte, one with bytes that were written to a file of the tenant's,
--- and those that were nobody's before and are as they were.
+-- Also where it is refused no file is left to nobody, but one without a byte, one of a log that the tenant has no more, and those that were
+-- nobody's before and are as they were.
 pub record IsStep (a b : Scene Seen) : Type 0 where
   pub frame : Frame a b
   pub named : b.state.tenant ≡ a.state.tenant
   pub grows : a.state.refusals ≤ b.state.refusals
   pub commands : a.state.commands ≤ b.state.commands
   pub creates : a.state.world.known.creates ≤ b.state.world.known.creates
+  pub generation : b.state.generation ≡ a.state.generation
   pub settles : IsCalm a.state.refusals b.state.refusals → Settles a b
   pub wrote : (file : ℕ) (bytes : List ℕ) → a.wrote file bytes → b.wrote file bytes
   pub leaves : b.disk.honest → a.agrees → LeavesOwn a b
@@ -64,7 +61,8 @@ step_same a sound = record {
   grows = omega arith;
   commands = omega arith;
   creates = omega arith;
-  settles = λ calm. record { accounts = λ file there not. (there, not); exact = λ exact. exact; writes = λ honest file there not some. (there, refl) };
+  generation = refl;
+  settles = λ calm. record { accounts = λ file there not. (there, not); exact = λ exact. exact; timed = λ timed. timed; writes = λ honest file there not some. (there, refl) };
   wrote = λ file bytes had. had;
   leaves = λ honest agree file there not some other. (there, refl, not);
 }
@@ -80,6 +78,7 @@ pub settles_then : (a b c : Scene Seen) → (c.disk.honest → b.disk.honest) �
 settles_then a b c before p q = record {
   accounts = λ file there not. let mid = q.accounts file there not in p.accounts file mid.0 mid.1;
   exact = λ exact. q.exact (p.exact exact);
+  timed = λ timed. q.timed (p.timed timed);
   writes = λ honest file there not some.
       let mid = q.writes honest file there not some in
       let same : bytes_of c.disk file ≡ bytes_of b.disk file = ap (λ (o : Option (List ℕ)). unwrap_or o []) mid.1 in
@@ -110,6 +109,7 @@ step_then a b c p q = record {
   grows = omega (arith, p.grows, q.grows);
   commands = omega (arith, p.commands, q.commands);
   creates = omega (arith, p.creates, q.creates);
+  generation = q.generation ∙ p.generation;
   settles = λ calm. let calms = calm_then a.state.refusals b.state.refusals c.state.refusals p.grows q.grows calm in
       settles_then a b c q.frame.others.honest (p.settles calms.0) (q.settles calms.1);
   wrote = λ file bytes had. q.wrote file bytes (p.wrote file bytes had);
@@ -127,25 +127,3 @@ meets_then a b c P Q p q first second honest agree calm =
 -- what follows from what is met
 pub meets_so : (a b : Scene Seen) (P Q : Type 0) → (P → Q) → Meets a b P → Meets a b Q
 meets_so a b P Q f met honest agree calm = f (met honest agree calm)
-
--- a file of a log of the tenant's, where the logs have its name and agree with their files
-pub log_had : {L : Type 0} (log : L → Log) (p : Parts L) (files : Files) → (meta log p).identity.tenant ≡ string_bytes p.tenant
-    → AreNamed log (string_bytes p.tenant) p.segment_bytes (entries p) → (meta log p).agrees files → Agree log (entries p) files
-    → (file : ℕ) (bytes : List ℕ) → get files file ≡ Some bytes → Owns log p file → HadFile log (string_bytes p.tenant) file bytes
-log_had log p files meta_named named meta_agrees agree file bytes had own = ⊎_elim
-    (λ mine. record { of = meta_log p.catalog; files = files; tenants = meta_named; owns = mine; agrees = meta_agrees; had = had })
-    (λ o. record {
-      of = o.partition.log;
-      files = files;
-      tenants = ap (λ (i : Identity). i.tenant) (named o.instance o.number o.partition o.at);
-      owns = o.own;
-      agrees = agree.each o.instance o.number o.partition o.at;
-      had = had;
-    })
-    own
-
--- a file that is the tenant's
-pub owned_had : {L : Type 0} (log : L → Log) (p : Parts L) (table : Table) (files : Files) (next : ℕ) → IsSound log p table next → Agrees log p files
-    → (file : ℕ) (bytes : List ℕ) → get files file ≡ Some bytes → Owns log p file → HadFile log (string_bytes p.tenant) file bytes
-owned_had log p table files next sound agree =
-    log_had log p files (ap (λ (i : Identity). i.tenant) sound.catalog_named) sound.logs_named agree.catalog agree.logs

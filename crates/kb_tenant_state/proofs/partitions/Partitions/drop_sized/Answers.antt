@@ -2,13 +2,14 @@ use Rattle.std.proofs.Common.{◌≡◌, ◌∙◌, ℕ, rules, subst, sym, to_z
 use Rattle.std.specs.Int.{w64}
 use Rattle.std.specs.Prelude.{IfSome, IsSome}
 use Rattle.kb_batch.specs.Batch.{natural}
+use Rattle.kb_log.specs.OnShelf.{no_file}
 use Rattle.kb_tenant_state.specs.Gone.{Went}
 use Rattle.kb_tenant_state.specs.Logs.{Logs, log_at, without_below}
 use Rattle.kb_tenant_state.specs.PartitionCalls.{IsInRange}
 use Rattle.kb_tenant_state.specs.Partitions.{AreStarted, Restarts, scene}
 use Rattle.kb_tenant_state.specs.Scene.{WhereHonest}
 use Rattle.kb_tenant_state.specs.Stored.{bytes_in_all}
-use Rattle.kb_tenant_state.proofs.Gone.{known_calm, looked_dropped, looked_frame, looked_logs, looked_own, looked_settles, looked_where, on_calm}
+use Rattle.kb_tenant_state.proofs.Gone.{known_calm, looked_dropped, looked_frame, looked_given, looked_logs, looked_settles, looked_where, on_calm}
 use Rattle.kb_tenant_state.proofs.Retained.{in_range_by}
 use Rattle.kb_tenant_state.proofs.Sized.{look_frame}
 use Rattle.kb_tenant_state.proofs.partitions.Partitions.drop_sized.Goals as goal
@@ -110,5 +111,5 @@ returns-clause-writes g c =
     let s1 = c.size_at-before.new.shelf in
     let s2 = c.drop_to-dropped.new.shelf in
     let s3 = c.size_at-after.new.shelf in
-    looked_own g.L.PartitionLog.log c.args.self.now.topics.entries c.drop_to-dropped.new.self.topics.entries (disk s0.store) (disk s1.store) (disk s2.store) (disk s3.store) s0.next s1.next s2.next s3.next
-    c.requires.sound c.size_at-before.ensures.looks c.drop_to-dropped.ensures.frame c.size_at-after.ensures.looks c.drop_to-dropped.ensures.writes
+    looked_given g.L.PartitionLog.log c.args.self.now.topics.entries c.drop_to-dropped.new.self.topics.entries (disk s0.store) (disk s1.store) (disk s2.store) (disk s3.store) s0.next s1.next s2.next s3.next
+    c.requires.sound c.size_at-before.ensures.looks c.drop_to-dropped.ensures.frame c.size_at-after.ensures.looks no_file c.drop_to-dropped.ensures.writes

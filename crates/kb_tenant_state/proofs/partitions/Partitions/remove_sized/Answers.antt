@@ -2,10 +2,10 @@ use Rattle.std.proofs.Common.{◌∙◌, Ok, subst, sym}
 use Rattle.std.specs.Prelude.{IfSome, IsSome}
 use Rattle.kb_tenant_state.specs.Gone.{Went}
 use Rattle.kb_tenant_state.specs.Logs.{without_logs}
-use Rattle.kb_tenant_state.specs.Partitions.{scene}
+use Rattle.kb_tenant_state.specs.Partitions.{OwnedBy, scene}
 use Rattle.kb_tenant_state.specs.Scene.{WhereHonest}
 use Rattle.kb_tenant_state.specs.Stored.{bytes_in_all}
-use Rattle.kb_tenant_state.proofs.Gone.{known_calm, looked_frame, looked_logs, looked_own, looked_removed, looked_settles, on_calm}
+use Rattle.kb_tenant_state.proofs.Gone.{known_calm, looked_frame, looked_given, looked_logs, looked_removed, looked_settles, on_calm}
 use Rattle.kb_tenant_state.proofs.Sized.{look_frame, no_look}
 use Rattle.kb_tenant_state.proofs.partitions.Partitions.remove_sized.Goals as goal
 
@@ -69,5 +69,6 @@ returns-clause-writes g c =
     let s0 = c.args.shelf.now in
     let s1 = c.topic_size-before.new.shelf in
     let s2 = c.remove-removed.new.shelf in
-    looked_own g.L.PartitionLog.log c.args.self.now.topics.entries c.remove-removed.new.self.topics.entries (disk s0.store) (disk s1.store) (disk s2.store) (disk s2.store) s0.next s1.next s2.next s2.next
-    c.requires c.topic_size-before.ensures.looks c.remove-removed.ensures.frame (no_look (disk s2.store) s2.next) c.remove-removed.ensures.writes
+    looked_given g.L.PartitionLog.log c.args.self.now.topics.entries c.remove-removed.new.self.topics.entries (disk s0.store) (disk s1.store) (disk s2.store) (disk s2.store) s0.next s1.next s2.next s2.next
+    c.requires c.topic_size-before.ensures.looks c.remove-removed.ensures.frame (no_look (disk s2.store) s2.next)
+    (OwnedBy g.L.PartitionLog.log c.args.instance c.args.self.now.topics.entries) c.remove-removed.ensures.writes

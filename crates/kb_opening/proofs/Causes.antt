@@ -50,6 +50,19 @@ misses_left {T} {U} old new next As As' e weaker m = record {
   full = λ is. m.full (same_err U T e faults.Full is);
 }
 
+-- where the next number was raised before, and the last one is left if it was
+pub misses_raised : {T : Type 0} (old new : Disk) (first next : ℕ) (As : Type 0) (r : Result T LogFault) → (first < 2 ^ 64 → next < 2 ^ 64)
+    → MissesShelf old next As r new → MissesShelf old first As r new
+misses_raised old new first next As r room m = record {
+  later = m.later;
+  store = λ h such is. ⊎_elim (λ (g : Grew old.failures new.failures). inl g) (λ (over : 2 ^ 64 ≤ next). elim (cases_lt first (2 ^ 64)) [
+    | inl lt ↦ let fits = room lt in absurd (omega (arith, fits, over))
+    | inr ge ↦ inr ge
+  ]) (m.store h such is);
+  range = m.range;
+  full = m.full;
+}
+
 -- ---- by the answer of the whole
 
 pub misses_handed : {T U : Type 0} (first old new : Disk) (next : ℕ) (As As' : Type 0) (e : LogFault) (r : Result U LogFault) → IsErrAnd r (λ f. f ≡ e) → (new.honest → As' → As) → first.failures ≤ old.failures

@@ -1,5 +1,5 @@
 -- The generations of a catalog: which of them are whole, and the files of those that are removed.
-use Rattle.std.proofs.Common.{◌≡◌, ◌≢◌, ◌∙◌, ◌⊎◌, ◌≤◌, ◌<◌, ◌+◌, ◌^◌, ◌++◌, inl, inr, ⊎_elim, ℕ, zero, suc, List, [], ◌∷◌, Some, None, refl, sym, ap, subst, arith, append_assoc}
+use Rattle.std.proofs.Common.{◌≡◌, ◌≢◌, ◌∙◌, ◌⊎◌, ◌≤◌, ◌<◌, ◌+◌, ◌-◌, ◌^◌, ◌++◌, inl, inr, ⊎_elim, ℕ, zero, suc, List, [], ◌∷◌, Some, None, refl, sym, ap, subst, arith, append_assoc}
 use Rattle.std.specs.Prelude.{IsSome, IsPermutation, is_some, unwrap_or, Option, Bool, true, false}
 use Rattle.std.specs.FinMap.{get}
 use Rattle.std.specs.List.{All, Contains}
@@ -98,6 +98,11 @@ module _ (files : Files) (d : Directory) (t : ℕ) where
     | inl more ↦ over above more small k c
     | inr no_more ↦ nothing_whole files above k (omega (arith, lt)) (subst (λ (ns : List ℕ). ComesToKnown files ns above k) (between above lt (omega (arith, no_more))) c)
   ]
+
+  -- above the latest that has files none is
+  pub over_latest : (latest : ℕ) → NoneBetween d t latest (2 ^ 63 - 1) → NoneOver latest
+  over_latest latest between above lt small k c =
+      nothing_whole files above k (omega (arith, lt)) (subst (λ (ns : List ℕ). ComesToKnown files ns above k) (between above lt (omega (arith, small))) c)
 
   -- one more that is not whole
   pub over_more : (generation most next : ℕ) → next + 1 ≡ generation → NoneBetween d t generation most → NoneOver most

@@ -1,13 +1,15 @@
 -- What was taken out, and what is left.
-use Rattle.std.proofs.Common.{◌≡◌, ◌+◌, ℕ, zero, suc, List, [], ◌∷◌, ◌++◌, length, length-append, false, inl, inr, subst, arith}
+use Rattle.std.proofs.Common.{◌≡◌, ◌≤◌, ◌+◌, ℕ, zero, suc, List, [], ◌∷◌, ◌++◌, length, length-append, false, inl, inr, subst, arith}
 use Rattle.std.specs.Prelude.{nat_eq, ◌↔◌, ◌⊎◌}
 use Rattle.std.specs.List.{All, AllByRecursion, Contains, IsDistinct}
 use Rattle.std.proofs.lemmas.Bool.{eqb-false}
 use Rattle.std.proofs.lemmas.List.{get_or_append_left, get_or-append-add}
 use Rattle.std.proofs.lemmas.List.Elements.{All-contains, All-from_recursion, Contains-append_cases, Contains-append_left, Contains-append_right}
 use Rattle.std.proofs.lemmas.List.Sorted.{IsPermutation-sym, All-permutation, Contains-permutation}
+use Rattle.kb_store.specs.Disk.{Disk}
 use Rattle.kb_segment_log.proofs.Opened.{distinct_moved}
 use Rattle.kb_opening.specs.Directory.{all_files, TakesOut}
+use Rattle.kb_opening.specs.Tenant.{AreListed, RaisesNext}
 use Rattle.kb_opening.specs.declared.directory.Directory.{Directory}
 use Rattle.kb_opening.specs.declared.owner.Owner.{Owner}
 
@@ -48,3 +50,20 @@ taken_or_left owner old new taken takes file = (
 pub taken_apart : (owner : Owner) (old new : Directory) (taken : List ℕ) → TakesOut owner old taken new → IsDistinct nat_eq (all_files old)
     → IsDistinct nat_eq taken × IsDistinct nat_eq (all_files new) × ((file : ℕ) → Contains taken file → Contains (all_files new) file → ⊥)
 taken_apart owner old new taken takes d = distinct_parts taken (all_files new) (distinct_moved (all_files old) (taken ++ all_files new) takes.all d)
+
+-- ---- where the next number rises
+
+pub listed_later : (dir : Directory) (disk : Disk) (next later : ℕ) → AreListed dir disk next → next ≤ later → AreListed dir disk later
+listed_later dir disk next later listed le = record {
+  there = listed.there;
+  given_out = λ k none lt. let below = listed.given_out k none lt in omega (arith, below, le);
+  once = listed.once;
+}
+
+pub raised_twice : (first next last : ℕ) → RaisesNext first next → RaisesNext next last → RaisesNext first last
+raised_twice first next last once again =
+    let a = once.later in
+    let b = again.later in
+    let c = once.room in
+    let d = again.room in
+    record { later = omega (arith, a, b); room = omega (arith, c, d) }

@@ -1,5 +1,5 @@
 -- A tenant, opened from the files that a directory has of it.
-use Rattle.std.specs.Prelude.{◌≡◌, ◌≢◌, ◌≤◌, ◌<◌, ◌⊎◌, ◌++◌, ℕ, pos, nat_eq, List, [], Some, None, IsSome, IsPermutation}
+use Rattle.std.specs.Prelude.{◌≡◌, ◌≢◌, ◌≤◌, ◌<◌, ◌^◌, ◌⊎◌, ◌++◌, ℕ, max, pos, nat_eq, List, [], Some, None, IsSome, IsPermutation}
 use Rattle.std.specs.List.{All, Contains, IsDistinct}
 use Rattle.kb_store.specs.Disk.{Disk, Files, IsThere}
 use Rattle.kb_batch.specs.Batch.{natural}
@@ -58,6 +58,25 @@ pub record AreListed (d : Directory) (disk : Disk) (next : ℕ) : Type 0 where
   pub there : All (λ n. IsThere disk n) (all_files d)
   pub given_out : All (λ n. n < next) (all_files d)
   pub once : IsDistinct nat_eq (all_files d)
+
+-- Each generation above 0 of a tenant's catalog that has files is below a number.
+abbrev pub AreNumberedBelow : Directory → ℕ → ℕ → Type 0
+AreNumberedBelow d t next = (g : ℕ) → 0 < g → next ≤ g → g < 2 ^ 63 → files_at (Catalog t g) d ≡ []
+
+-- The next file number is as it was, or was raised, to 2^63 at most.
+pub record RaisesNext (old new : ℕ) : Type 0 where
+  pub later : old ≤ new
+  pub room : new ≤ max old (2 ^ 63)
+
+-- It was raised above each generation above 0 of a tenant's catalog that has files, where it was not above them.
+pub record RaisesAbove (d : Directory) (t old new : ℕ) : Type 0 where
+  pub raised : RaisesNext old new
+  pub above : AreNumberedBelow d t new
+
+-- A generation that a header may say, and that was begun.
+pub record MayBeOpened (generation next : ℕ) : Type 0 where
+  pub small : generation < 2 ^ 63
+  pub begun : generation < max 1 next
 
 -- whose log an owner's is, of a tenant of that name
 abbrev pub identity_in : List ℕ → ℕ → Owner → Identity

@@ -69,11 +69,11 @@ pub record IsLaterBy {S : Type 0} (disk : S → Disk) (Goes : BrokerState → Br
 abbrev pub IsLater : {S : Type 0} → (S → Disk) → OnStore S → OnStore S → Type 0
 IsLater disk old new = IsLaterBy disk SpeaksTruth old new
 
--- Where it is known which files are of no log, what a tenant has to which nothing was ever refused is in the files of the store, unless it
--- lied, and whatever was refused to others: opened again the files come to the same.
+-- Where it is known which files are of no log, what each tenant has is in the files of the store, unless it lied, and whatever was refused:
+-- opened again the files come to the same.
 abbrev pub IsInFiles : {L S : Type 0} → (L → Log) → (S → Disk) → OnStore S → Type 0
 IsInFiles log disk b = is_honest disk b → (strays : List ℕ) → b.strays ≡ Some strays → (t : ℕ) → t < length b.state.tenants
-    → refusals_of b.state.tenants t ≡ 0 → IsKeptIn log (disk b.store) strays b.state.tenants t
+    → IsKeptIn log (disk b.store) strays b.state.tenants t
 
 -- an event is a step, unless the store lied
 abbrev pub StepsTo : {S : Type 0} → (S → Disk) → Happening → OnStore S → OnStore S → Type 0

@@ -1,19 +1,22 @@
 -- One more tenant, without groups.
-use Rattle.std.proofs.Common.{◌≡◌, ◌∙◌, ◌⊎◌, ⊎_elim, inl, inr, ℕ, zero, suc, List, [], ◌∷◌, ◌++◌, Option, Some, None, sym, ap, refl, subst, arith}
-use Rattle.std.specs.Prelude.{Contains, IsSome, length, map, slice_get, string_bytes}
+use Rattle.std.proofs.Common.{◌≡◌, ◌∙◌, ◌⊎◌, ⊎_elim, inl, inr, ℕ, zero, suc, ℤ, true, false, cond, List, [], ◌∷◌, ◌++◌, Option, Some, None, sym, ap, refl, subst, arith}
+use Rattle.std.specs.Prelude.{Contains, IsSome, length, map, nat_eq, slice_get, string_bytes}
+use Rattle.std.proofs.lemmas.Bool.{eq-eqb}
+use Rattle.std.proofs.lemmas.Bool.Decides.{nat_tests}
+use Rattle.std.proofs.lemmas.Option.{none-some, slice_get_within}
 use Rattle.std.specs.declared.alloc.Global.{Global}
 use Rattle.std.specs.declared.vec.Vec.{Vec}
-use Rattle.kb_tenant_state.specs.Partitions.{AreExact}
 use Rattle.std.proofs.lemmas.List.{map_push}
 use Rattle.kb_coordinator.specs.Groups.{none}
 use Rattle.kb_store.specs.Disk.{Disk, Table, Files, bytes_of}
 use Rattle.kb_log.specs.OnShelf.{Log}
 use Rattle.kb_log.specs.Shelf.{Shelved}
-use Rattle.kb_tenant_state.specs.Parts.{Agrees, IsSound, Owns, entries, meta, world_of}
+use Rattle.kb_tenant_state.specs.Parts.{Agrees, IsPast, IsSound, Owns, world_of}
+use Rattle.kb_tenant_state.specs.Scene.{IsGivenUp}
 use Rattle.kb_tenant_state.specs.World.{World, new_world}
 use Rattle.kb_tenant_state.specs.declared.parts.Parts.{Parts}
 use Rattle.kb_tenant_api.specs.Hosted.{TenantState, kept_in, new_tenant}
-use Rattle.kb_tenants.specs.Tenants.{AreKept, AreSettled, AllAreSound, AllAgree, CalmAreSettled, IsApart, IsIdleUntil, IsLeftAlone, IsOfAnother, hosted, shelf_is_honest, parts_of, restored_tenant, state_of, strays_of}
+use Rattle.kb_tenants.specs.Tenants.{AreAccountedFor, AreKept, AreSettled, AllAreSound, AllAgree, IsApart, IsIdleUntil, IsLeftAlone, IsOfUnfinished, Unfinished, hosted, shelf_is_honest, parts_of, restored_tenant, state_of, strays_of}
 use Rattle.kb_tenants.specs.declared.tenants.Tenant.{Tenant}
 use Rattle.kb_tenants.specs.declared.tenants.Tenants.{Tenants}
 use Rattle.kb_tenants.proofs.Idle.{idle_added}
@@ -43,10 +46,6 @@ unknown (Some files) early known = absurd cc
 
 pub unknown_strays : (strays : Option (Vec ℕ Global)) → strays ≡ None → (file : ℕ) → Contains (strays_of strays) file → ⊥
 unknown_strays strays early file stray = let h = (subst (λ o. Contains (strays_of o) file) early stray).1 in omega (arith, h)
-
--- nothing but its batches is in each log's files
-abbrev pub IsExact : {L : Type 0} → (L → Log) → Parts L → Table → Type 0
-IsExact log p table = (meta log p).exact table × AreExact log (entries p) table
 
 module _ {L : Type 0} (log : L → Log) (ps : List (Parts L)) (p : Parts L) where
   sound_pushed : (table : Table) (next : ℕ) → AllAreSound log ps table next → IsSound log p table next → IsApart log ps p → AllAreSound log (ps ++ p ∷ []) table next
@@ -85,27 +84,50 @@ module _ {L : Type 0} (log : L → Log) (ps : List (Parts L)) (p : Parts L) wher
         (pushed_place ps p some.tenant some.parts some.at);
   }
 
-  -- a file that was another's is another's still
-  another_pushed : (t file : ℕ) (bytes : List ℕ) → IsOfAnother log ps t file bytes → IsOfAnother log (ps ++ p ∷ []) t file bytes
-  another_pushed t file bytes o = record { other = o.other; parts = o.parts; at = still_place ps p o.other o.parts o.at; apart = o.apart; had = o.had }
+  -- each file is accounted for as it was
+  accounts_pushed : (disk : Disk) (strays : List ℕ) (next : ℕ) → AreAccountedFor log ps strays disk next → AreAccountedFor log (ps ++ p ∷ []) strays disk next
+  accounts_pushed disk strays next before = record {
+    left = left;
+    unfinished = record {
+      each = λ t g q u at has. let w = was t g q u at has in before.unfinished.each t g q u w.0 w.1;
+      begun = λ t g q u at has. let w = was t g q u at has in before.unfinished.begun t g q u w.0 w.1;
+      other = λ t g q u at has. let w = was t g q u at has in before.unfinished.other t g q u w.0 w.1;
+    };
+    each = λ file there not full other. before.each file there
+        (λ some. not (record { tenant = some.tenant; parts = some.parts; at = still_place ps p some.tenant some.parts some.at; owns = some.owns }))
+        full
+        (λ o. other (record {
+          tenant = o.tenant;
+          parts = o.parts;
+          at = still_place ps p o.tenant o.parts o.at;
+          how = ⊎_elim
+              (λ (up : IsGivenUp log (string_bytes o.parts.tenant) (IsPast log o.parts) file (bytes_of disk file)). inl up)
+              (λ (x : IsOfUnfinished log before.left o.tenant file (bytes_of disk file)).
+              inr (record { generation = x.generation; of = x.of; at = still o.tenant o.parts x.generation x.of o.at x.at; owns = x.owns; had = x.had }))
+              o.how;
+        }));
+  }
+    where
+      -- the new one left none
+      left : Unfinished L
+      left t g = cond (nat_eq t (length ps)) None (before.left t g)
 
-  -- the place of the new one was settled before
-  settled_pushed : (disk : Disk) (strays : List ℕ) → IsExact log p disk.table → CalmAreSettled log ps strays disk → CalmAreSettled log (ps ++ p ∷ []) strays disk
-  settled_pushed disk strays one before t calm =
-      let old = before t (λ q at. calm q (still_place ps p t q at)) in
-      record {
-        accounts = λ honest file there not full other. old.accounts honest file there
-            (λ some. not (record { tenant = some.tenant; parts = some.parts; at = still_place ps p some.tenant some.parts some.at; owns = some.owns }))
-            full (λ o. other (another_pushed t file (bytes_of disk file) o));
-        meta_exact = λ q at. ⊎_elim
-            (λ was. old.meta_exact q was)
-            (λ new. subst (λ (v : Parts L). (meta log v).exact disk.table) (sym new.0) one.0)
-            (pushed_place ps p t q at);
-        exact = λ q at. ⊎_elim
-            (λ was. old.exact q was)
-            (λ new. subst (λ (v : Parts L). AreExact log (entries v) disk.table) (sym new.0) one.1)
-            (pushed_place ps p t q at);
-      }
+      still : (t : ℕ) (q : Parts L) (g : ℤ) (u : L × Files) → slice_get ps t ≡ Some q → before.left t g ≡ Some u → left t g ≡ Some u
+      still t q g u at has =
+          let lt = slice_get_within ps t q at in
+          let apart : nat_eq t (length ps) ≡ false = grind (arith, nat_tests) in
+          ap (λ b. cond b None (before.left t g)) apart ∙ has
+
+      was : (t : ℕ) (g : ℤ) (q : Parts L) (u : L × Files) → slice_get (ps ++ p ∷ []) t ≡ Some q → left t g ≡ Some u → (slice_get ps t ≡ Some q) × (before.left t g ≡ Some u)
+      was t g q u at has = ⊎_elim
+          (λ (old : slice_get ps t ≡ Some q).
+          let lt = slice_get_within ps t q old in
+          let apart : nat_eq t (length ps) ≡ false = grind (arith, nat_tests) in
+          (old, sym (ap (λ b. cond b None (before.left t g)) apart) ∙ has))
+          (λ (new : (q ≡ p) × (t ≡ length ps)).
+          let same : nat_eq t (length ps) ≡ true = eq-eqb t (length ps) new.1 in
+          absurd (none-some u (sym (ap (λ b. cond b None (before.left t g)) same) ∙ has)))
+          (pushed_place ps p t q at)
 
 -- nothing was added
 module _ {L S : Type 0} (log : L → Log) (disk : S → Disk) (old new : Tenants L S) (left : new.tenants.items ≡ old.tenants.items) (same : new.shelf ≡ old.shelf) (until : new.next_retention_time ≡ old.next_retention_time) (strays : new.strays ≡ old.strays) where
@@ -120,9 +142,11 @@ module _ {L S : Type 0} (log : L → Log) (disk : S → Disk) (old new : Tenants
     apart = subst (λ (o : Option (Vec ℕ Global)). (file : ℕ) → Contains (strays_of o) file → IsLeftAlone log (parts_of new.tenants.items) new.shelf.next file) (sym strays)
         (subst (λ (s : Shelved S). (file : ℕ) → Contains (strays_of old.strays) file → IsLeftAlone log (parts_of new.tenants.items) s.next file) (sym same)
         (subst (λ (xs : List (Tenant L)). (file : ℕ) → Contains (strays_of old.strays) file → IsLeftAlone log (parts_of xs) old.shelf.next file) (sym left) kept.apart));
-    settled = subst (λ (o : Option (Vec ℕ Global)). IsSome o → CalmAreSettled log (parts_of new.tenants.items) (strays_of o) (disk new.shelf.store)) (sym strays)
-        (subst (λ (s : Shelved S). IsSome old.strays → CalmAreSettled log (parts_of new.tenants.items) (strays_of old.strays) (disk s.store)) (sym same)
-        (subst (λ (xs : List (Tenant L)). IsSome old.strays → CalmAreSettled log (parts_of xs) (strays_of old.strays) (disk old.shelf.store)) (sym left) kept.settled));
+    accounts = λ known honest.
+        let was = kept.accounts (subst (λ (o : Option (Vec ℕ Global)). IsSome o) strays known) (subst (λ (s : Shelved S). (disk s.store).honest) same honest) in
+        subst (λ (o : Option (Vec ℕ Global)). AreAccountedFor log (parts_of new.tenants.items) (strays_of o) (disk new.shelf.store) new.shelf.next) (sym strays)
+        (subst (λ (s : Shelved S). AreAccountedFor log (parts_of new.tenants.items) (strays_of old.strays) (disk s.store) s.next) (sym same)
+        (subst (λ (xs : List (Tenant L)). AreAccountedFor log (parts_of xs) (strays_of old.strays) (disk old.shelf.store) old.shelf.next) (sym left) was));
     agree = λ honest. subst (λ (s : Shelved S). AllAgree log (parts_of new.tenants.items) (disk s.store).files) (sym same)
         (subst (λ (xs : List (Tenant L)). AllAgree log (parts_of xs) (disk old.shelf.store).files) (sym left) (kept.agree (subst (λ (s : Shelved S). (disk s.store).honest) same honest)));
     until = λ honest. subst (λ z. IsIdleUntil z (hosted log disk new)) (sym until)
@@ -131,20 +155,21 @@ module _ {L S : Type 0} (log : L → Log) (disk : S → Disk) (old new : Tenants
 
 -- the files are left alone that an opening leaves
 module _ {L S : Type 0} (log : L → Log) (disk : S → Disk) (old : Tenants L S) (strays : Vec ℕ Global) where
-  settled_each : AreSettled log (parts_of old.tenants.items) strays.items (disk old.shelf.store) → CalmAreSettled log (parts_of old.tenants.items) strays.items (disk old.shelf.store)
-  settled_each all t calm = record {
-    accounts = λ honest file there not full other. all.accounts file there not;
-    meta_exact = λ p at. all.meta_exact t p at;
-    exact = λ p at. all.exact t p at;
-  }
-
   pub kept_leaving : ((file : ℕ) → Contains strays.items file → IsLeftAlone log (parts_of old.tenants.items) old.shelf.next file)
       → AreSettled log (parts_of old.tenants.items) strays.items (disk old.shelf.store) → AreKept log disk old → AreKept log disk (record old { strays = Some strays })
   kept_leaving alone all kept = record {
     sound = kept.sound;
     named = kept.named;
     apart = alone;
-    settled = λ known. settled_each all;
+    accounts = λ known honest. record {
+      left = λ t g. None;
+      unfinished = record {
+        each = λ t g p u at has. absurd (none-some u has);
+        begun = λ t g p u at has. absurd (none-some u has);
+        other = λ t g p u at has. absurd (none-some u has);
+      };
+      each = λ file there not full other. all.accounts file there not;
+    };
     agree = kept.agree;
     until = kept.until;
   }
@@ -167,10 +192,10 @@ module _ {L S : Type 0} (log : L → Log) (disk : S → Disk) (old new : Tenants
       ∙ ap (λ (s : TenantState). map (state_of log files) old.tenants.items ++ s ∷ []) one
 
   pub kept_pushed : IsSound log x.parts (disk old.shelf.store).table old.shelf.next → IsApart log (parts_of old.tenants.items) x.parts
-      → string_bytes x.parts.tenant ≡ name → ((file : ℕ) → Contains (strays_of old.strays) file → Owns log x.parts file → ⊥) → (IsSome old.strays → IsExact log x.parts (disk old.shelf.store).table)
+      → string_bytes x.parts.tenant ≡ name → ((file : ℕ) → Contains (strays_of old.strays) file → Owns log x.parts file → ⊥)
       → (shelf_is_honest disk old → Agrees log x.parts (disk old.shelf.store).files) → (shelf_is_honest disk old → IsIdleUntil new.next_retention_time (hosted log disk new))
       → AreKept log disk old → AreKept log disk new
-  kept_pushed sound alone own free exact agrees idle kept =
+  kept_pushed sound alone own free agrees idle kept =
       let before : shelf_is_honest disk new → shelf_is_honest disk old = subst (λ (s : Shelved S). (disk s.store).honest) same in
       record {
         sound = subst (λ (s : Shelved S). AllAreSound log (parts_of new.tenants.items) (disk s.store).table s.next) (sym same)
@@ -184,10 +209,12 @@ module _ {L S : Type 0} (log : L → Log) (disk : S → Disk) (old new : Tenants
             (subst (λ (s : Shelved S). (file : ℕ) → Contains (strays_of old.strays) file → IsLeftAlone log (parts_of new.tenants.items) s.next file) (sym same)
             (subst (λ ps. (file : ℕ) → Contains (strays_of old.strays) file → IsLeftAlone log ps old.shelf.next file) (sym parts_pushed)
             (λ file stray. alone_pushed log (parts_of old.tenants.items) x.parts old.shelf.next file (free file stray) (kept.apart file stray))));
-        settled = subst (λ (o : Option (Vec ℕ Global)). IsSome o → CalmAreSettled log (parts_of new.tenants.items) (strays_of o) (disk new.shelf.store)) (sym strays)
-            (subst (λ (s : Shelved S). IsSome old.strays → CalmAreSettled log (parts_of new.tenants.items) (strays_of old.strays) (disk s.store)) (sym same)
-            (subst (λ ps. IsSome old.strays → CalmAreSettled log ps (strays_of old.strays) (disk old.shelf.store)) (sym parts_pushed)
-            (λ known. settled_pushed log (parts_of old.tenants.items) x.parts (disk old.shelf.store) (strays_of old.strays) (exact known) (kept.settled known))));
+        accounts = λ known honest.
+            let was = kept.accounts (subst (λ (o : Option (Vec ℕ Global)). IsSome o) strays known) (before honest) in
+            subst (λ (o : Option (Vec ℕ Global)). AreAccountedFor log (parts_of new.tenants.items) (strays_of o) (disk new.shelf.store) new.shelf.next) (sym strays)
+            (subst (λ (s : Shelved S). AreAccountedFor log (parts_of new.tenants.items) (strays_of old.strays) (disk s.store) s.next) (sym same)
+            (subst (λ ps. AreAccountedFor log ps (strays_of old.strays) (disk old.shelf.store) old.shelf.next) (sym parts_pushed)
+            (accounts_pushed log (parts_of old.tenants.items) x.parts (disk old.shelf.store) (strays_of old.strays) old.shelf.next was)));
         agree = λ honest. subst (λ (s : Shelved S). AllAgree log (parts_of new.tenants.items) (disk s.store).files) (sym same)
             (subst (λ ps. AllAgree log ps (disk old.shelf.store).files) (sym parts_pushed)
             (agree_pushed log (parts_of old.tenants.items) x.parts (disk old.shelf.store).files (kept.agree (before honest)) (agrees (before honest))));
@@ -206,8 +233,8 @@ module _ {L S : Type 0} (log : L → Log) (disk : S → Disk) (old new : Tenants
       hosted_pushed log disk old new x pushed same strays name named bare ∙ ap (λ (s : TenantState). hosted log disk old ++ s ∷ []) one
 
   pub kept_added : ((table : Table) (next : ℕ) → IsSound log x.parts table next) → ((files : Files) → Agrees log x.parts files) → ((file : ℕ) → Owns log x.parts file → ⊥)
-      → string_bytes x.parts.tenant ≡ name → ((table : Table) → IsExact log x.parts table) → AreKept log disk old → AreKept log disk new
-  kept_added sound agrees none own exact kept = kept_pushed log disk old new x pushed same strays name named bare
-      (sound (disk old.shelf.store).table old.shelf.next) (λ t p at file own theirs. none file theirs) own (λ file stray theirs. none file theirs) (λ known. exact (disk old.shelf.store).table) (λ honest. agrees (disk old.shelf.store).files)
+      → string_bytes x.parts.tenant ≡ name → AreKept log disk old → AreKept log disk new
+  kept_added sound agrees none own kept = kept_pushed log disk old new x pushed same strays name named bare
+      (sound (disk old.shelf.store).table old.shelf.next) (λ t p at file own theirs. none file theirs) own (λ file stray theirs. none file theirs) (λ honest. agrees (disk old.shelf.store).files)
       (λ honest. subst (λ z. IsIdleUntil z (hosted log disk new)) (sym until) (subst (IsIdleUntil old.next_retention_time) (sym hosted_added) (idle_added old.next_retention_time (hosted log disk old) name (kept.until honest))))
       kept

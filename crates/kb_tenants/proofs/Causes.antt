@@ -90,7 +90,7 @@ counts_pushed (y ∷ ts) x none (suc t) = counts_pushed ts x none t
 
 module _ {L S : Type 0} (log : L → Log) (disk : S → Disk) (law : (l : L) → IsLawfulLog (log l)) (old : Tenants L S) (t : ℕ) (x : Tenant L)
     (lt : t < length (hosted log disk old)) (read : x ≡ get_or old.tenants.items t x) (kept : AreKept log disk old)
-    (mid p : Parts L) (n : ℕ) (gs : Groups) (cs : Counts) (shelf : Shelved S) (counted : p ≡ raised mid n) (step : IsChange (scene log disk x.parts old.shelf) (scene log disk mid shelf)) where
+    (mid p : Parts L) (n : ℕ) (gs : Groups) (cs : Counts) (shelf : Shelved S) (counted : p ≡ raised mid n) (step : IsChange log (scene log disk x.parts old.shelf) (scene log disk mid shelf)) where
   pub counted_called : (m : ℕ) → n ≡ min (x.parts.refusals + m) END → (disk shelf.store).failures ≡ (disk old.shelf.store).failures + m → cs ≡ with_store m x.counts
       → IsCountedFor log disk t old (after old t x p gs cs shelf)
   counted_called m count sum noted =

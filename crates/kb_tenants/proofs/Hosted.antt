@@ -28,7 +28,7 @@ use Rattle.kb_tenant_state.proofs.Put.{get_put}
 use Rattle.kb_tenant.proofs.LogMoves.{same_or_not}
 use Rattle.kb_tenants.specs.Limited.{kept_limited, limited_at}
 use Rattle.kb_tenants.specs.Members.{HaveNoGroup}
-use Rattle.kb_tenants.specs.Tenants.{AreKept, AreLeftAlone, CalmAreSettled, IsIdleUntil, IsLeftAlone, commands_of, hosted}
+use Rattle.kb_tenants.specs.Tenants.{AreKept, AreLeftAlone, AreAccountedFor, IsIdleUntil, IsLeftAlone, commands_of, hosted}
 use Rattle.kb_tenants.specs.Tenants.{parts_of, regrouped, state_of, strays_of}
 use Rattle.kb_tenants.specs.Turns.{IsShelfTurn, seen_at}
 use Rattle.kb_tenants.specs.declared.counts.Counts.{Counts}
@@ -37,7 +37,7 @@ use Rattle.kb_tenants.specs.declared.tenants.Tenants.{Tenants}
 use Rattle.kb_tenants.proofs.Accounted.{accounted_rises, accounted_turn}
 use Rattle.kb_tenants.proofs.Change.{IsChange, called, raised_change, raised_met}
 use Rattle.kb_tenants.proofs.Idle.{IsQuiet, idle_stays, idle_turn}
-use Rattle.kb_tenants.proofs.Others.{alone_stays, bytes_stay, found, put_here, settled_stays, turn}
+use Rattle.kb_tenants.proofs.Others.{alone_stays, bytes_stay, found, put_here, accounts_stay, turn}
 use Rattle.kb_tenants.proofs.Passed.{length_named}
 
 -- ---- lists
@@ -153,7 +153,7 @@ module _ {L S : Type 0} (log : L → Log) (disk : S → Disk) (old : Tenants L S
 
 module _ {L S : Type 0} (log : L → Log) (disk : S → Disk) (law : (l : L) → IsLawfulLog (log l)) (old : Tenants L S) (t : ℕ) (x : Tenant L) (p : Parts L) (gs : Groups) (cs : Counts) (shelf : Shelved S)
     (lt : t < length (hosted log disk old)) (read : x ≡ get_or old.tenants.items t x)
-    (kept : AreKept log disk old) (step : IsChange (scene log disk x.parts old.shelf) (scene log disk p shelf)) where
+    (kept : AreKept log disk old) (step : IsChange log (scene log disk x.parts old.shelf) (scene log disk p shelf)) where
   there : slice_get old.tenants.items t ≡ Some x
   there = stands log disk old t x lt read
 
@@ -180,9 +180,11 @@ module _ {L S : Type 0} (log : L → Log) (disk : S → Disk) (law : (l : L) →
         (get_put old.tenants.items t u x (record x { parts = p; groups = gs; counts = cs }) y there here);
     apart = λ file stray. subst (λ qs. IsLeftAlone log qs shelf.next file) (sym parts_after)
         (alone_stays log law (parts_of old.tenants.items) t x.parts p (disk old.shelf.store) (disk shelf.store) old.shelf.next shelf.next parts_there kept.sound step file (kept.apart file stray));
-    settled = λ known. subst (λ qs. CalmAreSettled log qs (strays_of old.strays) (disk shelf.store)) (sym parts_after)
-        (settled_stays log law (parts_of old.tenants.items) t x.parts p (disk old.shelf.store) (disk shelf.store) old.shelf.next shelf.next parts_there kept.sound step kept.agree (strays_of old.strays)
-        (kept.settled known));
+    accounts = λ known honest.
+        let before = shelf_turn.honest honest in
+        subst (λ qs. AreAccountedFor log qs (strays_of old.strays) (disk shelf.store) shelf.next) (sym parts_after)
+        (accounts_stay log law (parts_of old.tenants.items) t x.parts p (disk old.shelf.store) (disk shelf.store) old.shelf.next shelf.next parts_there kept.sound step honest (kept.agree before) (strays_of old.strays)
+        (kept.accounts known before));
     agree = λ honest. shelf_turn.agree honest (kept.agree (shelf_turn.honest honest));
     until = idle;
   }
@@ -291,10 +293,10 @@ module _ {L S : Type 0} (log : L → Log) (disk : S → Disk) (law : (l : L) →
 
 module _ {L S : Type 0} (log : L → Log) (disk : S → Disk) (law : (l : L) → IsLawfulLog (log l)) (old : Tenants L S) (t : ℕ) (x : Tenant L) (p : Parts L)
     (lt : t < length (hosted log disk old)) (read : x ≡ get_or old.tenants.items t x) (kept : AreKept log disk old) (counted : p ≡ refused x.parts) where
-  refused_at : IsChange (scene log disk x.parts old.shelf) (scene log disk p old.shelf)
+  refused_at : IsChange log (scene log disk x.parts old.shelf) (scene log disk p old.shelf)
   refused_at =
       let a = scene log disk x.parts old.shelf in
-      subst (λ (v : Parts L). IsChange a (scene log disk v old.shelf)) (sym counted)
+      subst (λ (v : Parts L). IsChange log a (scene log disk v old.shelf)) (sym counted)
       (called (refused_step log a x.parts (disk old.shelf.store) old.shelf.next (step_same a (sound_here log disk old t x lt read kept))))
 
   kepts_stay : kepts_in log (disk old.shelf.store).files (after old t x p x.groups x.counts old.shelf).tenants.items ≡ kepts_in log (disk old.shelf.store).files old.tenants.items
@@ -366,7 +368,7 @@ limited_none log disk ts t limits le =
 
 module _ {L S : Type 0} (log : L → Log) (disk : S → Disk) (law : (l : L) → IsLawfulLog (log l)) (old : Tenants L S) (t : ℕ) (x : Tenant L) (gs : Groups)
     (lt : t < length (hosted log disk old)) (read : x ≡ get_or old.tenants.items t x) (kept : AreKept log disk old) where
-  step_own : IsChange (scene log disk x.parts old.shelf) (scene log disk x.parts old.shelf)
+  step_own : IsChange log (scene log disk x.parts old.shelf) (scene log disk x.parts old.shelf)
   step_own = called (step_same (scene log disk x.parts old.shelf) (sound_here log disk old t x lt read kept))
 
   pub kept_left : (until : ℤ) → until ≤ℤ old.next_retention_time → IsQuiet log (record x { groups = gs }) until → AreKept log disk (record (after old t x x.parts gs x.counts old.shelf) { next_retention_time = until })
@@ -397,8 +399,8 @@ module _ {L S : Type 0} (log : L → Log) (disk : S → Disk) (law : (l : L) →
       ∙ early t
 
   module _ (p : Parts L) (n : ℕ) (counted : p ≡ raised x.parts n) where
-    counted_own : IsChange (scene log disk x.parts old.shelf) (scene log disk p old.shelf)
-    counted_own = subst (λ (v : Parts L). IsChange (scene log disk x.parts old.shelf) (scene log disk v old.shelf)) (sym counted)
+    counted_own : IsChange log (scene log disk x.parts old.shelf) (scene log disk p old.shelf)
+    counted_own = subst (λ (v : Parts L). IsChange log (scene log disk x.parts old.shelf) (scene log disk v old.shelf)) (sym counted)
         (raised_change log (scene log disk x.parts old.shelf) x.parts n (disk old.shelf.store) old.shelf.next step_own)
 
     pub kept_counted : (until : ℤ) → until ≤ℤ old.next_retention_time → IsQuiet log (record x { parts = p; groups = gs }) until → AreKept log disk (record (after old t x p gs x.counts old.shelf) { next_retention_time = until })
@@ -509,9 +511,9 @@ module _ {L : Type 0} (log : L → Log) (files : Files) where
 
 module _ {L S : Type 0} (log : L → Log) (disk : S → Disk) (law : (l : L) → IsLawfulLog (log l)) (old : Tenants L S) (t : ℕ) (x : Tenant L)
     (lt : t < length (hosted log disk old)) (read : x ≡ get_or old.tenants.items t x) (kept : AreKept log disk old)
-    (mid p : Parts L) (n : ℕ) (gs : Groups) (cs : Counts) (shelf : Shelved S) (counted : p ≡ raised mid n) (step : IsChange (scene log disk x.parts old.shelf) (scene log disk mid shelf)) where
-  pub step_called : IsChange (scene log disk x.parts old.shelf) (scene log disk p shelf)
-  step_called = subst (λ (v : Parts L). IsChange (scene log disk x.parts old.shelf) (scene log disk v shelf)) (sym counted) (raised_change log (scene log disk x.parts old.shelf) mid n (disk shelf.store) shelf.next step)
+    (mid p : Parts L) (n : ℕ) (gs : Groups) (cs : Counts) (shelf : Shelved S) (counted : p ≡ raised mid n) (step : IsChange log (scene log disk x.parts old.shelf) (scene log disk mid shelf)) where
+  pub step_called : IsChange log (scene log disk x.parts old.shelf) (scene log disk p shelf)
+  step_called = subst (λ (v : Parts L). IsChange log (scene log disk x.parts old.shelf) (scene log disk v shelf)) (sym counted) (raised_change log (scene log disk x.parts old.shelf) mid n (disk shelf.store) shelf.next step)
 
   -- where the tenant is looked at
   pub kept_called : (until : ℤ) → until ≤ℤ old.next_retention_time → IsQuiet log (record x { parts = p; groups = gs; counts = cs }) until → AreKept log disk (record (after old t x p gs cs shelf) { next_retention_time = until })

@@ -1,5 +1,5 @@
--- What a tenant has is in the files, where nothing was ever refused to it.
-use Rattle.std.proofs.Common.{◌≡◌, ◌∙◌, ◌<◌, ℕ, zero, suc, List, [], ◌∷◌, Some, length, sym, ap, refl, arith}
+-- What a tenant has is in the files, whatever was refused.
+use Rattle.std.proofs.Common.{◌≡◌, ◌<◌, ℕ, zero, suc, List, [], ◌∷◌, Some, length, sym, ap, refl, arith}
 use Rattle.std.specs.Prelude.{IsSome, map, slice_get, string_bytes}
 use Rattle.kb_store.specs.Disk.{Disk, Files}
 use Rattle.kb_log.specs.OnShelf.{Log}
@@ -7,8 +7,8 @@ use Rattle.kb_topics.specs.Catalog.{known}
 use Rattle.kb_tenant_state.specs.Partitions.{logs_of}
 use Rattle.kb_tenant_state.specs.Parts.{entries}
 use Rattle.kb_tenant_state.specs.declared.parts.Parts.{Parts}
-use Rattle.kb_tenant_api.specs.Hosted.{kept_of, names_of, refusals_of}
-use Rattle.kb_tenants.specs.Tenants.{AreKept, HasNothingRefused, IsKeptIn, hosted, parts_of, shelf_is_honest, state_of, strays_of}
+use Rattle.kb_tenant_api.specs.Hosted.{kept_of, names_of}
+use Rattle.kb_tenants.specs.Tenants.{AreKept, IsKeptIn, hosted, parts_of, shelf_is_honest, state_of, strays_of}
 use Rattle.kb_tenants.specs.declared.tenants.Tenant.{Tenant}
 use Rattle.kb_tenants.specs.declared.tenants.Tenants.{Tenants}
 
@@ -36,15 +36,10 @@ module _ {L : Type 0} (log : L → Log) (files : Files) where
   parts_in (x ∷ ts) zero lt = (x.parts, refl)
   parts_in (x ∷ ts) (suc t) lt = parts_in ts t (omega (arith, lt))
 
-  nothing_refused : (ts : List (Tenant L)) (t : ℕ) → refusals_of (map (state_of log files) ts) t ≡ 0 → HasNothingRefused (parts_of ts) t
-  nothing_refused [] t calm p at = absurd cc
-  nothing_refused (x ∷ ts) zero calm p at = let same : x.parts ≡ p = cc in ap (λ (v : Parts L). v.refusals) (sym same) ∙ calm
-  nothing_refused (x ∷ ts) (suc t) calm p at = nothing_refused ts t calm p at
-
 -- where it is known which files are left alone
 pub is_kept_in : {L S : Type 0} (log : L → Log) (disk : S → Disk) (ts : Tenants L S) → AreKept log disk ts → shelf_is_honest disk ts → IsSome ts.strays → (t : ℕ) → t < length (hosted log disk ts)
-    → refusals_of (hosted log disk ts) t ≡ 0 → IsKeptIn log (disk ts.shelf.store) (strays_of ts.strays) (hosted log disk ts) t
-is_kept_in log disk ts kept honest known t lt calm =
+    → IsKeptIn log (disk ts.shelf.store) (strays_of ts.strays) (hosted log disk ts) t
+is_kept_in log disk ts kept honest known t lt =
     let files = (disk ts.shelf.store).files in
     let items = ts.tenants.items in
     let own = parts_in log files items t lt in
@@ -57,7 +52,7 @@ is_kept_in log disk ts kept honest known t lt calm =
       named = named_in log files items kept.named;
       own = own.0;
       at = own.1;
-      settled = kept.settled known t (nothing_refused log files items t calm);
+      accounts = kept.accounts known honest;
       known_is = known_in log files items t own.0 own.1;
       logs_are = logs_in log files items t own.0 own.1;
     }

@@ -14,7 +14,7 @@ use Rattle.kb_log.specs.OnShelf.{Log}
 use Rattle.kb_tenant_state.specs.Calls.{retain_all}
 use Rattle.kb_tenant_api.specs.Hosted.{Kept, TenantState, kept_in, passed}
 use Rattle.kb_tenants.specs.Members.{HasNoGroup, HaveNoGroup, kept_numbered_from, numbered_from, renumbered, tenant_numbered_from}
-use Rattle.kb_tenants.specs.Tenants.{AllAgree, AreKept, AllAreSound, CalmAreSettled, IsIdleUntil, IsLeftAlone, hosted, parts_of, state_of, strays_of}
+use Rattle.kb_tenants.specs.Tenants.{AllAgree, AreKept, AllAreSound, AreAccountedFor, IsIdleUntil, IsLeftAlone, hosted, parts_of, state_of, strays_of}
 use Rattle.kb_tenants.specs.declared.tenants.Tenant.{Tenant}
 use Rattle.kb_tenants.specs.declared.tenants.Tenants.{Tenants}
 
@@ -100,7 +100,7 @@ module _ {L S : Type 0} (log : L → Log) (disk : S → Disk) (first : ℕ) (old
     sound = subst (λ ps. AllAreSound log ps (disk old.shelf.store).table old.shelf.next) (sym parts_numbered) kept.sound;
     named = subst (λ (xs : List (Tenant L)). AreNamed xs) (sym is) (names_stay first old.tenants.items kept.named);
     apart = λ file stray. subst (λ ps. IsLeftAlone log ps old.shelf.next file) (sym parts_numbered) (kept.apart file stray);
-    settled = λ known. subst (λ ps. CalmAreSettled log ps (strays_of old.strays) (disk old.shelf.store)) (sym parts_numbered) (kept.settled known);
+    accounts = λ known honest. subst (λ ps. AreAccountedFor log ps (strays_of old.strays) (disk old.shelf.store) old.shelf.next) (sym parts_numbered) (kept.accounts known honest);
     agree = λ honest. subst (λ ps. AllAgree log ps (disk old.shelf.store).files) (sym parts_numbered) (kept.agree honest);
     until = λ honest. subst (λ ts. IsIdleUntil old.next_retention_time ts) (sym hosted_numbered) (idle_numbered first old.next_retention_time (hosted log disk old) (kept.until honest));
   }

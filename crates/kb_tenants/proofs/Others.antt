@@ -1,28 +1,29 @@
 -- What a tenant's own call leaves of the other tenants, and of the files that are left alone.
-use Rattle.std.proofs.Common.{◌≡◌, ◌∙◌, ◌⊎◌, ⊎_elim, inl, inr, ◌≤◌, ◌<◌, ℕ, zero, suc, List, [], ◌∷◌, Option, Some, None, sym, ap, refl, subst, arith, length, get_or}
-use Rattle.std.specs.Prelude.{slice_get, slice_set, option_map, string_bytes, unwrap_or, Contains}
-use Rattle.kb_tenant_state.specs.Partitions.{AreExact}
+use Rattle.std.proofs.Common.{◌≡◌, ◌∙◌, ◌⊎◌, ⊎_elim, inl, inr, ◌≤◌, ◌<◌, ◌&&◌, ℕ, zero, suc, ℤ, pos, negsuc, Bool, true, false, cond, max, List, [], ◌∷◌, Option, Some, None, sym, ap, refl, subst, arith, length, get_or}
+use Rattle.std.specs.Prelude.{nat_eq, slice_get, slice_set, option_map, string_bytes, unwrap_or}
 use Rattle.std.specs.FinMap.{get}
-use Rattle.kb_store.specs.Disk.{Disk, IsThere, bytes_of}
+use Rattle.kb_store.specs.Disk.{Disk, Files, bytes_of}
 use Rattle.kb_batch.specs.Batch.{natural}
 use Rattle.kb_log.specs.OnShelf.{Log, IsLawfulLog}
-use Rattle.kb_topics.specs.Catalog.{known, meta_log}
+use Rattle.kb_topics.specs.Catalog.{catalog_identity, known, meta_log}
 use Rattle.kb_topics.specs.MetaLog.{IsFoldOf}
+use Rattle.std.proofs.lemmas.Bool.{eq-eqb}
+use Rattle.std.proofs.lemmas.Bool.Decides.{nat_tests}
 use Rattle.std.proofs.lemmas.List.{length-set}
 use Rattle.kb_tenant_state.proofs.Put.{get_put}
 use Rattle.kb_tenant_state.specs.RetentionTime.{AreAllKept}
 use Rattle.kb_tenant_state.specs.Stored.{IsTold, stored_in, up_to_end}
 use Rattle.kb_tenant_state.specs.Parts as parts
-use Rattle.kb_tenant_state.specs.Parts.{IsSound, Agrees, Owns, entries, meta, world_of}
-use Rattle.kb_tenant_state.specs.Counts.{IsCalm}
-use Rattle.kb_tenant_state.specs.Scene.{HadFile}
+use Rattle.kb_snapshot.specs.Renewal.{IsUnfinished}
+use Rattle.kb_tenant_state.specs.Parts.{IsPast, IsSound, Agrees, Owns, entries, meta, world_of}
+use Rattle.kb_tenant_state.specs.Scene.{IsGivenUp, LeavesOwn}
 use Rattle.kb_tenant_state.specs.Steps.{Meets}
 use Rattle.kb_tenant_state.specs.World.{World}
 use Rattle.kb_tenant_state.specs.declared.parts.Parts.{Parts}
 use Rattle.kb_tenant_state.proofs.Spared as spared
-use Rattle.kb_tenants.specs.Tenants.{AllAgree, AllAreSound, AreAccountedFor, CalmAreSettled, HasNothingRefused, IsLeftAlone, IsOfAnother, IsOfSome, IsSettledFor}
+use Rattle.kb_tenants.specs.Tenants.{AllAgree, AllAreSound, AreAccountedFor, AreUnfinished, IsLeftAlone, IsLeftBy, IsOfSome, IsOfUnfinished, Unfinished}
 use Rattle.kb_tenants.specs.Turns.{IsShelfTurn, IsShelfMet}
-use Rattle.kb_tenants.proofs.Change.{IsChange}
+use Rattle.kb_tenants.proofs.Change.{IsChange, LeavesBegun}
 use Rattle.kb_tenant.proofs.LogMoves.{same_or_not}
 
 -- ---- a tenant whose files were left as they were
@@ -51,6 +52,7 @@ module _ {L : Type 0} (log : L → Log) (law : (l : L) → IsLawfulLog (log l)) 
     tied = sound.tied;
     catalog_named = sound.catalog_named;
     logs_named = sound.logs_named;
+    begun = let b : natural (meta log q).identity.generation < max 1 next = sound.begun in omega (arith, b, later);
     offsets = sound.offsets;
     texts = sound.texts;
   }
@@ -70,13 +72,6 @@ module _ {L : Type 0} (log : L → Log) (law : (l : L) → IsLawfulLog (log l)) 
     until = subst (AreAllKept q.next_retention_time) (sym (still_seen honest)) agree.until;
     stored = subst (λ (w : World). IsTold q.stored (up_to_end (stored_in w))) (sym (still_seen honest)) agree.stored;
   }
-
-  pub still_exact : (meta log q).exact d.table → (meta log q).exact e.table
-  still_exact exact = lawful.exact_stays d.table e.table exact (λ file own. lengths file (below file own) (inl own))
-
-  pub still_exact_logs : AreExact log (entries q) d.table → AreExact log (entries q) e.table
-  still_exact_logs =
-      spared.spared_exact log law (entries q) d e next last sound.logs later (λ file lt own. lengths file lt (inr own)) (λ honest file lt own. contents honest file lt (inr own))
 
 -- ---- all tenants
 
@@ -108,6 +103,41 @@ found [] i x lt is = absurd (omega (arith, lt))
 found (y ∷ ys) zero x lt is = ap Some (sym is)
 found (y ∷ ys) (suc i) x lt is = found ys i x (omega (arith, lt)) is
 
+-- ---- what refused renewals left
+
+-- one more is noted, of the tenant at a place and of that generation
+abbrev with_left : {L : Type 0} → Unfinished L → ℕ → ℕ → L × Files → Unfinished L
+with_left us t n x u (pos m) = cond (nat_eq u t && nat_eq m n) (Some x) (us u (pos m))
+with_left us t n x u (negsuc m) = us u (negsuc m)
+
+module _ {L : Type 0} (us : Unfinished L) (t n : ℕ) (x : L × Files) where
+  tested : (u m : ℕ) (a b : Bool) → nat_eq u t ≡ a → nat_eq m n ≡ b → cond (nat_eq u t && nat_eq m n) (Some x) (us u (pos m)) ≡ cond (a && b) (Some x) (us u (pos m))
+  tested u m a b i j = λ k. cond (i k && j k) (Some x) (us u (pos m))
+
+  left_here : with_left us t n x t (pos n) ≡ Some x
+  left_here = tested t n true true (eq-eqb t t refl) (eq-eqb n n refl)
+
+  left_or : (u : ℕ) (g : ℤ) (y : L × Files) → with_left us t n x u g ≡ Some y → ((u ≡ t) × (g ≡ pos n) × (x ≡ y)) ⊎ (us u g ≡ Some y)
+  left_or u (negsuc m) y has = inr has
+  left_or u (pos m) y has = by (nat_eq u t) (nat_eq m n) refl refl
+    where
+      by : (a b : Bool) → nat_eq u t ≡ a → nat_eq m n ≡ b → ((u ≡ t) × (pos m ≡ pos n) × (x ≡ y)) ⊎ (us u (pos m) ≡ Some y)
+      by true true i j =
+          let here : u ≡ t = grind (arith, nat_tests, i) in
+          let there : m ≡ n = grind (arith, nat_tests, j) in
+          inl (here, ap pos there, one_item x y (sym (tested u m true true i j) ∙ has))
+      by true false i j = inr (sym (tested u m true false i j) ∙ has)
+      by false b i j = inr (sym (tested u m false b i j) ∙ has)
+
+  left_still : (u : ℕ) (g : ℤ) (y : L × Files) → us u g ≡ Some y → (g ≡ pos n → ⊥) → with_left us t n x u g ≡ Some y
+  left_still u (negsuc m) y has ne = has
+  left_still u (pos m) y has ne = by (nat_eq u t) (nat_eq m n) refl refl
+    where
+      by : (a b : Bool) → nat_eq u t ≡ a → nat_eq m n ≡ b → cond (nat_eq u t && nat_eq m n) (Some x) (us u (pos m)) ≡ Some y
+      by a true i j = let there : m ≡ n = grind (arith, nat_tests, j) in absurd (ne (ap pos there))
+      by true false i j = tested u m true false i j ∙ has
+      by false false i j = tested u m false false i j ∙ has
+
 -- a tenant's files have numbers that were given out
 given : {L : Type 0} (log : L → Log) → ((l : L) → IsLawfulLog (log l)) → (q : Parts L) (d : Disk) (next file : ℕ) → IsSound log q d.table next → Owns log q file → file < next
 given log law q d next file sound own = ⊎_elim
@@ -116,7 +146,7 @@ given log law q d next file sound own = ⊎_elim
     own
 
 module _ {L : Type 0} (log : L → Log) (law : (l : L) → IsLawfulLog (log l)) (ps : List (Parts L)) (t : ℕ) (p p' : Parts L) (d e : Disk) (next last : ℕ)
-    (at : slice_get ps t ≡ Some p) (sound : AllAreSound log ps d.table next) (step : IsChange (parts.scene_on log p d next) (parts.scene_on log p' e last)) where
+    (at : slice_get ps t ≡ Some p) (sound : AllAreSound log ps d.table next) (step : IsChange log (parts.scene_on log p d next) (parts.scene_on log p' e last)) where
   -- the files of another tenant are not those of the one that is served
   lengths : (u : ℕ) (q : Parts L) → slice_get ps u ≡ Some q → (u ≡ t → ⊥) → (file : ℕ) → file < next → Owns log q file → get e.table file ≡ get d.table file
   lengths u q here ne file lt own = step.frame.others.lengths file lt (λ mine. sound.apart u t q p here at ne file own mine)
@@ -196,20 +226,60 @@ module _ {L : Type 0} (log : L → Log) (law : (l : L) → IsLawfulLog (log l)) 
   pub bytes_stay : e.honest → (file : ℕ) → IsLeftAlone log ps next file → get e.files file ≡ get d.files file
   bytes_stay honest file alone = step.frame.others.contents honest file alone.given_out (not_own file alone)
 
-  -- ---- what is in the files, where nothing was ever refused to a tenant
+  -- ---- which files are accounted for, whatever was refused
 
-  -- a file that was another's is another's still
-  still_another : (u file : ℕ) (bytes : List ℕ) → IsOfAnother log ps u file bytes → IsOfAnother log (slice_set ps t p') u file bytes
-  still_another u file bytes o = ⊎_elim
+  -- what was left is left still
+  still_left : (us : Unfinished L) (file : ℕ) (bytes : List ℕ) → IsLeftBy log ps us file bytes → IsLeftBy log (slice_set ps t p') us file bytes
+  still_left us file bytes o = ⊎_elim
       (λ is. record {
-        other = t;
+        tenant = o.tenant;
         parts = p';
-        at = put_here ps t p p' at;
-        apart = λ same. o.apart (is ∙ same);
-        had = subst (λ who. HadFile log who file bytes) (ap (λ (v : Parts L). string_bytes v.tenant) (sym (same_item ps t o.other p o.parts at o.at is)) ∙ sym step.named) o.had;
+        at = subst (λ u. slice_get (slice_set ps t p') u ≡ Some p') (sym is) (put_here ps t p p' at);
+        how = ⊎_elim
+            (λ (up : IsGivenUp log (string_bytes o.parts.tenant) (IsPast log o.parts) file bytes).
+            inl (step.wrote file bytes (subst (λ (v : Parts L). IsGivenUp log (string_bytes v.tenant) (IsPast log v) file bytes) (sym (same_item ps t o.tenant p o.parts at o.at is)) up)))
+            (λ (x : IsOfUnfinished log us o.tenant file bytes). inr x)
+            o.how;
       })
-      (λ ne. record { other = o.other; parts = o.parts; at = other_at ps t o.other p' ne ∙ o.at; apart = o.apart; had = o.had })
-      (same_or_not o.other t)
+      (λ ne. record { tenant = o.tenant; parts = o.parts; at = other_at ps t o.tenant p' ne ∙ o.at; how = o.how })
+      (same_or_not o.tenant t)
+
+  unfinished_still : (us : Unfinished L) → AreUnfinished log ps next us → AreUnfinished log (slice_set ps t p') last us
+  unfinished_still us un = record {
+    each = λ u g q x here has. ⊎_elim
+        (λ (s : (u ≡ t) × (q ≡ p')).
+        let w = un.each u g p x (was_at u s.0) has in
+        (w.0, w.1, subst (λ name. IsUnfinished log w.0 (catalog_identity name g w.1) x.0 x.1) (sym step.named ∙ ap (λ (v : Parts L). string_bytes v.tenant) (sym s.1)) w.2))
+        (λ (o : (u ≡ t → ⊥) × (slice_get ps u ≡ Some q)). un.each u g q x o.1 has)
+        (either u q here);
+    begun = λ u g q x here has.
+        let was = low u g q x here has in
+        let later = step.frame.others.later in
+        omega (arith, was, later);
+    other = λ u g q x here has same. ⊎_elim
+        (λ (s : (u ≡ t) × (q ≡ p')).
+        let is : natural g ≡ natural (meta log p').identity.generation = same ∙ ap (λ (v : Parts L). natural (meta log v).identity.generation) s.1 in
+        let was = low u g q x here has in
+        ⊎_elim
+        (λ (stays : natural (meta log p').identity.generation ≡ natural (meta log p).identity.generation). un.other u g p x (was_at u s.0) has (is ∙ stays))
+        (λ (new : max 1 next ≤ natural (meta log p').identity.generation). omega (arith, was, new, is))
+        step.begun)
+        (λ (o : (u ≡ t → ⊥) × (slice_get ps u ≡ Some q)). un.other u g q x o.1 has same)
+        (either u q here);
+  }
+    where
+      was_at : (u : ℕ) → u ≡ t → slice_get ps u ≡ Some p
+      was_at u is = ap (slice_get ps) is ∙ at
+
+      low : (u : ℕ) (g : ℤ) (q : Parts L) (x : L × Files) → slice_get (slice_set ps t p') u ≡ Some q → us u g ≡ Some x → natural g < max 1 next
+      low u g q x here has = ⊎_elim
+          (λ (s : (u ≡ t) × (q ≡ p')). un.begun u g p x (was_at u s.0) has)
+          (λ (o : (u ≡ t → ⊥) × (slice_get ps u ≡ Some q)). un.begun u g q x o.1 has)
+          (either u q here)
+
+  -- the parts at its place are the ones that it has now
+  is_served : (u : ℕ) (q : Parts L) → u ≡ t → slice_get (slice_set ps t p') u ≡ Some q → q ≡ p'
+  is_served u q is here = ⊎_elim (λ (s : (u ≡ t) × (q ≡ p')). s.1) (λ (o : (u ≡ t → ⊥) × (slice_get ps u ≡ Some q)). absurd (o.0 is)) (either u q here)
 
   -- a file of no log, which was not the tenant's, was of no log
   nobodys_before : (file : ℕ) → (Owns log p file → ⊥) → (IsOfSome log (slice_set ps t p') file → ⊥) → IsOfSome log ps file → ⊥
@@ -222,64 +292,108 @@ module _ {L : Type 0} (log : L → Log) (law : (l : L) → IsLawfulLog (log l)) 
   not_now : (file : ℕ) → (IsOfSome log (slice_set ps t p') file → ⊥) → Owns log p' file → ⊥
   not_now file not mine = not (record { tenant = t; parts = p'; at = put_here ps t p p' at; owns = mine })
 
-  module _ (agree : d.honest → AllAgree log ps d.files) (strays : List ℕ) where
-    -- a file that was there as it is, and was not the tenant's, is accounted for as it was
-    accounted_before : (u file : ℕ) → AreAccountedFor log ps strays d u → d.honest → IsThere d file × (get e.files file ≡ get d.files file) × (Owns log p file → ⊥)
-        → (IsOfSome log (slice_set ps t p') file → ⊥) → (bytes_of e file ≡ [] → ⊥) → (IsOfAnother log (slice_set ps t p') u file (bytes_of e file) → ⊥) → Contains strays file
-    accounted_before u file before honest was not full none =
+  -- the tenant left nothing that is to be noted
+  own_left : LeavesOwn (parts.scene_on log p d next) (parts.scene_on log p' e last) → (strays : List ℕ) → AreAccountedFor log ps strays d next
+      → AreAccountedFor log (slice_set ps t p') strays e last
+  own_left leaves strays before = record {
+    left = before.left;
+    unfinished = unfinished_still before.left before.unfinished;
+    each = λ file there not full none.
+        let was = leaves file there (not_now file not) full
+        (λ up. none (record { tenant = t; parts = p'; at = put_here ps t p p' at; how = inl up })) in
         let bytes : bytes_of e file ≡ bytes_of d file = ap (λ (o : Option (List ℕ)). unwrap_or o []) was.1 in
-        before honest file was.0 (nobodys_before file was.2 not) (λ empty. full (bytes ∙ empty))
-        (λ o. none (subst (IsOfAnother log (slice_set ps t p') u file) (sym bytes) (still_another u file (bytes_of d file) o)))
+        before.each file was.0 (nobodys_before file was.2 not) (λ empty. full (bytes ∙ empty))
+        (λ o. none (subst (IsLeftBy log (slice_set ps t p') before.left file) (sym bytes) (still_left before.left file (bytes_of d file) o)));
+  }
 
-    -- a step that was refused nothing leaves nothing behind
-    own_accounts : IsCalm p.refusals p'.refusals → AreAccountedFor log ps strays d t → AreAccountedFor log (slice_set ps t p') strays e t
-    own_accounts calm before honest file there not full =
-        let settles = step.settles calm in
-        let was = settles.accounts file there (not_now file not) in
-        let same = settles.writes honest file there (not_now file not) full in
-        accounted_before t file before (step.frame.others.honest honest) (was.0, same.1, was.1) not full
+  -- it left part of a generation, which is noted
+  module _ (u : LeavesBegun log (parts.scene_on log p d next) (parts.scene_on log p' e last)) where
+    abbrev noted : Unfinished L → Unfinished L
+    noted us = with_left us t u.generation (u.of, u.files)
 
-    -- at another place what it left behind is another's
-    other_accounts : (u : ℕ) → (u ≡ t → ⊥) → AreAccountedFor log ps strays d u → AreAccountedFor log (slice_set ps t p') strays e u
-    other_accounts u ne before honest file there not full none =
-        let past : d.honest = step.frame.others.honest honest in
-        let was = step.leaves honest (agree past t p at) file there (not_now file not) full
-        (λ left. none (record { other = t; parts = p'; at = put_here ps t p p' at; apart = λ is. ne (sym is); had = left })) in
-        accounted_before u file before past was not full none
-
-    -- the tenant's own place
-    own_settled : CalmAreSettled log ps strays d → HasNothingRefused (slice_set ps t p') t → IsSettledFor log (slice_set ps t p') strays e t
-    own_settled before none =
-        let now : slice_get (slice_set ps t p') t ≡ Some p' = put_here ps t p p' at in
-        let count : p'.refusals ≡ 0 = none p' now in
-        let more : p.refusals ≤ p'.refusals = step.grows in
-        let was : p.refusals ≡ 0 = omega (arith, more, count) in
-        let calm : IsCalm p.refusals p'.refusals = record { same = count ∙ sym was; below = omega (arith, was) } in
-        let old = before t (λ q here. ap (λ (v : Parts L). v.refusals) (one_item q p (sym here ∙ at)) ∙ was) in
-        let exact = (step.settles calm).exact (old.meta_exact p at, old.exact p at) in
+    noted_still : (us : Unfinished L) → AreUnfinished log ps next us → AreUnfinished log (slice_set ps t p') last (noted us)
+    noted_still us un =
+        let still = unfinished_still us un in
         record {
-          accounts = own_accounts calm old.accounts;
-          meta_exact = λ q here. subst (λ (v : Parts L). (meta log v).exact e.table) (one_item p' q (sym now ∙ here)) exact.0;
-          exact = λ q here. subst (λ (v : Parts L). AreExact log (entries v) e.table) (one_item p' q (sym now ∙ here)) exact.1;
+          each = λ v g q x here has. ⊎_elim
+              (λ (s : (v ≡ t) × (g ≡ pos u.generation) × ((u.of, u.files) ≡ x)). (
+                u.known,
+                u.size,
+                subst (λ (y : L × Files). IsUnfinished log u.known (catalog_identity (string_bytes q.tenant) g u.size) y.0 y.1) s.2
+                    (subst (λ h. IsUnfinished log u.known (catalog_identity (string_bytes q.tenant) h u.size) u.of u.files) (sym s.1)
+                    (subst (λ name. IsUnfinished log u.known (catalog_identity name (pos u.generation) u.size) u.of u.files) (sym step.named ∙ ap (λ (w : Parts L). string_bytes w.tenant) (sym (is_served v q s.0 here))) u.unfinished)),
+              ))
+              (λ (old : us v g ≡ Some x). still.each v g q x here old)
+              (left_or us t u.generation (u.of, u.files) v g x has);
+          begun = λ v g q x here has. ⊎_elim
+              (λ (s : (v ≡ t) × (g ≡ pos u.generation) × ((u.of, u.files) ≡ x)). let is : natural g ≡ u.generation = ap natural s.1 in
+              let low : u.generation < max 1 last = u.begun in
+              omega (arith, is, low))
+              (λ (old : us v g ≡ Some x). still.begun v g q x here old)
+              (left_or us t u.generation (u.of, u.files) v g x has);
+          other = λ v g q x here has same. ⊎_elim
+              (λ (s : (v ≡ t) × (g ≡ pos u.generation) × ((u.of, u.files) ≡ x)).
+              let is : natural g ≡ u.generation = ap natural s.1 in
+              let in_use : natural (meta log q).identity.generation ≡ natural (meta log p').identity.generation = ap (λ (w : Parts L). natural (meta log w).identity.generation) (is_served v q s.0 here) in
+              let above : natural (meta log p').identity.generation < u.generation = u.above in
+              omega (arith, is, in_use, same, above))
+              (λ (old : us v g ≡ Some x). still.other v g q x here old same)
+              (left_or us t u.generation (u.of, u.files) v g x has);
         }
 
-    -- another place
-    other_settled : (u : ℕ) → (u ≡ t → ⊥) → IsSettledFor log ps strays d u → IsSettledFor log (slice_set ps t p') strays e u
-    other_settled u ne old = record {
-      accounts = other_accounts u ne old.accounts;
-      meta_exact = λ q here.
-          let was = sym (other_at ps t u p' ne) ∙ here in
-          still_exact log law q d e next last (sound.each u q was) step.frame.others.later (lengths u q was ne) (contents u q was ne) (old.meta_exact q was);
-      exact = λ q here.
-          let was = sym (other_at ps t u p' ne) ∙ here in
-          still_exact_logs log law q d e next last (sound.each u q was) step.frame.others.later (lengths u q was ne) (contents u q was ne) (old.exact q was);
+    -- what was noted before is noted still
+    noted_left : (us : Unfinished L) → AreUnfinished log ps next us → (file : ℕ) (bytes : List ℕ) → IsLeftBy log ps us file bytes → IsLeftBy log ps (noted us) file bytes
+    noted_left us un file bytes o = record {
+      tenant = o.tenant;
+      parts = o.parts;
+      at = o.at;
+      how = ⊎_elim
+          (λ (up : IsGivenUp log (string_bytes o.parts.tenant) (IsPast log o.parts) file bytes). inl up)
+          (λ (x : IsOfUnfinished log us o.tenant file bytes). inr (record {
+            generation = x.generation;
+            of = x.of;
+            at = left_still us t u.generation (u.of, u.files) o.tenant x.generation x.of x.at (λ is.
+                let low : natural x.generation < max 1 next = un.begun o.tenant x.generation o.parts x.of o.at x.at in
+                let same : natural x.generation ≡ u.generation = ap natural is in
+                let new : max 1 next ≤ u.generation = u.new in
+                omega (arith, low, same, new));
+            owns = x.owns;
+            had = x.had;
+          }))
+          o.how;
     }
 
-    pub settled_stays : CalmAreSettled log ps strays d → CalmAreSettled log (slice_set ps t p') strays e
-    settled_stays before u none = ⊎_elim
-        (λ is. subst (IsSettledFor log (slice_set ps t p') strays e) (sym is) (own_settled before (λ q here. none q (ap (slice_get (slice_set ps t p')) is ∙ here))))
-        (λ ne. other_settled u ne (before u (λ q here. none q (other_at ps t u p' ne ∙ here))))
-        (same_or_not u t)
+    part_left : (strays : List ℕ) → AreAccountedFor log ps strays d next → AreAccountedFor log (slice_set ps t p') strays e last
+    part_left strays before = record {
+      left = noted before.left;
+      unfinished = noted_still before.left before.unfinished;
+      each = λ file there not full none.
+          let was = u.left file there (not_now file not) full
+          (λ up. none (record { tenant = t; parts = p'; at = put_here ps t p p' at; how = inl up }))
+          (λ (mine : (log u.of).owns file × (get u.files file ≡ Some (bytes_of e file))). none (record {
+            tenant = t;
+            parts = p';
+            at = put_here ps t p p' at;
+            how = inr (record {
+              generation = pos u.generation;
+              of = (u.of, u.files);
+              at = left_here before.left t u.generation (u.of, u.files);
+              owns = mine.0;
+              had = mine.1;
+            });
+          })) in
+          let bytes : bytes_of e file ≡ bytes_of d file = ap (λ (o : Option (List ℕ)). unwrap_or o []) was.1 in
+          before.each file was.0 (nobodys_before file was.2 not) (λ empty. full (bytes ∙ empty))
+          (λ o. none (subst (IsLeftBy log (slice_set ps t p') (noted before.left) file) (sym bytes)
+          (still_left (noted before.left) file (bytes_of d file) (noted_left before.left before.unfinished file (bytes_of d file) o))));
+    }
+
+  -- whatever was refused
+  pub accounts_stay : e.honest → AllAgree log ps d.files → (strays : List ℕ) → AreAccountedFor log ps strays d next → AreAccountedFor log (slice_set ps t p') strays e last
+  accounts_stay honest agree strays before = ⊎_elim
+      (λ (own : LeavesOwn (parts.scene_on log p d next) (parts.scene_on log p' e last)). own_left own strays before)
+      (λ (u : LeavesBegun log (parts.scene_on log p d next) (parts.scene_on log p' e last)). part_left u strays before)
+      (step.leaves honest (agree t p at))
 
   -- what the step meets is what the turn meets
   pub met : (P : World → World → Type 0) → Meets (parts.scene_on log p d next) (parts.scene_on log p' e last) (P (world_of log p d.files) (world_of log p' e.files)) → IsShelfMet log t ps (slice_set ps t p') d e next last P

@@ -9,19 +9,21 @@ use Rattle.kb_store.specs.Disk.{Disk}
 use Rattle.kb_log.specs.OnShelf.{Log, IsLawfulLog}
 use Rattle.kb_log.specs.Shelf.{Shelved}
 use Rattle.kb_topics.specs.declared.fault.CatalogFault.{CatalogFault}
-use Rattle.std.specs.Prelude.{OnErr, Result, Ok, Err}
-use Rattle.kb_snapshot.specs.Renewal.{IsRenewal, Renews}
+use Rattle.kb_topics.specs.Catalog.{catalog_identity, known}
+use Rattle.kb_batch.specs.Batch.{natural}
+use Rattle.std.specs.Prelude.{OnErr, OnOk, Result, Ok, Err}
+use Rattle.kb_snapshot.specs.Renewal.{IsRenewal, LeavesNone, LeavesPart, LeavesUnfinished, Renews, next_generation}
 use Rattle.kb_snapshot.specs.Snapshot as snapshots
 use Rattle.kb_tenant_state.specs.Counts.{END, IsCalm, counted_by, counted_once}
-use Rattle.kb_tenant_state.specs.Parts.{Seen, meta, raised, refused, scene}
-use Rattle.kb_tenant_state.specs.Scene.{Scene}
+use Rattle.kb_tenant_state.specs.Parts.{Owns, Seen, meta, raised, refused, scene}
+use Rattle.kb_tenant_state.specs.Scene.{LeavesOwn, Scene}
 use Rattle.kb_tenant_state.specs.Steps.{calm_then}
 use Rattle.kb_tenant_state.specs.declared.parts.Parts.{Parts}
 use Rattle.kb_tenant_state.proofs.Put.{get_put}
 use Rattle.kb_tenant_api.specs.Hosted.{kept_of, refusals_of}
 use Rattle.kb_tenant_api.specs.Turns.{IsAccounted, IsTurn}
 use Rattle.kb_tenants.specs.Renewal.{IsLookedAt, IsRenewedIfDue, IsShortenedFor, MAX_SNAPSHOT, MIN_COMMANDS, is_due, limit, next_look, renew_at_of, snapshot_of}
-use Rattle.kb_tenants.specs.Tenants.{AreKept, AllAreSound, AllAgree, CalmAreSettled, IsIdleUntil, IsLeftAlone, commands_of, hosted, parts_of, shelf_is_honest, state_of, strays_of}
+use Rattle.kb_tenants.specs.Tenants.{AreKept, AllAreSound, AllAgree, AreAccountedFor, IsIdleUntil, IsLeftAlone, commands_of, hosted, parts_of, shelf_is_honest, state_of, strays_of}
 use Rattle.kb_tenants.specs.declared.counts.Counts.{Counts}
 use Rattle.kb_tenants.specs.declared.tenants.Tenant.{Tenant}
 use Rattle.kb_tenants.specs.declared.tenants.Tenants.{Tenants}
@@ -57,8 +59,61 @@ look_clipped commands len lt = by (nat_lt (limit (min len END)) commands) (nat_l
 
 -- ---- a renewal
 
-pub renewed : {a b : Scene Seen} → IsRenewal a b → IsChange a b
-renewed r = record { frame = r.frame; named = r.named; grows = r.grows; settles = r.settles; wrote = r.wrote; leaves = r.leaves }
+-- a renewal is a change of the tenant's parts, also where it is refused
+pub renewed : {L S : Type 0} (log : L → Log) (disk : S → Disk) (p q : Parts L) (a b : Shelved S) (r : Result (Unit {0}) CatalogFault) → (scene log disk p a).sound
+    → IsRenewal (scene log disk p a) (scene log disk q b)
+    → OnOk r ((meta log q).identity.generation ≡ next_generation a.next)
+    → OnErr r (q ≡ refused p)
+    → OnOk r ((disk b.store).honest → (scene log disk p a).agrees → LeavesOwn (scene log disk p a) (scene log disk q b))
+    → OnErr r (LeavesUnfinished log (known p.catalog) (catalog_identity (string_bytes p.tenant) (next_generation a.next) p.segment_bytes) (disk a.store) (disk b.store) b.next)
+    → IsChange log (scene log disk p a) (scene log disk q b)
+renewed log disk p q a b (Ok u) sound r generation same leaves left = record {
+  frame = r.frame;
+  named = r.named;
+  grows = r.grows;
+  begun =
+      let is : natural (meta log q).identity.generation ≡ max 1 a.next = ap natural generation in
+      let most : max 1 a.next ≤ natural (meta log q).identity.generation = omega (arith, is) in
+      inr most;
+  settles = r.settles;
+  wrote = r.wrote;
+  leaves = λ honest agree. inl (leaves honest agree);
+}
+renewed log disk p q a b (Err f) sound r generation same leaves left = record {
+  frame = r.frame;
+  named = r.named;
+  grows = r.grows;
+  begun = inl stays;
+  settles = r.settles;
+  wrote = r.wrote;
+  leaves = λ honest agree. ⊎_elim
+      (λ (none : LeavesNone (disk a.store) (disk b.store)). inl (λ file there not some other. let was = none file there some in (was.0, was.1, λ own. not (owned file own))))
+      (λ (u : LeavesPart log (known p.catalog) (catalog_identity (string_bytes p.tenant) (next_generation a.next) p.segment_bytes) (disk a.store) (disk b.store) b.next). inr (record {
+        generation = max 1 a.next;
+        known = known p.catalog;
+        size = p.segment_bytes;
+        of = u.of;
+        files = u.files;
+        unfinished = u.unfinished;
+        new = omega arith;
+        begun = u.begun;
+        above = below;
+        left = λ file there not some other part. let was = u.left file there some part in (was.0, was.1, λ own. not (owned file own));
+      }))
+      (left honest);
+}
+  where
+    -- the meta log is the one that it was
+    stays : natural (meta log q).identity.generation ≡ natural (meta log p).identity.generation
+    stays = ap (λ (v : Parts _). natural (meta log v).identity.generation) same
+
+    below : natural (meta log q).identity.generation < max 1 a.next
+    below =
+        let low : natural (meta log p).identity.generation < max 1 a.next = sound.begun in
+        omega (arith, low, stays)
+
+    owned : (file : ℕ) → Owns log p file → Owns log q file
+    owned file own = subst (λ (v : Parts _). Owns log v file) (sym same) own
 
 -- one refusal, and what the store refused meanwhile
 counted_more : (before after m refused : ℕ) → refused ≡ m → after ≡ max (counted_once before) (min (before + m) END) → after ≡ counted_by (max 1 refused) before
@@ -80,12 +135,12 @@ renewed_commands a b (Err f) told calm = absurd (loud (nat_lt a.state.refusals E
 
 module _ {L S : Type 0} (log : L → Log) (disk : S → Disk) (law : (l : L) → IsLawfulLog (log l)) (old : Tenants L S) (t : ℕ) (x : Tenant L)
     (lt : t < length (hosted log disk old)) (read : x ≡ get_or old.tenants.items t x) (kept : AreKept log disk old)
-    (mid p : Parts L) (n : ℕ) (cs : Counts) (shelf : Shelved S) (counted : p ≡ raised mid n) (renewal : IsRenewal (scene log disk x.parts old.shelf) (scene log disk mid shelf)) where
+    (mid p : Parts L) (n : ℕ) (cs : Counts) (shelf : Shelved S) (counted : p ≡ raised mid n) (renewal : IsRenewal (scene log disk x.parts old.shelf) (scene log disk mid shelf))
+    (change : IsChange log (scene log disk x.parts old.shelf) (scene log disk mid shelf)) where
   pub commands_renewed : (r : Result (Unit {0}) CatalogFault) → Renews (scene log disk x.parts old.shelf) (scene log disk mid shelf) r
       → IsCalm (refusals_of (hosted log disk old) t) (refusals_of (hosted log disk (after old t x p x.groups cs shelf)) t)
       → commands_of log (after old t x p x.groups cs shelf) t ≡ snapshot_of (kept_of (hosted log disk old) t)
   commands_renewed r told calm =
-      let change = renewed renewal in
       let here : IsCalm x.parts.refusals p.refusals = calm_from log disk law old t x lt read kept mid p n x.groups cs shelf counted change calm in
       let more : mid.refusals ≤ p.refusals = subst (λ (v : Parts L). mid.refusals ≤ v.refusals) (sym counted) (omega arith) in
       let first = (calm_then x.parts.refusals mid.refusals p.refusals renewal.grows more here).0 in
@@ -110,7 +165,6 @@ module _ {L S : Type 0} (log : L → Log) (disk : S → Disk) (law : (l : L) →
       → (m : ℕ) → n ≡ min (x.parts.refusals + m) END → (disk shelf.store).failures ≡ (disk old.shelf.store).failures + m → IsShortenedFor log disk t old (after old t x p x.groups cs shelf)
   shortened_renewed r told same m count sum =
       let new = after old t x p x.groups cs shelf in
-      let change = renewed renewal in
       let first = stands log disk old t x lt read in
       let last = there_after log disk law old t x p x.groups cs shelf lt read kept (step_called log disk law old t x lt read kept mid p n x.groups cs shelf counted change) in
       let snapshot : snapshot_of (kept_of (hosted log disk old) t) ≡ length (snapshots.snapshot_of x.parts.catalog.known) =
@@ -201,7 +255,7 @@ module _ {L S : Type 0} (log : L → Log) (disk : S → Disk) (ts : Tenants L S)
               (λ o. kept.named u y o.1)
               (get_put ts.tenants.items t u x (record x { renew_at = n }) y (stands log disk ts t x lt read) at);
           apart = λ file stray. subst (λ ps. IsLeftAlone log ps ts.shelf.next file) (sym parts_timed) (kept.apart file stray);
-          settled = λ known. subst (λ ps. CalmAreSettled log ps (strays_of ts.strays) d) (sym parts_timed) (kept.settled known);
+          accounts = λ known honest. subst (λ ps. AreAccountedFor log ps (strays_of ts.strays) d ts.shelf.next) (sym parts_timed) (kept.accounts known honest);
           agree = λ honest. subst (λ ps. AllAgree log ps d.files) (sym parts_timed) (kept.agree honest);
           until = λ honest. subst (λ xs. IsIdleUntil ts.next_retention_time xs) (sym hosted_timed) (kept.until honest);
         }

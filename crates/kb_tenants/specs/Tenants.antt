@@ -12,10 +12,13 @@ use Rattle.kb_coordinator.specs.Calls as groups
 use Rattle.kb_coordinator.specs.Groups.{Groups, earliest, none}
 use Rattle.kb_groups.specs.declared.reply.Release.{Release}
 use Rattle.kb_tenant_state.specs.Calls.{retain_all}
-use Rattle.kb_topics.specs.Catalog.{known}
-use Rattle.kb_tenant_state.specs.Partitions.{AreExact, logs_of}
-use Rattle.kb_tenant_state.specs.Parts.{IsSound, Agrees, Owns, entries, meta, world_of}
-use Rattle.kb_tenant_state.specs.Scene.{HadFile}
+use Rattle.kb_batch.specs.Batch.{natural}
+use Rattle.kb_topics.specs.Catalog.{known, catalog_identity}
+use Rattle.kb_topics.specs.Known.{Known}
+use Rattle.kb_snapshot.specs.Renewal.{IsUnfinished}
+use Rattle.kb_tenant_state.specs.Partitions.{logs_of}
+use Rattle.kb_tenant_state.specs.Parts.{IsSound, Agrees, IsBegun, IsPast, Owns, entries, meta, world_of}
+use Rattle.kb_tenant_state.specs.Scene.{IsGivenUp}
 use Rattle.kb_tenant_state.specs.Counts.{IsCalm}
 use Rattle.kb_tenant_state.specs.declared.parts.Parts.{Parts}
 use Rattle.kb_tenant_state.specs.declared.topic_partition.TopicPartition.{TopicPartition}
@@ -188,44 +191,47 @@ pub record IsLeftAlone {L : Type 0} (log : L → Log) (ps : List (Parts L)) (nex
 abbrev pub AreLeftAlone : List ℕ → Disk → Disk → Type 0
 AreLeftAlone strays old new = new.honest → (file : ℕ) → Contains strays file → get new.files file ≡ get old.files file
 
--- Each file that is there and of no tenant's log is left alone; nothing but its batches is in the files of a log, and its memory tells
--- what retention asks of its first batch.
+-- Each file that is there and of no tenant's log is left alone.
 pub record AreSettled {L : Type 0} (log : L → Log) (ps : List (Parts L)) (strays : List ℕ) (disk : Disk) : Type 0 where
   pub accounts : (file : ℕ) → IsThere disk file → (IsOfSome log ps file → ⊥) → Contains strays file
-  pub meta_exact : (t : ℕ) (p : Parts L) → slice_get ps t ≡ Some p → (meta log p).exact disk.table
-  pub exact : (t : ℕ) (p : Parts L) → slice_get ps t ≡ Some p → AreExact log (entries p) disk.table
 
--- A log of another tenant had the file, with those bytes.
-pub record IsOfAnother {L : Type 0} (log : L → Log) (ps : List (Parts L)) (t file : ℕ) (bytes : List ℕ) : Type 0 where
-  pub other : ℕ
+-- What refused renewals left, by the place of the tenant and the generation: a log that is not whole, and the bytes that its files had.
+abbrev pub Unfinished : Type 0 → Type 0
+Unfinished L = ℕ → ℤ → Option (L × Files)
+
+-- Each is of its tenant's catalog, and of a generation that was begun and is not the one in use.
+pub record AreUnfinished {L : Type 0} (log : L → Log) (ps : List (Parts L)) (next : ℕ) (us : Unfinished L) : Type 0 where
+  pub each : (t : ℕ) (g : ℤ) (p : Parts L) (u : L × Files) → slice_get ps t ≡ Some p → us t g ≡ Some u
+      → (k : Known) × (size : ℕ) × IsUnfinished log k (catalog_identity (string_bytes p.tenant) g size) u.0 u.1
+  pub begun : (t : ℕ) (g : ℤ) (p : Parts L) (u : L × Files) → slice_get ps t ≡ Some p → us t g ≡ Some u → IsBegun g next
+  pub other : (t : ℕ) (g : ℤ) (p : Parts L) (u : L × Files) → slice_get ps t ≡ Some p → us t g ≡ Some u
+      → natural g ≡ natural (meta log p).identity.generation → ⊥
+
+-- The file is one of an unfinished log of a tenant's, with the bytes that it had.
+pub record IsOfUnfinished {L : Type 0} (log : L → Log) (us : Unfinished L) (tenant file : ℕ) (bytes : List ℕ) : Type 0 where
+  pub generation : ℤ
+  pub of : L × Files
+  pub at : us tenant generation ≡ Some of
+  pub owns : (log of.0).owns file
+  pub had : get of.1 file ≡ Some bytes
+
+-- It is of a log that its tenant has no more, or of an unfinished one.
+pub record IsLeftBy {L : Type 0} (log : L → Log) (ps : List (Parts L)) (us : Unfinished L) (file : ℕ) (bytes : List ℕ) : Type 0 where
+  pub tenant : ℕ
   pub parts : Parts L
-  pub at : slice_get ps other ≡ Some parts
-  pub apart : other ≡ t → ⊥
-  pub had : HadFile log (string_bytes parts.tenant) file bytes
+  pub at : slice_get ps tenant ≡ Some parts
+  pub how : IsGivenUp log (string_bytes parts.tenant) (IsPast log parts) file bytes ⊎ IsOfUnfinished log us tenant file bytes
 
--- Each file that is there and of no log is left alone, unless it is empty, or a log of another tenant than the one at that place had it with
--- the bytes that it has.
-abbrev pub AreAccountedFor : {L : Type 0} → (L → Log) → List (Parts L) → List ℕ → Disk → ℕ → Type 0
-AreAccountedFor log ps strays disk t = disk.honest → (file : ℕ) → IsThere disk file → (IsOfSome log ps file → ⊥)
-    → (bytes_of disk file ≡ [] → ⊥) → (IsOfAnother log ps t file (bytes_of disk file) → ⊥) → Contains strays file
+-- Whatever was refused, each file that is there and of no log is left alone, unless it is empty, or some tenant left it with the bytes that
+-- it has.
+pub record AreAccountedFor {L : Type 0} (log : L → Log) (ps : List (Parts L)) (strays : List ℕ) (disk : Disk) (next : ℕ) : Type 0 where
+  pub left : Unfinished L
+  pub unfinished : AreUnfinished log ps next left
+  pub each : (file : ℕ) → IsThere disk file → (IsOfSome log ps file → ⊥) → (bytes_of disk file ≡ [] → ⊥)
+      → (IsLeftBy log ps left file (bytes_of disk file) → ⊥) → Contains strays file
 
--- The files are accounted for at the place of a tenant; and nothing but its batches is in the files of a log of the tenant there, whose
--- memory tells what retention asks of its first batch.
-pub record IsSettledFor {L : Type 0} (log : L → Log) (ps : List (Parts L)) (strays : List ℕ) (disk : Disk) (t : ℕ) : Type 0 where
-  pub accounts : AreAccountedFor log ps strays disk t
-  pub meta_exact : (p : Parts L) → slice_get ps t ≡ Some p → (meta log p).exact disk.table
-  pub exact : (p : Parts L) → slice_get ps t ≡ Some p → AreExact log (entries p) disk.table
-
--- nothing was ever refused to the tenant at a place, if there is one
-abbrev pub HasNothingRefused : {L : Type 0} → List (Parts L) → ℕ → Type 0
-HasNothingRefused {L} ps t = (p : Parts L) → slice_get ps t ≡ Some p → p.refusals ≡ 0
-
--- each such place is settled
-abbrev pub CalmAreSettled : {L : Type 0} → (L → Log) → List (Parts L) → List ℕ → Disk → Type 0
-CalmAreSettled {L} log ps strays disk = (t : ℕ) → HasNothingRefused ps t → IsSettledFor log ps strays disk t
-
--- What the tenant at a place has is in the files of a disk, on which some are left alone: it has what its parts come to, and its place is
--- settled. Beside its parts stand all tenants', which are sound and agree with their files.
+-- What the tenant at a place has is in the files of a disk, on which some are left alone: it has what its parts come to. Beside its parts
+-- stand all tenants', which are sound and agree with their files, and each file is accounted for.
 pub record IsKeptIn {L : Type 0} (log : L → Log) (disk : Disk) (strays : List ℕ) (ts : List TenantState) (t : ℕ) : Type 0 where
   pub parts : List (Parts L)
   pub next : ℕ
@@ -235,7 +241,7 @@ pub record IsKeptIn {L : Type 0} (log : L → Log) (disk : Disk) (strays : List 
   pub named : names_of ts ≡ map (λ p. string_bytes p.tenant) parts
   pub own : Parts L
   pub at : slice_get parts t ≡ Some own
-  pub settled : IsSettledFor log parts strays disk t
+  pub accounts : AreAccountedFor log parts strays disk next
   pub known_is : (kept_of ts t).world.known ≡ known own.catalog
   pub logs_are : (kept_of ts t).world.logs ≡ logs_of log (entries own) disk.files
 
@@ -243,11 +249,12 @@ pub record IsKeptIn {L : Type 0} (log : L → Log) (disk : Disk) (strays : List 
 
 -- What holds between the calls: the parts are sound on the shelf, each under its tenant's name; on an honest store they agree with
 -- their files, and up to a clock a moment leaves each tenant what it keeps. The files that are left alone are no tenant's. Where they are
--- known, the place of each tenant to which nothing was ever refused is settled, whatever was refused to others.
+-- known, each file of an honest store is accounted for, whatever was refused.
 pub record AreKept {L S : Type 0} (log : L → Log) (disk : S → Disk) (ts : Tenants L S) : Type 0 where
   pub sound : AllAreSound log (parts_of ts.tenants.items) (disk ts.shelf.store).table ts.shelf.next
   pub named : (t : ℕ) (x : Tenant L) → slice_get ts.tenants.items t ≡ Some x → string_bytes x.parts.tenant ≡ string_bytes x.name
   pub apart : (file : ℕ) → Contains (strays_of ts.strays) file → IsLeftAlone log (parts_of ts.tenants.items) ts.shelf.next file
-  pub settled : IsSome ts.strays → CalmAreSettled log (parts_of ts.tenants.items) (strays_of ts.strays) (disk ts.shelf.store)
+  pub accounts : IsSome ts.strays → shelf_is_honest disk ts
+      → AreAccountedFor log (parts_of ts.tenants.items) (strays_of ts.strays) (disk ts.shelf.store) ts.shelf.next
   pub agree : shelf_is_honest disk ts → AllAgree log (parts_of ts.tenants.items) (disk ts.shelf.store).files
   pub until : shelf_is_honest disk ts → IsIdleUntil ts.next_retention_time (hosted log disk ts)

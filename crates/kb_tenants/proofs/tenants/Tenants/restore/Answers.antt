@@ -4,7 +4,7 @@ use Rattle.kb_tenants.specs.declared.tenants.Tenant.{Tenant}
 use Rattle.kb_tenants.specs.declared.tenants.Tenants.{Tenants}
 use Rattle.kb_tenants.specs.Counts.{no_counts}
 use Rattle.kb_tenants.proofs.Causes.{counts_pushed}
-use Rattle.kb_tenants.proofs.Added.{kept_left, kept_pushed, unknown, unknown_strays}
+use Rattle.kb_tenants.proofs.Added.{kept_left, kept_pushed, unknown_strays}
 use Rattle.kb_tenants.proofs.Idle.{idle_unknown}
 use Rattle.kb_tenants.proofs.tenants.Tenants.restore.Goals as goal
 
@@ -16,7 +16,7 @@ returns-clause-invariant g c =
     let after : Tenants g.row.L.Denot g.row.S.Denot = record c.args.self.now { tenants = c.push.new.self; next_retention_time = negsuc 0 } in
     kept_pushed log disk c.args.self.now after x c.in_ok-push.ensures.items refl refl c.args.name.now c.in_ok-from_str.ensures.ok c.new.ensures
     c.requires.sound c.requires.apart c.requires.named
-    (λ file stray own. unknown_strays c.args.self.now.strays c.requires.early file stray) (λ known. absurd (unknown c.args.self.now.strays c.requires.early known)) c.requires.agrees (λ honest. idle_unknown (hosted log disk after)) c.requires.invariant
+    (λ file stray own. unknown_strays c.args.self.now.strays c.requires.early file stray) c.requires.agrees (λ honest. idle_unknown (hosted log disk after)) c.requires.invariant
 
 pub returns-in_err-push-clause-invariant : goal.returns-in_err-push-clause-invariant
 returns-in_err-push-clause-invariant g c =

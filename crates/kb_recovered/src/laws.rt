@@ -3,7 +3,7 @@ ghost use Rattle.std.specs.Prelude.{◌≡◌, ℕ, List, Some, slice_get, OnOk}
 ghost use Rattle.std.specs.FinMap.{keys};
 ghost use Rattle.kb_store.specs.Disk.{Files};
 ghost use Rattle.kb_segment_log.specs.SegmentLog.{segment_log};
-ghost use Rattle.kb_tenant_api.specs.Hosted.{Kept, kept_of, names_of, refusals_of};
+ghost use Rattle.kb_tenant_api.specs.Hosted.{Kept, kept_of, names_of};
 ghost use Rattle.kb_broker.specs.Hosts.{is_honest, IsInFiles};
 ghost use Rattle.kb_restart.specs.Again.{AreApart, AreStillStrays, IsFound};
 ghost use Rattle.kb_restart.specs.Restart.{IsReopened};
@@ -18,14 +18,13 @@ use kb_store::{Store, StoreFault};
 /// Commits, as [`Broker::commit`] does. Where the store has put nothing off, its files are there after a loss of power at any moment
 /// from then on, but for what calls since then do.
 ///
-/// They come to what each tenant has to which nothing was refused since the start, whatever was refused to others. That what such a
-/// tenant has is in the files is said by the clauses `in_files` of the broker's calls. So here it is where the strays are known, those
-/// that name the tenant still are such, and no two tenants have one name.
+/// They come to what each tenant has, whatever was refused. That what a tenant has is in the files is said by the clauses `in_files` of
+/// the broker's calls. So here it is where the strays are known, those that name the tenant still are such, and no two tenants have one
+/// name.
 pub fn commit_lasts<S: Store>(broker: &mut Broker<S, SegmentLog>) -> Result<(), StoreFault>
     ensures found { is_honest S.disk broker.new → IsInFiles segment_log S.disk broker.new
         → (strays : List ℕ) → broker.new.strays ≡ Some strays → AreApart (names_of broker.new.state.tenants)
         → (t : ℕ) (name : List ℕ) → slice_get (names_of broker.new.state.tenants) t ≡ Some name
-        → refusals_of broker.new.state.tenants t ≡ 0
         → AreStillStrays (S.disk broker.new.store).files (keys (S.disk broker.new.store).table)
         (names_of broker.new.state.tenants) broker.new.state.tenants name strays
         → IsFound (S.disk broker.new.store).files (keys (S.disk broker.new.store).table) name (kept_of broker.new.state.tenants t) }

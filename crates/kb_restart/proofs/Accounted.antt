@@ -69,8 +69,6 @@ module _ (old mid now : Disk) (next : ℕ) (numbers strays : List ℕ) (d left :
   pub all_settled : ((file : ℕ) → IsThere old file → Contains numbers file) → AreSettled segment_log ps strays now
   all_settled each = record {
     accounts = λ file there not. ⊎_elim (λ own. absurd (not own)) (λ here. here) (accounts each file there);
-    meta_exact = λ t p at. (restored.each t p at).meta_exact;
-    exact = λ t p at. (restored.each t p at).exact;
   }
 
   pub all_alone : (file : ℕ) → Contains strays file → IsLeftAlone segment_log ps next file

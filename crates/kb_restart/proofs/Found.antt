@@ -1,5 +1,5 @@
--- What a tenant has whose files are accounted for is what its files come to.
-use Rattle.std.proofs.Common.{◌≡◌, ◌∙◌, ◌<◌, ◌^◌, ◌⊎◌, inl, inr, ⊎_elim, ℕ, zero, suc, Bool, true, false, not, cond, List, [], ◌∷◌, Option, Some, None, refl, sym, ap, subst, eqb-true, arith}
+-- What a tenant has is what its files come to, whatever was refused.
+use Rattle.std.proofs.Common.{◌≡◌, ◌∙◌, ◌<◌, ◌≤◌, ◌^◌, ◌⊎◌, inl, inr, ⊎_elim, ℕ, zero, suc, Bool, true, false, not, cond, List, [], ◌∷◌, Option, Some, None, refl, sym, ap, subst, eqb-true, arith}
 use Rattle.std.specs.Prelude.{ℤ, pos, ◌&&◌, IfOk, Result, Ok, Err, slice_get, nat_eq, IsSome, option_map, unwrap_or, length, string_bytes}
 use Rattle.std.specs.FinMap.{get, keys, contains_key-keys}
 use Rattle.std.specs.Bool.{Decides}
@@ -24,24 +24,25 @@ use Rattle.kb_batch.specs.Batch.{is_natural, natural}
 use Rattle.kb_segment.specs.Header.{Header, header_in}
 use Rattle.kb_segment.specs.declared.segment.Segment.{Segment}
 use Rattle.kb_log.specs.OnShelf.{Identity}
-use Rattle.kb_segment_log.specs.SegmentLog.{bytes_at, segment_log, whose, IsFileOf, IsHeaded, IsKept, IsNamed, Names}
+use Rattle.kb_segment_log.specs.SegmentLog.{bytes_at, segment_log, whose, IsFileOf, IsHeaded, IsNamed, Names}
 use Rattle.kb_segment_log.specs.Chain.{ComesTo}
-use Rattle.kb_segment_log.specs.Reopened.{AreFilesOf}
+use Rattle.kb_segment_log.specs.Reopened.{AreNamedOf}
 use Rattle.kb_segment_log.specs.declared.log.SegmentLog.{SegmentLog}
 use Rattle.kb_segment_log.proofs.Fronts.{header_within}
-use Rattle.kb_segment_log.proofs.Reopens.{reopens_exact}
+use Rattle.kb_segment_log.proofs.Reopens.{reopens}
 use Rattle.kb_topics.specs.Catalog.{known, meta_log, catalog_identity}
 use Rattle.kb_topics.specs.Known.{Known, PartitionState, TopicState, partition_at, topic_at}
 use Rattle.kb_tenant_state.specs.Partitions.{log_state, logs_of, partition_identity}
 use Rattle.kb_tenant_state.specs.Partitions as partitions
-use Rattle.kb_tenant_state.specs.Scene.{HadFile}
+use Rattle.kb_snapshot.specs.Renewal.{IsUnfinished}
+use Rattle.kb_tenant_state.specs.Scene.{IsGivenUp}
 use Rattle.kb_tenant_state.specs.declared.partition.Partition.{Partition}
 use Rattle.kb_tenant_state.proofs.Changed.{log_at_is}
-use Rattle.kb_tenant_state.specs.Parts.{IsSound, Agrees, entries, meta, start_said}
+use Rattle.kb_tenant_state.specs.Parts.{IsOfFormer, IsOfGone, IsPast, IsSound, Agrees, entries, meta, start_said}
 use Rattle.kb_tenant_state.specs.Tied.{counted, partition_count}
 use Rattle.kb_tenant_state.specs.declared.parts.Parts.{Parts}
 use Rattle.kb_tenant_api.specs.Hosted.{TenantState, kept_of, names_of}
-use Rattle.kb_tenants.specs.Tenants.{IsKeptIn, IsOfAnother, IsOfSome}
+use Rattle.kb_tenants.specs.Tenants.{IsKeptIn, IsLeftBy, IsOfSome, IsOfUnfinished}
 use Rattle.kb_opening.specs.Opened.{Owners, ComesToKnown, IsInUse, IsLogOf, IsLongestFold, IsOpened, NoneAbove}
 use Rattle.kb_opening.specs.Tenant.{generation_of}
 use Rattle.kb_opening.proofs.Generations.{nothing_whole}
@@ -56,6 +57,7 @@ use Rattle.kb_restart.proofs.Headed.{not_both, number_is}
 use Rattle.kb_restart.proofs.Listed.{all_listed, listed_apart}
 use Rattle.kb_restart.proofs.Reopened.{item_within}
 use Rattle.kb_restart.proofs.Strays.{legal_in, own_number}
+use Rattle.kb_restart.proofs.Unfinished.{WasIts, not_whole}
 use Rattle.kb_restart.proofs.Read.{both_true, catalog_one, in_filter, of_filter, partition_one, passes_weaker}
 
 -- ---- answers
@@ -85,28 +87,49 @@ distinct_filter p (x ∷ xs) d = by (p x) (distinct_filter p xs (IsDistinct-tail
     by true r = IsDistinct-cons nat_eq x (filter p xs) (apart xs (IsDistinct-head nat_eq x xs d)) r
     by false r = r
 
+behind : (x : ℕ) (xs : List ℕ) (n : ℕ) → Contains xs n → Contains (x ∷ xs) n
+behind x xs n (k, l, e) = (suc k, omega (arith, l), e)
+
+of_cons : (P : ℕ → Type 0) (x : ℕ) (xs : List ℕ) → P x → ((n : ℕ) → Contains xs n → P n) → (n : ℕ) → Contains (x ∷ xs) n → P n
+of_cons P x xs here rest n (zero, l, e) = subst P e here
+of_cons P x xs here rest n (suc k, l, e) = rest n (k, omega (arith, l), e)
+
+-- what fails of none of some numbers does not fail of all
+all_of : (P : ℕ → Type 0) (xs : List ℕ) → ((n : ℕ) → Contains xs n → (P n → ⊥) → ⊥) → (((n : ℕ) → Contains xs n → P n) → ⊥) → ⊥
+all_of P [] each none = none (λ n has. let lt = has.1 in absurd (omega (arith, lt)))
+all_of P (x ∷ xs) each none =
+    each x (0, omega arith, refl) (λ here. all_of P xs (λ n has. each n (behind x xs n has)) (λ rest. none (λ n has. of_cons P x xs here rest n has)))
+
 -- ---- a partition that is known is there
 
-module _ (es : partitions.Entries SegmentLog) (k : Known) (tied : partitions.places_of es ≡ counted partition_count k.topics) where
-  abbrev size : Vec (Partition SegmentLog) Global → ℕ
-  size v = length v.items
+abbrev size_of : Vec (Partition SegmentLog) Global → ℕ
+size_of v = length v.items
 
+module _ (es : partitions.Entries SegmentLog) (k : Known) (tied : partitions.places_of es ≡ counted partition_count k.topics) where
   -- as many partitions stand under an instance as its topic has
-  sizes_are : (i : ℕ) → option_map size (lookup (is_at (nat_cmp i)) es) ≡ option_map partition_count (topic_at i k.topics)
+  sizes_are : (i : ℕ) → option_map size_of (lookup (is_at (nat_cmp i)) es) ≡ option_map partition_count (topic_at i k.topics)
   sizes_are i =
-      sym (lookup-map_values size (is_at (nat_cmp i)) es) ∙ ap (λ ns. lookup (is_at (nat_cmp i)) ns) tied ∙ lookup-map_values partition_count (is_at (nat_cmp i)) k.topics
+      sym (lookup-map_values size_of (is_at (nat_cmp i)) es) ∙ ap (λ ns. lookup (is_at (nat_cmp i)) ns) tied ∙ lookup-map_values partition_count (is_at (nat_cmp i)) k.topics
 
   known_there : (i n : ℕ) (part : PartitionState) → partition_at k (pos i) (pos n) ≡ Some part → (x : Partition SegmentLog) × (partitions.partition_at i n es ≡ Some x)
   known_there i n part at = by (topic_at i k.topics) refl (lookup (is_at (nat_cmp i)) es) refl
     where
       by : (o : Option TopicState) → topic_at i k.topics ≡ o → (v : Option (Vec (Partition SegmentLog) Global)) → lookup (is_at (nat_cmp i)) es ≡ v → (x : Partition SegmentLog) × (partitions.partition_at i n es ≡ Some x)
       by None e v f = absurd (none-some part (sym (ap (λ o. option_and_then (λ (t : TopicState). slice_get t.partitions n) o) e) ∙ at))
-      by (Some t) e None f = absurd (none-some (partition_count t) (sym (ap (option_map size) f) ∙ sizes_are i ∙ ap (option_map partition_count) e))
+      by (Some t) e None f = absurd (none-some (partition_count t) (sym (ap (option_map size_of) f) ∙ sizes_are i ∙ ap (option_map partition_count) e))
       by (Some t) e (Some v) f =
-          let count : length v.items ≡ length t.partitions = some_is (sym (ap (option_map size) f) ∙ sizes_are i ∙ ap (option_map partition_count) e) in
+          let count : length v.items ≡ length t.partitions = some_is (sym (ap (option_map size_of) f) ∙ sizes_are i ∙ ap (option_map partition_count) e) in
           let found : slice_get t.partitions n ≡ Some part = sym (ap (λ o. option_and_then (λ (t : TopicState). slice_get t.partitions n) o) e) ∙ at in
           let x = item_within v.items n (subst (λ m. n < m) (sym count) (slice_get_within t.partitions n part found)) in
           (x.0, ap (λ o. option_and_then (λ (t : Vec (Partition SegmentLog) Global). slice_get t.items n) o) f ∙ x.1)
+
+-- of an instance that is gone there is none
+none_unmade : (es : partitions.Entries SegmentLog) (i n : ℕ) (x : Partition SegmentLog) → partitions.IsUnmade i es → partitions.partition_at i n es ≡ Some x → ⊥
+none_unmade es i n x gone at = by (lookup (is_at (nat_cmp i)) es) refl
+  where
+    by : (v : Option (Vec (Partition SegmentLog) Global)) → lookup (is_at (nat_cmp i)) es ≡ v → ⊥
+    by None e = none-some x (sym (ap (λ o. option_and_then (λ (t : Vec (Partition SegmentLog) Global). slice_get t.items n) o) e) ∙ at)
+    by (Some v) e = none-some (size_of v) (sym gone ∙ lookup-map_values size_of (is_at (nat_cmp i)) es ∙ ap (option_map size_of) e)
 
 -- ---- the files of a store
 
@@ -141,29 +164,11 @@ names_owner l files file h agrees own read = ⊎_elim
     own
 
 -- and so does a file that a log had
-names_had : (tenant : List ℕ) (file : ℕ) (bytes : List ℕ) (h : Header) → HadFile segment_log tenant file bytes → header_in bytes ≡ Some h → h.tenant ≡ tenant
-names_had tenant file bytes h had read =
-    (names_owner had.of had.files file h had.agrees had.owns (ap (λ o. header_in (unwrap_or o [])) had.had ∙ read)).tenant ∙ had.tenants
+names_had : (l : SegmentLog) (files : Files) (file : ℕ) (bytes : List ℕ) (h : Header) → (segment_log l).agrees files → (segment_log l).owns file → get files file ≡ Some bytes → header_in bytes ≡ Some h → Names (whose l) h
+names_had l files file bytes h agrees own had read = names_owner l files file h agrees own (ap (λ o. header_in (unwrap_or o [])) had ∙ read)
 
 no_header : (h : Header) → header_in [] ≡ Some h → ⊥
 no_header h read = let w = header_within [] h read in omega (arith, w.0, w.1)
-
-there_of : (table : Table) (next : ℕ) (ss : List Segment) (file : ℕ) → AllByRecursion (IsKept table next) ss → IsFileOf ss file → IsSome (get table file)
-there_of table next [] file k own = absurd own
-there_of table next (s ∷ ss) file k own = ⊎_elim
-    (λ (is : s.file ≡ file). subst (λ n. IsSome (get table n)) is k.0.sound.there)
-    (λ (rest : IsFileOf ss file). there_of table next ss file k.1 rest)
-    own
-
-module _ (l : SegmentLog) (d : Disk) (next : ℕ) (exact : (segment_log l).exact d.table) (file : ℕ) (own : (segment_log l).owns file) where
-  of_segment : IsFileOf l.segments.items file
-  of_segment = ⊎_elim (λ (is : IsFileOf l.segments.items file). is) (λ (spare : l.spare ≡ Some file). absurd (none-some file (sym exact.none ∙ spare))) own
-
-  pub owned_named : (segment_log l).agrees d.files → IsNamed (whose l) d.files file
-  owned_named agrees = headed_of (whose l) d.files l.segments.items file agrees.headed of_segment
-
-  pub owned_there : (segment_log l).sound d.table next → IsThere d file
-  owned_there sound = there_of d.table next l.segments.items file sound.kept of_segment
 
 -- what is said of a file's header is said of the one that was read
 said : (files : Files) (test : Header → Bool) (file : ℕ) (h : Header) → header_in (bytes_at files file) ≡ Some h → says files test file ≡ true → test h ≡ true
@@ -263,11 +268,61 @@ in_segments (s ∷ ss) file = by (in_segments ss file) (nat_eq s.file file) refl
         (λ (free : IsFileOf ss file → ⊥). inr (λ own. ⊎_elim (λ (is : s.file ≡ file). false≢true (sym e ∙ eq-eqb s.file file is)) (λ (again : IsFileOf ss file). free again) own))
         rest
 
-owns_or_not : (l : SegmentLog) (file : ℕ) → l.spare ≡ None → (segment_log l).owns file ⊎ ((segment_log l).owns file → ⊥)
-owns_or_not l file none = ⊎_elim
+is_spare : (o : Option ℕ) (file : ℕ) → (o ≡ Some file) ⊎ (o ≡ Some file → ⊥)
+is_spare None file = inr (λ is. none-some file is)
+is_spare (Some n) file = by (nat_eq n file) refl
+  where
+    by : (b : Bool) → nat_eq n file ≡ b → (Some n ≡ Some file) ⊎ (Some n ≡ Some file → ⊥)
+    by true e = inl (ap Some (eqb-true n file e))
+    by false e = inr (λ is. false≢true (sym e ∙ eq-eqb n file (some_is is)))
+
+owns_or_not : (l : SegmentLog) (file : ℕ) → (segment_log l).owns file ⊎ ((segment_log l).owns file → ⊥)
+owns_or_not l file = ⊎_elim
     (λ (own : IsFileOf l.segments.items file). inl (inl own))
-    (λ (free : IsFileOf l.segments.items file → ⊥). inr (λ own. ⊎_elim (λ (is : IsFileOf l.segments.items file). free is) (λ (spare : l.spare ≡ Some file). none-some file (sym none ∙ spare)) own))
+    (λ (free : IsFileOf l.segments.items file → ⊥). ⊎_elim
+    (λ (spare : l.spare ≡ Some file). inl (inr spare))
+    (λ (none : l.spare ≡ Some file → ⊥). inr (λ own. ⊎_elim (λ (is : IsFileOf l.segments.items file). free is) (λ (is : l.spare ≡ Some file). none is) own))
+    (is_spare l.spare file))
     (in_segments l.segments.items file)
+
+-- ---- a file that was given up
+
+module _ (p : Parts SegmentLog) (file : ℕ) (bytes : List ℕ) (o : IsGivenUp segment_log (string_bytes p.tenant) (IsPast segment_log p) file bytes) (h : Header) (read : header_in bytes ≡ Some h) where
+  abbrev Gone : Type 0
+  Gone = IsOfGone (string_bytes p.tenant) p.segment_bytes (known p.catalog).creates (entries p) (whose o.had.of)
+
+  abbrev Former : Type 0
+  Former = IsOfFormer (string_bytes p.tenant) p.segment_bytes (meta segment_log p).identity.generation (whose o.had.of)
+
+  names_given : Names (whose o.had.of) h
+  names_given = names_had o.had.of o.had.files file bytes h o.had.agrees o.had.owns o.had.had read
+
+  given_tenant : h.tenant ≡ string_bytes p.tenant
+  given_tenant = names_given.tenant ∙ o.had.tenants
+
+  -- it is of a generation below the one in use, where it is of the catalog's
+  given_below : (g : ℕ) → IsCatalogs (string_bytes p.tenant) g h → g < generation_of p
+  given_below g c = ⊎_elim
+      (λ (gone : Gone).
+      let m = subst (λ who. Names who h) gone.named names_given in
+      absurd (not_both h.kind (is_number 0 h.kind m.kind) c.kind))
+      (λ (former : Former).
+      let m = subst (λ who. Names who h) former.named names_given in
+      let is : natural former.generation ≡ g = ap natural (sym m.generation ∙ number_is g h.generation c.generation) in
+      subst (λ n. n < generation_of p) is former.below)
+      o.past
+
+  -- and of no partition that is there
+  given_gone : (i n : ℕ) → IsPartitions (string_bytes p.tenant) i n h → (x : Partition SegmentLog) → partitions.partition_at i n (entries p) ≡ Some x → ⊥
+  given_gone i n c x at = ⊎_elim
+      (λ (gone : Gone).
+      let m = subst (λ who. Names who h) gone.named names_given in
+      let is : gone.instance ≡ i = one_number i gone.instance h.instance m.instance c.instance in
+      none_unmade (entries p) i n x (subst (λ j. partitions.IsUnmade j (entries p)) is gone.gone) at)
+      (λ (former : Former).
+      let m = subst (λ who. Names who h) former.named names_given in
+      not_both h.kind c.kind (is_number 1 h.kind m.kind))
+      o.past
 
 -- ---- the generation in use
 
@@ -316,13 +371,14 @@ module _ (d : Disk) (lawful : IsLawfulDisk d) (honest : d.honest) (strays : List
 
   -- ---- its files' headers
 
-  meta_named : (file : ℕ) → (meta segment_log its).owns file → IsNamed (catalog_identity name (pos generation) its.segment_bytes) d.files file
-  meta_named file own =
+  -- what a file says whose header names the meta log
+  meta_says : (file : ℕ) → IsNamed (whose (meta_log its.catalog)) d.files file → says d.files (is_of_catalog name generation) file ≡ true
+  meta_says file named =
       let z = (meta segment_log its).identity.generation in
-      let n : IsNamed (catalog_identity name z its.segment_bytes) d.files file = subst (λ who. IsNamed who d.files file) sound.catalog_named (owned_named (meta_log its.catalog) d k.next (k.settled.meta_exact its k.at) file own agrees.catalog) in
+      let n : IsNamed (catalog_identity name z its.segment_bytes) d.files file = subst (λ who. IsNamed who d.files file) sound.catalog_named named in
       let h = n.header in
       let told = generation_told h (legal_in (bytes_at d.files file) h n.read) (ap (is_natural 0) n.names.kind) in
-      record {
+      says_catalog d.files name generation its.segment_bytes file (record {
         header = h;
         read = n.read;
         names = record {
@@ -332,10 +388,11 @@ module _ (d : Disk) (lawful : IsLawfulDisk d) (honest : d.honest) (strays : List
           partition = n.names.partition;
           generation = number_is (natural h.generation) h.generation (own_number h.generation told) ∙ ap (λ v. pos (natural v)) n.names.generation;
         };
-      }
+      })
 
-  log_named : (i n : ℕ) (x : Partition SegmentLog) → partitions.partition_at i n (entries its) ≡ Some x → (file : ℕ) → (segment_log x.log).owns file → IsNamed (partition_identity name i n its.segment_bytes) d.files file
-  log_named i n x there file own = subst (λ who. IsNamed who d.files file) (sound.logs_named i n x there) (owned_named x.log d k.next (k.settled.exact its k.at i n x there).0 file own (agrees.logs.each i n x there))
+  -- and one whose header names a partition's log
+  log_says : (i n : ℕ) (x : Partition SegmentLog) → partitions.partition_at i n (entries its) ≡ Some x → (file : ℕ) → IsNamed (whose x.log) d.files file → says d.files (is_of_partition name i n) file ≡ true
+  log_says i n x there file named = says_partition d.files name i n its.segment_bytes file (subst (λ who. IsNamed who d.files file) (sound.logs_named i n x there) named)
 
   -- ---- any tenant's
 
@@ -346,14 +403,29 @@ module _ (d : Disk) (lawful : IsLawfulDisk d) (honest : d.honest) (strays : List
     log_names : (u : ℕ) (q : Parts SegmentLog) → slice_get k.parts u ≡ Some q → (i n : ℕ) (x : Partition SegmentLog) → partitions.partition_at i n (entries q) ≡ Some x → (segment_log x.log).owns file → Names (partition_identity (string_bytes q.tenant) i n q.segment_bytes) h
     log_names u q at i n x there own = subst (λ who. Names who h) ((k.sound.each u q at).logs_named i n x there) (names_owner x.log d.files file h ((k.agree u q at).logs.each i n x there) own read)
 
-    -- a file that names the tenant and is of no log is left alone
-    left_alone : h.tenant ≡ name → Contains numbers file → (IsOfSome segment_log k.parts file → ⊥) → Contains strays file
-    left_alone of has nobodys =
-        k.settled.accounts honest file (of_keys d file has) nobodys
+    -- of an unfinished log
+    abbrev left_identity : (u : ℕ) (q : Parts SegmentLog) → slice_get k.parts u ≡ Some q → IsOfUnfinished segment_log k.accounts.left u file (bytes_of d file) → Identity
+    left_identity u q at x = catalog_identity (string_bytes q.tenant) x.generation (k.accounts.unfinished.each u x.generation q x.of at x.at).1
+
+    left_names : (u : ℕ) (q : Parts SegmentLog) (at : slice_get k.parts u ≡ Some q) (x : IsOfUnfinished segment_log k.accounts.left u file (bytes_of d file)) → Names (left_identity u q at x) h
+    left_names u q at x =
+        let un = (k.accounts.unfinished.each u x.generation q x.of at x.at).2 in
+        subst (λ who. Names who h) un.identity (names_had x.of.0 x.of.1 file (bytes_of d file) h un.agrees x.owns x.had read)
+
+    -- a file that names the tenant and is of no log is left alone, where it was not given up and is of no unfinished log
+    left_alone : h.tenant ≡ name → Contains numbers file → (IsOfSome segment_log k.parts file → ⊥) → (IsGivenUp segment_log name (IsPast segment_log its) file (bytes_of d file) → ⊥)
+        → (IsOfUnfinished segment_log k.accounts.left t file (bytes_of d file) → ⊥) → Contains strays file
+    left_alone of has nobodys not_given not_left =
+        k.accounts.each file (of_keys d file has) nobodys
         (λ none. no_header h (sym (ap header_in none) ∙ read))
-        (λ (o : IsOfAnother segment_log k.parts t file (bytes_of d file)).
-        let theirs = names_had (string_bytes o.parts.tenant) file (bytes_of d file) h o.had read in
-        o.apart (sym (one_place o.other (string_bytes o.parts.tenant) (name_at o.other o.parts o.at) (sym theirs ∙ of))))
+        (λ (o : IsLeftBy segment_log k.parts k.accounts.left file (bytes_of d file)). ⊎_elim
+        (λ (up : IsGivenUp segment_log (string_bytes o.parts.tenant) (IsPast segment_log o.parts) file (bytes_of d file)).
+        let theirs = given_tenant o.parts file (bytes_of d file) up h read in
+        not_given (subst (λ (q : Parts SegmentLog). IsGivenUp segment_log (string_bytes q.tenant) (IsPast segment_log q) file (bytes_of d file)) (one_tenant o.tenant o.parts o.at (sym theirs ∙ of)) up))
+        (λ (x : IsOfUnfinished segment_log k.accounts.left o.tenant file (bytes_of d file)).
+        let theirs = (left_names o.tenant o.parts o.at x).tenant in
+        not_left (subst (λ u. IsOfUnfinished segment_log k.accounts.left u file (bytes_of d file)) (sym (one_place o.tenant (string_bytes o.parts.tenant) (name_at o.tenant o.parts o.at) (sym theirs ∙ of))) x))
+        o.how)
 
   module _ (left : AreStillStrays d.files (keys d.table) (names_of ts) ts (string_bytes k.own.tenant) strays) where
     -- a generation below one is in use and comes to what the tenant knows
@@ -361,12 +433,6 @@ module _ (d : Disk) (lawful : IsLawfulDisk d) (honest : d.honest) (strays : List
     Below g = UseBelow d.files (owners_of d.files numbers name) (known its.catalog) g
 
     -- ---- the catalog's
-
-    catalog_listed : (file : ℕ) → (meta segment_log its).owns file → Contains (catalog_of d.files name generation numbers) file
-    catalog_listed file own =
-        in_filter (says d.files (is_of_catalog name generation)) numbers file
-        (in_keys d.table file (owned_there (meta_log its.catalog) d k.next (k.settled.meta_exact its k.at) file own sound.catalog))
-        (says_catalog d.files name generation its.segment_bytes file (meta_named file own))
 
     -- a file of a generation of the catalog
     module _ (g : ℕ) (file : ℕ) (has : Contains (catalog_of d.files name g numbers) file) where
@@ -387,8 +453,8 @@ module _ (d : Disk) (lawful : IsLawfulDisk d) (honest : d.honest) (strays : List
 
       by_own : (meta segment_log its).owns file → generation ≡ g
       by_own own =
-          let n = meta_named file own in
-          one_number g generation n.header.generation n.names.generation (says_of n.header n.read).generation
+          let n = meta_names file header read t its k.at own in
+          ap natural (sym n.generation ∙ number_is g header.generation tells.generation)
 
       -- is of no other log than that of this generation
       owned_by : IsOfSome segment_log k.parts file → (meta segment_log its).owns file
@@ -431,56 +497,96 @@ module _ (d : Disk) (lawful : IsLawfulDisk d) (honest : d.honest) (strays : List
                 below = subst (λ n. l.generation < n) is l.above;
               }
 
-      -- it is the log's own, or left alone
-      own_or_left : ((meta segment_log its).owns file × (generation ≡ g)) ⊎ Below g
-      own_or_left = ⊎_elim
-          (λ (own : (meta segment_log its).owns file). inl (own, by_own own))
-          (λ (not : (meta segment_log its).owns file → ⊥).
+      -- of an unfinished log it is by this generation, which is not the one in use
+      left_is : (x : IsOfUnfinished segment_log k.accounts.left t file (bytes_of d file)) → x.generation ≡ pos g
+      left_is x = sym (left_names file header read t its k.at x).generation ∙ number_is g header.generation tells.generation
+
+      not_in_use : g ≡ generation → IsOfUnfinished segment_log k.accounts.left t file (bytes_of d file) → ⊥
+      not_in_use is x = k.accounts.unfinished.other t x.generation its x.of k.at x.at (ap natural (left_is x) ∙ is)
+
+      -- it is left alone where it is not the meta log's, and of no unfinished log
+      left_here : generation ≤ g → ((meta segment_log its).owns file → ⊥) → (IsOfUnfinished segment_log k.accounts.left t file (bytes_of d file) → ⊥) → Below g
+      left_here up not_own not_left =
           let listed = (of_filter (says d.files (is_of_catalog name g)) numbers file has).0 in
-          inr (later_of (left_alone file header read tells.tenant listed (λ some. not (owned_by some)))))
-          (owns_or_not (meta_log its.catalog) file (k.settled.meta_exact its k.at).none)
+          later_of (left_alone file header read tells.tenant listed
+          (λ some. not_own (owned_by some))
+          (λ given. let below = given_below its file (bytes_of d file) given header read g tells in omega (arith, below, up))
+          not_left)
+
+    -- a generation of which an unfinished log had all files is not whole
+    module _ (g : ℕ) (above : generation < g) (all : (file : ℕ) → Contains (catalog_of d.files name g numbers) file → IsOfUnfinished segment_log k.accounts.left t file (bytes_of d file)) (j : Known) where
+      of_one : (u : SegmentLog × Files) → k.accounts.left t (pos g) ≡ Some u → ComesToKnown d.files (catalog_of d.files name g numbers) g j → ⊥
+      of_one u at whole = not_whole un.0 (catalog_identity name (pos g) un.1) u.0 u.1 un.2 d.files (catalog_of d.files name g numbers) was g (omega (arith, above)) j whole
+        where
+          un : (was_known : Known) × (size : ℕ) × IsUnfinished segment_log was_known (catalog_identity name (pos g) size) u.0 u.1
+          un = k.accounts.unfinished.each t (pos g) its u k.at at
+
+          was : (file : ℕ) → Contains (catalog_of d.files name g numbers) file → WasIts un.0 (catalog_identity name (pos g) un.1) u.0 u.1 un.2 d.files file
+          was file has =
+              let x = all file has in
+              let same : x.of ≡ u = some_is (sym x.at ∙ ap (k.accounts.left t) (left_is g file has x) ∙ at) in
+              record {
+                owns = subst (λ (v : SegmentLog × Files). (segment_log v.0).owns file) same x.owns;
+                had = subst (λ (v : SegmentLog × Files). get v.1 file ≡ Some (bytes_of d file)) same x.had;
+                header = header g file has;
+                read = read g file has;
+              }
+
+      none_whole : ComesToKnown d.files (catalog_of d.files name g numbers) g j → ⊥
+      none_whole whole = by (catalog_of d.files name g numbers) refl
+        where
+          by : (xs : List ℕ) → catalog_of d.files name g numbers ≡ xs → ⊥
+          by [] e = nothing_whole d.files g j (omega (arith, above)) (subst (λ ns. ComesToKnown d.files ns g j) e whole)
+          by (file ∷ xs) e =
+              let has : Contains (catalog_of d.files name g numbers) file = subst (λ ns. Contains ns file) (sym e) (0, omega arith, refl) in
+              let x = all file has in
+              of_one x.of (ap (k.accounts.left t) (sym (left_is g file has x)) ∙ x.at) whole
 
     -- no generation above that of the catalog is whole
     greatest : NoneAbove d.files (owners_of d.files numbers name) generation
-    greatest g above small j whole = by (catalog_of d.files name g numbers) refl
-      where
-        by : (xs : List ℕ) → catalog_of d.files name g numbers ≡ xs → ⊥
-        by [] e = nothing_whole d.files g j (omega (arith, above)) (subst (λ ns. ComesToKnown d.files ns g j) e whole)
-        by (file ∷ xs) e =
-            let has : Contains (catalog_of d.files name g numbers) file = subst (λ ns. Contains ns file) (sym e) (0, omega arith, refl) in
-            ⊎_elim
-            (λ (own : (meta segment_log its).owns file × (generation ≡ g)). let is = own.1 in absurd (omega (arith, is, above)))
-            (λ (later : Below g). later.in_use.greatest g later.below small j whole)
-            (own_or_left g file has)
+    greatest g above small j whole = all_of (λ file. IsOfUnfinished segment_log k.accounts.left t file (bytes_of d file)) (catalog_of d.files name g numbers)
+        (λ file has not_left.
+        let below = left_here g file has (omega (arith, above)) (λ own. let is = by_own g file has own in omega (arith, is, above)) not_left in
+        below.in_use.greatest g below.below small j whole)
+        (λ all. none_whole g above all j whole)
 
     -- each file of the catalog's generation is its own, or another generation is in use
     all_own : (xs : List ℕ) → ((file : ℕ) → Contains xs file → Contains (catalog_of d.files name generation numbers) file)
         → ((file : ℕ) → Contains xs file → (meta segment_log its).owns file) ⊎ Below generation
     all_own [] among = inl (λ file has. let lt = has.1 in absurd (omega (arith, lt)))
-    all_own (x ∷ xs) among = ⊎_elim
-        (λ (own : (meta segment_log its).owns x × (generation ≡ generation)). ⊎_elim
-        (λ (rest : (file : ℕ) → Contains xs file → (meta segment_log its).owns file). inl (λ file has. each own.0 rest file has))
+    all_own (x ∷ xs) among =
+        let has = among x (0, omega arith, refl) in
+        ⊎_elim
+        (λ (own : (meta segment_log its).owns x). ⊎_elim
+        (λ (rest : (file : ℕ) → Contains xs file → (meta segment_log its).owns file). inl (of_cons (λ n. (meta segment_log its).owns n) x xs own rest))
         (λ (later : Below generation). inr later)
-        (all_own xs (λ file has. among file (behind file has))))
-        (λ (later : Below generation). inr later)
-        (own_or_left generation x (among x (0, omega arith, refl)))
-      where
-        behind : (file : ℕ) → Contains xs file → Contains (x ∷ xs) file
-        behind file (k, l, e) = (suc k, omega (arith, l), e)
-
-        each : (meta segment_log its).owns x → ((file : ℕ) → Contains xs file → (meta segment_log its).owns file) → (file : ℕ) → Contains (x ∷ xs) file → (meta segment_log its).owns file
-        each own rest file (zero, l, e) = subst (λ n. (meta segment_log its).owns n) e own
-        each own rest file (suc k, l, e) = rest file (k, omega (arith, l), e)
+        (all_own xs (λ file more. among file (behind x xs file more))))
+        (λ (not : (meta segment_log its).owns x → ⊥). inr (left_here generation x has (omega arith) not (not_in_use generation x has refl)))
+        (owns_or_not (meta_log its.catalog) x)
 
     module _ (catalog_owned : (file : ℕ) → Contains (catalog_of d.files name generation numbers) file → (meta segment_log its).owns file) where
-      catalog_files : AreFilesOf (meta segment_log its) (catalog_of d.files name generation numbers)
+      catalog_listed : (file : ℕ) → IsThere d file → IsNamed (whose (meta_log its.catalog)) d.files file → Contains (catalog_of d.files name generation numbers) file
+      catalog_listed file there named = in_filter (says d.files (is_of_catalog name generation)) numbers file (in_keys d.table file there) (meta_says file named)
+
+      catalog_named : (file : ℕ) → Contains (catalog_of d.files name generation numbers) file → IsThere d file × IsNamed (whose (meta_log its.catalog)) d.files file
+      catalog_named file has = (
+        of_keys d file (of_filter (says d.files (is_of_catalog name generation)) numbers file has).0,
+        record {
+          header = header generation file has;
+          read = read generation file has;
+          names = names_owner (meta_log its.catalog) d.files file (header generation file has) agrees.catalog (catalog_owned file has) (read generation file has);
+        },
+      )
+
+      catalog_files : AreNamedOf (whose (meta_log its.catalog)) d (catalog_of d.files name generation numbers)
       catalog_files = record {
         apart = distinct_filter (says d.files (is_of_catalog name generation)) numbers (listed_apart d numbers refl);
-        these = λ file. (catalog_listed file, catalog_owned file);
+        these = λ file. (λ is. catalog_listed file is.0 is.1, λ has. catalog_named file has);
       }
 
       catalog_comes : ComesTo d.files (catalog_of d.files name generation numbers) 0 (meta segment_log its).start (meta segment_log its).end ((meta segment_log its).batches d.files)
-      catalog_comes = reopens_exact (meta_log its.catalog) d k.next 0 (catalog_of d.files name generation numbers) lawful honest catalog_files sound.catalog agrees.catalog (k.settled.meta_exact its k.at) agrees.meta_started
+      catalog_comes = reopens (meta_log its.catalog) d k.next 0 (catalog_of d.files name generation numbers) lawful honest catalog_files
+          (λ file there named. catalog_owned file (catalog_listed file there named)) sound.catalog agrees.catalog agrees.catalog.recovered agrees.meta_started
 
       -- all batches of the catalog's chain are its commands
       whole_list : IsLongestFold generation ((meta segment_log its).batches d.files) (known its.catalog)
@@ -529,11 +635,8 @@ module _ (d : Disk) (lawful : IsLawfulDisk d) (honest : d.honest) (strays : List
       abbrev test : Header → Bool
       test = is_of_partition name i n
 
-      log_listed : (file : ℕ) → (segment_log x.log).owns file → Contains list file
-      log_listed file own =
-          in_filter (says d.files test) numbers file
-          (in_keys d.table file (owned_there x.log d k.next (k.settled.exact its k.at i n x there).0 file own (sound.logs.each i n x there)))
-          (says_partition d.files name i n its.segment_bytes file (log_named i n x there file own))
+      log_listed : (file : ℕ) → IsThere d file → IsNamed (whose x.log) d.files file → Contains list file
+      log_listed file at named = in_filter (says d.files test) numbers file (in_keys d.table file at) (log_says i n x there file named)
 
       module _ (file : ℕ) (has : Contains list file) where
         partition_said : says d.files test file ≡ true
@@ -599,16 +702,29 @@ module _ (d : Disk) (lawful : IsLawfulDisk d) (honest : d.honest) (strays : List
         log_owned = ⊎_elim
             (λ (own : (segment_log x.log).owns file). own)
             (λ (not : (segment_log x.log).owns file → ⊥).
-            absurd (log_no_stray (left_alone file part_header part_read part_tells.tenant (of_filter (says d.files test) numbers file has).0 (λ some. not (log_owned_by some)))))
-            (owns_or_not x.log file (k.settled.exact its k.at i n x there).0.none)
+            absurd (log_no_stray (left_alone file part_header part_read part_tells.tenant (of_filter (says d.files test) numbers file has).0
+            (λ some. not (log_owned_by some))
+            (λ given. given_gone its file (bytes_of d file) given part_header part_read i n part_tells x there)
+            (λ left_by. let m = left_names file part_header part_read t its k.at left_by in not_both part_header.kind part_tells.kind (is_number 1 part_header.kind m.kind)))))
+            (owns_or_not x.log file)
 
-      log_files : AreFilesOf (segment_log x.log) list
-      log_files = record { apart = distinct_filter (says d.files test) numbers (listed_apart d numbers refl); these = λ file. (log_listed file, log_owned file) }
+        log_names_it : IsThere d file × IsNamed (whose x.log) d.files file
+        log_names_it = (
+          of_keys d file (of_filter (says d.files test) numbers file has).0,
+          record { header = part_header; read = part_read; names = names_owner x.log d.files file part_header (agrees.logs.each i n x there) log_owned part_read },
+        )
+
+      log_files : AreNamedOf (whose x.log) d list
+      log_files = record {
+        apart = distinct_filter (says d.files test) numbers (listed_apart d numbers refl);
+        these = λ file. (λ is. log_listed file is.0 is.1, λ has. log_names_it file has);
+      }
 
       log_comes : IsLogOf d.files list (natural part.start) (log_state (segment_log x.log) d.files)
       log_comes =
           let recorded = ap start_said known_at in
-          let c = reopens_exact x.log d k.next (natural part.start) list lawful honest log_files (sound.logs.each i n x there) (agrees.logs.each i n x there) (k.settled.exact its k.at i n x there).0
+          let its_agrees = agrees.logs.each i n x there in
+          let c = reopens x.log d k.next (natural part.start) list lawful honest log_files (λ file at named. log_owned file (log_listed file at named)) (sound.logs.each i n x there) its_agrees its_agrees.recovered
           (subst (λ start. (segment_log x.log).resumes start) recorded (agrees.started i n x there)) in
           record { bs = c.bs; chain = c.chain; starts = c.starts; ends = c.ends; batches = c.batches }
 

@@ -10,9 +10,11 @@ pub mod Hosting
 pub mod Listed
 pub mod Numbers
 pub mod OneWorld
+pub mod PartComes
 pub mod Read
 pub mod Reopened
 pub mod Restored
 pub mod Seated
 pub mod Same
 pub mod Strays
+pub mod Unfinished

@@ -1,5 +1,5 @@
 -- The tenants are opened one after another.
-use Rattle.std.proofs.Common.{◌≡◌, ◌∙◌, ◌⊎◌, ◌≤◌, ◌<◌, ◌+◌, ◌++◌, inl, inr, ⊎_elim, ℕ, zero, suc, List, [], ◌∷◌, Some, refl, sym, ap, subst, arith, length, length-append, map, take, get_or, Bor, Result, Err}
+use Rattle.std.proofs.Common.{◌≡◌, ◌∙◌, ◌⊎◌, ◌≤◌, ◌<◌, ◌+◌, ◌^◌, ◌++◌, inl, inr, ⊎_elim, ℕ, zero, suc, List, [], ◌∷◌, Some, refl, sym, ap, subst, arith, length, length-append, map, take, get_or, Bor, Result, Err}
 use Rattle.std.specs.Prelude.{nat_eq, pos, slice_get, string_bytes, option_map, IsSome, IsPermutation}
 use Rattle.std.specs.FinMap.{get}
 use Rattle.std.specs.List.{All, Contains, IsDistinct}
@@ -23,12 +23,12 @@ use Rattle.kb_tenant_state.specs.declared.parts.Parts.{Parts}
 use Rattle.kb_tenants.proofs.Others.{still_sound, still_seen, still_agrees}
 use Rattle.kb_opening.specs.Opened.{Owners, IsInUse, IsOpened}
 use Rattle.kb_opening.specs.Directory.{all_files, files_at}
-use Rattle.kb_opening.specs.Tenant.{owners_in, generation_of, tenant_in, identity_in, AreListed, AreOwnNamed, IsOfTenant, IsTaken, IsTenantOf, TakesSome, TakesTenant}
+use Rattle.kb_opening.specs.Tenant.{owners_in, generation_of, tenant_in, identity_in, AreListed, AreNumberedBelow, AreOwnNamed, IsOfTenant, IsTaken, IsTenantOf, TakesSome, TakesTenant}
 use Rattle.kb_opening.specs.declared.directory.Directory.{Directory}
 use Rattle.kb_opening.specs.declared.owner.Owner.{Owner}
 use Rattle.kb_opening.specs.declared.owner.Owner.TheVariants.{Catalog, Partition}
 use Rattle.kb_opening.specs.Settled.{AreAccounted}
-use Rattle.kb_opening.proofs.Causes.{clears_none}
+use Rattle.kb_opening.proofs.Causes.{clears_none, misses_raised}
 use Rattle.kb_opening.proofs.Logged.{exact_stays}
 use Rattle.kb_opening.proofs.Lost.{known_stays}
 use Rattle.kb_opening.proofs.Moved.{log_of_stays, named_stays}
@@ -66,9 +66,9 @@ all_more P xs ys x all grown is = subst (All P) (sym grown) (All-push P xs x all
 -- ---- the cause of a refusal
 
 -- a part's, after what came before it
-pub passed_on : {T U : Type 0} (first mid now : Disk) (next next' : ℕ) (As As' : Type 0) (s : Result U LogFault) (f : LogFault) → MissesShelf {T = T} mid next' As' (Err f) now → s ≡ Err f → next' ≡ next → first.failures ≤ mid.failures → (now.honest → As → As')
+pub passed_on : {T U : Type 0} (first mid now : Disk) (next next' : ℕ) (As As' : Type 0) (s : Result U LogFault) (f : LogFault) → MissesShelf {T = T} mid next' As' (Err f) now → s ≡ Err f → (next < 2 ^ 64 → next' < 2 ^ 64) → first.failures ≤ mid.failures → (now.honest → As → As')
     → MissesShelf first next As s now
-passed_on first mid now next next' As As' s f m is same le gives = missed_since first mid now next next' As As' s f is same le gives m
+passed_on first mid now next next' As As' s f m is room le gives = misses_raised first now next next' As s room (missed_since first mid now next' next' As As' s f is refl le gives m)
 
 -- ---- what files come to stays where they do
 
@@ -146,8 +146,10 @@ module _ (old : Disk) (had : Directory) (ps : List (Parts SegmentLog)) (mid : Di
       (λ file o. record { tenant = length ps; first = omega arith; has = first_had file o })
       before.clears c
 
-  module _ (p : Parts SegmentLog) (now : Disk) (left : Directory)
-      (sound : IsSound segment_log p now.table next)
+  module _ (p : Parts SegmentLog) (now : Disk) (last : ℕ) (left : Directory)
+      (later : next ≤ last)
+      (numbered : AreNumberedBelow has (length ps) last)
+      (sound : IsSound segment_log p now.table last)
       (owned : (file : ℕ) → Owns segment_log p file → IsOfTenant has (length ps) file)
       (opened : now.honest → AreOwnNamed (string_bytes p.tenant) p.segment_bytes (length ps) mid.files has → IsTenantOf mid.files (owners_in has (length ps)) p now.files)
       (used : now.honest → AreOwnNamed (string_bytes p.tenant) p.segment_bytes (length ps) mid.files has → IsInUse mid.files (owners_in has (length ps)) (generation_of p) (known p.catalog))
@@ -165,7 +167,7 @@ module _ (old : Disk) (had : Directory) (ps : List (Parts SegmentLog)) (mid : Di
     still file is = Contains-permutation (some.taken ++ all_files left) (all_files has) file (IsPermutation-sym (all_files has) (some.taken ++ all_files left) some.all) (Contains-append_right some.taken (all_files left) file is)
 
     -- a tenant before it
-    each_old : (t : ℕ) (q : Parts SegmentLog) → slice_get ps t ≡ Some q → IsRestored old had t q now next left
+    each_old : (t : ℕ) (q : Parts SegmentLog) → slice_get ps t ≡ Some q → IsRestored old had t q now last left
     each_old t q at =
         let lt = slice_get_within ps t q at in
         let r = before.each t q at in
@@ -173,16 +175,17 @@ module _ (old : Disk) (had : Directory) (ps : List (Parts SegmentLog)) (mid : Di
         let lengths : (file : ℕ) → file < next → Owns segment_log q file → get now.table file ≡ get mid.table file = λ file below own. clears.lengths file (apart file own) in
         let contents : now.honest → (file : ℕ) → file < next → Owns segment_log q file → get now.files file ≡ get mid.files file = λ h file below own. clears.contents h file (apart file own) in
         record {
-          sound = still_sound segment_log segment_lawful q mid now next next r.sound (omega arith) lengths contents;
+          sound = still_sound segment_log segment_lawful q mid now next last r.sound later lengths contents;
           owned = r.owned;
           opened = λ h own.
               let o = r.opened (clears.honest h) own in
-              let seen = still_seen segment_log segment_lawful q mid now next next r.sound (omega arith) lengths contents h in
+              let seen = still_seen segment_log segment_lawful q mid now next last r.sound later lengths contents h in
               record {
-                agrees = still_agrees segment_log segment_lawful q mid now next next r.sound (omega arith) lengths contents h o.agrees;
+                agrees = still_agrees segment_log segment_lawful q mid now next last r.sound later lengths contents h o.agrees;
                 opened = subst (λ (ls : Logs). IsOpened old.files (owners_in had t) (known q.catalog) ls) (sym (ap (λ w. w.logs) seen)) o.opened;
               };
           in_use = λ h own. r.in_use (clears.honest h) own;
+          numbered = λ g some from below. r.numbered g some (omega (arith, from, later)) below;
           refusals = r.refusals;
           gone = λ o is file was now. r.gone o is file was (still file now);
           newer = λ g above. taken.others (Catalog t g) (λ e. omega (arith, lt, e)) ∙ r.newer g above;
@@ -199,7 +202,7 @@ module _ (old : Disk) (had : Directory) (ps : List (Parts SegmentLog)) (mid : Di
     unchanged : now.honest → (o : Owner) → tenant_in o ≡ length ps → (file : ℕ) → Contains (files_at o had) file → get old.files file ≡ get mid.files file
     unchanged h o mine file is = sym (as_first (clears.honest h) o mine file is)
 
-    each_new : IsRestored old had (length ps) p now next left
+    each_new : IsRestored old had (length ps) p now last left
     each_new = record {
       sound = sound;
       owned = λ file own. first_had file (owned file own);
@@ -214,6 +217,7 @@ module _ (old : Disk) (had : Directory) (ps : List (Parts SegmentLog)) (mid : Di
       in_use = λ h own.
           use_stays mid.files old.files (owners_in had (length ps)) (λ g n is. unchanged h (Catalog (length ps) g) refl n is) (λ i q n is. unchanged h (Partition (length ps) i q) refl n is) (generation_of p) (known p.catalog)
           (subst (λ (of : Owners). IsInUse mid.files of (generation_of p) (known p.catalog)) same_owners (used h (next_headed (string_bytes p.tenant) p.segment_bytes (clears.honest h) own)));
+      numbered = λ g some from below. sym (before.others (Catalog (length ps) g) (omega arith)) ∙ numbered g some from below;
       refusals = calm;
       newer = λ g above. taken.newer g above ∙ before.others (Catalog (length ps) g) (omega arith);
       gone = λ o is file was now.
@@ -225,27 +229,27 @@ module _ (old : Disk) (had : Directory) (ps : List (Parts SegmentLog)) (mid : Di
       apart = none_left;
     }
 
-    each_now : (t : ℕ) (q : Parts SegmentLog) → slice_get (ps ++ p ∷ []) t ≡ Some q → IsRestored old had t q now next left
+    each_now : (t : ℕ) (q : Parts SegmentLog) → slice_get (ps ++ p ∷ []) t ≡ Some q → IsRestored old had t q now last left
     each_now t q at = ⊎_elim
         (λ was. each_old t q was)
-        (λ (e : (t ≡ length ps) × (p ≡ q)). subst (λ u. IsRestored old had u q now next left) (sym e.0) (subst (λ (v : Parts SegmentLog). IsRestored old had (length ps) v now next left) e.1 each_new))
+        (λ (e : (t ≡ length ps) × (p ≡ q)). subst (λ u. IsRestored old had u q now last left) (sym e.0) (subst (λ (v : Parts SegmentLog). IsRestored old had (length ps) v now last left) e.1 each_new))
         (item_at ps p q t at)
 
     same : (file : ℕ) → Contains (all_files left) file → IsAsBefore mid now file
     same file is = All-contains (IsAsBefore mid now) (all_files left) file stay is
 
-    listed_now : AreListed left now next
+    listed_now : AreListed left now last
     listed_now = record {
       there = all_from (λ n. IsThere now n) (all_files left) (λ n is. subst (λ o. IsSome o) (sym (same n is).length) (All-contains (λ n. IsThere mid n) (all_files has) n before.listed.there (still n is)));
-      given_out = all_from (λ n. n < next) (all_files left) (λ n is. All-contains (λ n. n < next) (all_files has) n before.listed.given_out (still n is));
+      given_out = all_from (λ n. n < last) (all_files left) (λ n is. let below : n < next = All-contains (λ n. n < next) (all_files has) n before.listed.given_out (still n is) in omega (arith, below, later));
       once = (distinct_parts some.taken (all_files left) (distinct_moved (all_files has) (some.taken ++ all_files left) some.all before.listed.once)).1;
     }
 
     many : length (ps ++ p ∷ []) ≡ length ps + 1
     many = length-append ps (p ∷ [])
 
-    pub next_restored : (qs : List (Parts SegmentLog)) → qs ≡ ps ++ p ∷ [] → AreRestored old had qs now next left
-    next_restored qs grown = subst (λ (xs : List (Parts SegmentLog)). AreRestored old had xs now next left) (sym grown) record {
+    pub next_restored : (qs : List (Parts SegmentLog)) → qs ≡ ps ++ p ∷ [] → AreRestored old had qs now last left
+    next_restored qs grown = subst (λ (xs : List (Parts SegmentLog)). AreRestored old had xs now last left) (sym grown) record {
       each = each_now;
       others = λ o le. taken.others o (λ e. omega (arith, le, e, many)) ∙ before.others o (omega (arith, le, many));
       strays = taken.strays ∙ before.strays;

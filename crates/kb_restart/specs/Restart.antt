@@ -22,7 +22,8 @@ use Rattle.kb_opening.specs.Opened.{Owners, IsInUse, IsOpened, IsOnly, TenantLos
 use Rattle.kb_opening.specs.Owners.{catalog_of, partition_of, strays_of}
 use Rattle.kb_opening.specs.Directory.{all_files, files_at}
 use Rattle.kb_opening.specs.Settled.{AreAccounted}
-use Rattle.kb_opening.specs.Tenant.{owners_in, generation_of, tenant_in, AreListed, AreOwnNamed, IsOfTenant, IsTaken, IsTenantOf}
+use Rattle.kb_opening.specs.Tenant.{owners_in, generation_of, tenant_in, AreListed, AreNumberedBelow, AreOwnNamed}
+use Rattle.kb_opening.specs.Tenant.{IsOfTenant, IsTaken, IsTenantOf}
 use Rattle.kb_opening.specs.declared.directory.Directory.{Directory}
 use Rattle.kb_opening.specs.declared.owner.Owner.{Owner}
 use Rattle.kb_opening.specs.declared.owner.Owner.TheVariants as owners
@@ -115,7 +116,7 @@ pub record IsOfFirst (d : Directory) (count file : ℕ) : Type 0 where
 
 -- The parts of a tenant, opened from the files that a directory has of it, as they were; of them the directory has those alone now
 -- that are of partitions which its topics have not, or of a generation above the one in use; and nothing but its batches is in the
--- files of a log.
+-- files of a log. The next file number is above each generation that it had files of.
 pub record IsRestored (old : Disk) (had : Directory) (tenant : ℕ) (parts : Parts SegmentLog) (new : Disk) (next : ℕ)
     (has : Directory) : Type 0 where
   pub sound : IsSound segment_log parts new.table next
@@ -124,6 +125,7 @@ pub record IsRestored (old : Disk) (had : Directory) (tenant : ℕ) (parts : Par
       → IsTenantOf old.files (owners_in had tenant) parts new.files
   pub in_use : new.honest → AreOwnNamed (string_bytes parts.tenant) parts.segment_bytes tenant old.files had
       → IsInUse old.files (owners_in had tenant) (generation_of parts) (known parts.catalog)
+  pub numbered : AreNumberedBelow had tenant next
   pub refusals : parts.refusals ≡ 0
   pub gone : (o : Owner) → IsTaken tenant (generation_of parts) (known parts.catalog) o → (file : ℕ) → Contains (files_at o had) file
       → Contains (all_files has) file → ⊥

@@ -1,7 +1,7 @@
 //! A broker that is stopped and opened again.
 ghost use Rattle.std.specs.Prelude.{◌≡◌, ℕ, List, Some, slice_get, IfOk};
 ghost use Rattle.std.specs.FinMap.{keys};
-ghost use Rattle.kb_tenant_api.specs.Hosted.{names_of, refusals_of};
+ghost use Rattle.kb_tenant_api.specs.Hosted.{names_of};
 ghost use Rattle.kb_broker.specs.Opening.{tenants_of};
 ghost use Rattle.kb_restart.specs.Again.{AreStillStrays, HasSame};
 
@@ -13,9 +13,9 @@ use std::alloc::Global;
 
 /// Stops a broker, and opens one with the files that it leaves, under the same settings.
 ///
-/// A tenant to which nothing was ever refused finds what it had, whatever was refused to others, where its topics took none of the
-/// files that the first one left alone. It finds its topics with their settings, starts and committed offsets, how many producer ids
-/// were given out, and the log of each partition. What it does not find is its groups' members.
+/// Each tenant finds what it had, whatever was refused, where its topics took none of the files that the first one left alone. It finds
+/// its topics with their settings, starts and committed offsets, how many producer ids were given out, and the log of each partition.
+/// What it does not find is its groups' members.
 ///
 /// Refused as `open_broker` is.
 pub fn reopen<S: Store>(
@@ -26,7 +26,7 @@ pub fn reopen<S: Store>(
 ) -> Result<Restarted<S>, OpenRefused<S>>
     ensures same { IfOk result (λ opened. (S.disk opened.broker.store).honest → (strays : List ℕ) → broker.strays ≡ Some strays
         → names_of broker.state.tenants ≡ tenants_of settings.now.users.items
-        → (t : ℕ) (name : List ℕ) → slice_get (names_of broker.state.tenants) t ≡ Some name → refusals_of broker.state.tenants t ≡ 0
+        → (t : ℕ) (name : List ℕ) → slice_get (names_of broker.state.tenants) t ≡ Some name
         → AreStillStrays (S.disk broker.store).files (keys (S.disk broker.store).table)
         (names_of broker.state.tenants) broker.state.tenants name strays
         → HasSame opened.broker.state.tenants broker.state.tenants t) }

@@ -21,12 +21,12 @@ returns g c =
     let store = c.into_store.ensures.store in
     record {
       same = ok_both c.open_broker.result
-          (λ opened only others honest strays is named t name at none left.
+          (λ opened only others honest strays is named t name at left.
           let was = (others honest).honest honest in
           let apart : AreApart (names_of old) = subst AreApart (sym named) (apart_of names (rises-in_order (map tenant_of c.args.settings.now.users.items))) in
           let here : slice_get names t ≡ Some name = ap (λ ns. slice_get ns t) (sym named) ∙ at in
           let within : t < length old = subst (λ n. t < n) (length-map old (λ (x : TenantState). x.name)) (slice_get_within (names_of old) t name at) in
-          let kept = c.into_store.ensures.in_files was strays is t within none in
+          let kept = c.into_store.ensures.in_files was strays is t within in
           only honest t name here _ _ (is_found d (g.met.S.Store.lawful c.args.broker.store) was strays old t kept apart name at left).opened)
           (subst (λ s. IfOk c.open_broker.result (λ opened. (disk opened.broker.store).honest → AreOnly (disk s).files (keys (disk s).table) names opened.broker.state.tenants)) store c.open_broker.ensures.only)
           (subst (λ s. IfOk c.open_broker.result (λ opened. (disk opened.broker.store).honest → Clears (IsOfLog (disk s).files (keys (disk s).table) names) (disk s) (disk opened.broker.store))) store c.open_broker.ensures.others);

@@ -1,9 +1,10 @@
-use Rattle.std.proofs.Common.{◌∙◌, ℕ, Err, List, length, map, sym, ap, subst}
+use Rattle.std.proofs.Common.{◌∙◌, ℕ, Err, List, length, map, sym, ap, subst, arith}
 use Rattle.std.proofs.lemmas.Result.{err_from_is_err_and}
 use Rattle.std.proofs.lemmas.List.{length-map}
 use Rattle.std.proofs.lemmas.List.Sorted.{Contains-permutation, IsPermutation-sym}
 use Rattle.kb_store.specs.Disk.{Files}
 use Rattle.kb_opening.specs.Directory.{all_files}
+use Rattle.kb_opening.specs.Tenant.{RaisesNext}
 use Rattle.kb_restart.proofs.Read.{same_owners, listed, read_listed, cleared, are_sound, none_refused, are_in_use, are_opened, left_all}
 use Rattle.kb_opening.proofs.Openings.{missed_since}
 use Rattle.kb_restart.specs.Restart.{owners_of, AreOwnedNamed}
@@ -321,3 +322,22 @@ returns-in_err-next_instances-clause-lost_nothing g c = λ h t name at.
     let dir = e.what before in
     let headed = subst (λ (fs : Files). AreOwnedNamed names c.args.segment_bytes fs d) (sym (e.unchanged.files before)) (all_headed first.files names files d dir c.args.segment_bytes) in
     tenant_kept (owners_of first.files files name) first mid now e.unchanged before (subst (λ (of : Owners). TenantLosesNothing of mid now) (same_owners first files c.args.shelf.now.next q.there q.given_out q.once d e.all names dir t name at) (f.lost_nothing h headed t))
+
+-- ---- the next number
+
+pub returns-clause-next : goal.returns-clause-next
+returns-clause-next g c = subst (λ m. RaisesNext m c.open_tenants.new.shelf.next) c.in_ok-directory.ensures.next c.in_ok-parts.ensures.next
+
+pub returns-in_err-next_instances-clause-next : goal.returns-in_err-next_instances-clause-next
+returns-in_err-next_instances-clause-next g c = subst (λ m. RaisesNext m c.open_tenants.new.shelf.next) c.in_ok-directory.ensures.next c.in_ok-parts.ensures.next
+
+pub returns-in_err-strays-clause-next : goal.returns-in_err-strays-clause-next
+returns-in_err-strays-clause-next g c = subst (λ m. RaisesNext m c.open_tenants.new.shelf.next) c.in_ok-directory.ensures.next c.in_ok-parts.ensures.next
+
+pub returns-in_err-parts-clause-next : goal.returns-in_err-parts-clause-next
+returns-in_err-parts-clause-next g c = subst (λ m. RaisesNext m c.open_tenants.new.shelf.next) c.in_ok-directory.ensures.next c.in_err-parts.ensures.next
+
+pub returns-in_err-directory-clause-next : goal.returns-in_err-directory-clause-next
+returns-in_err-directory-clause-next g c =
+    let same = c.in_err-directory.ensures.next in
+    record { later = omega (arith, same); room = omega (arith, same) }

@@ -1,17 +1,18 @@
-use Rattle.std.proofs.Common.{◌≡◌, ◌∙◌, ℕ, Err, List, length, map, string_bytes, refl, sym, ap, subst, arith}
+use Rattle.std.proofs.Common.{◌≡◌, ◌∙◌, ◌<◌, ◌^◌, ℕ, Err, List, length, map, string_bytes, refl, sym, ap, subst, arith}
 use Rattle.std.specs.List.{All, Contains}
 use Rattle.std.proofs.lemmas.Result.{err_from_is_err_and}
 use Rattle.kb_segment_log.specs.SegmentLog.{segment_log, Clears}
 use Rattle.kb_topics.specs.Catalog.{known}
-use Rattle.kb_tenant_state.specs.Parts.{IsSound, Owns}
+use Rattle.kb_tenant_state.specs.Parts.{Owns}
 use Rattle.kb_segment_log.specs.declared.log.SegmentLog.{SegmentLog}
 use Rattle.kb_tenant_state.specs.declared.parts.Parts.{Parts}
-use Rattle.kb_opening.specs.Tenant.{owners_in, generation_of, AreOwnNamed, IsOfTenant, IsTaken, IsTenantOf, TakesTenant}
+use Rattle.kb_opening.specs.Tenant.{owners_in, generation_of, AreNumberedBelow, AreOwnNamed, IsOfTenant, IsTaken, IsTenantOf, TakesTenant}
 use Rattle.kb_opening.specs.Directory.{all_files, files_at}
 use Rattle.kb_opening.specs.declared.owner.Owner.{Owner}
 use Rattle.kb_restart.proofs.Restored.{none_restored, next_clears, next_own, next_restored, one_more, names_more, all_more, passed_on}
 use Rattle.kb_restart.specs.Restart.{names_in, AreOwnedNamed}
 use Rattle.kb_opening.proofs.Openings.{clears_wider}
+use Rattle.kb_opening.proofs.Taken.{listed_later, raised_twice}
 use Rattle.kb_opening.specs.Opened.{IsInUse, TenantLosesNothing}
 use Rattle.kb_segment_log.proofs.Comes.{headers_then}
 use Rattle.kb_restart.proofs.Same.{none_changed, tenants_lost}
@@ -28,7 +29,7 @@ returns-in_err-parts-clause-others g c =
     let now = g.S.Store.disk c.open_tenant.new.shelf.store in
     let count = i.count in
     clears_wider first now (λ file f. let lt = f.first in record { tenant = f.tenant; first = omega (arith, lt, count); has = f.has })
-    (next_clears first c.args.directory.now ps mid c.args.shelf.now.next has c.requires.once i.restored now (subst (λ n. Clears (IsOfTenant has n) mid now) (sym count) c.in_err-parts.ensures.others))
+    (next_clears first c.args.directory.now ps mid c.loop-tenant.shelf.next has c.requires.once i.restored now (subst (λ n. Clears (IsOfTenant has n) mid now) (sym count) c.in_err-parts.ensures.others))
 
 pub returns-in_err-parts-clause-cause : goal.returns-in_err-parts-clause-cause
 returns-in_err-parts-clause-cause g c =
@@ -38,11 +39,13 @@ returns-in_err-parts-clause-cause g c =
     let now = g.S.Store.disk c.open_tenant.new.shelf.store in
     let e = c.in_err-parts.ensures in
     let p = err_from_is_err_and c.from_residual-in_err-parts.result c.from_residual-in_err-parts.ensures.1 in
-    let next = c.args.shelf.now.next in
+    let next = c.loop-tenant.shelf.next in
+    let first_next = c.args.shelf.now.next in
+    let room = i.next.room in
     let had = c.args.directory.now in
     let has = c.loop-tenant.directory in
     let all = AreOwnedNamed (map (λ name. name.now) c.args.names.now) c.args.segment_bytes first.files had in
-    passed_on first mid now next c.loop-tenant.shelf.next all _ c.from_residual-in_err-parts.result c.in_err-parts.field-0.0 e.cause (p.1 ∙ ap Err p.2) i.next i.later
+    passed_on first mid now first_next next all _ c.from_residual-in_err-parts.result c.in_err-parts.field-0.0 e.cause (p.1 ∙ ap Err p.2) (λ fits. omega (arith, room, fits)) i.later
     (λ h own. next_own first had c.loop-tenant.tenants.items mid next has c.requires.once i.restored c.args.names.now c.args.segment_bytes c.loop-tenant.tenant _ i.count (omega arith) (e.others.honest h) own)
 
 pub returns-in_err-push-clause-others : goal.returns-in_err-push-clause-others
@@ -55,7 +58,7 @@ returns-in_err-push-clause-others g c =
     let now = g.S.Store.disk c.open_tenant.new.shelf.store in
     let count = i.count in
     clears_wider first now (λ file f. let lt = f.first in record { tenant = f.tenant; first = omega (arith, lt, count); has = f.has })
-    (next_clears first c.args.directory.now ps mid c.args.shelf.now.next has c.requires.once i.restored now (subst (λ n. Clears (IsOfTenant has n) mid now) (sym count) c.in_ok-parts.ensures.others))
+    (next_clears first c.args.directory.now ps mid c.loop-tenant.shelf.next has c.requires.once i.restored now (subst (λ n. Clears (IsOfTenant has n) mid now) (sym count) c.in_ok-parts.ensures.others))
 
 pub loop-tenant-preserved : goal.loop-tenant-preserved
 loop-tenant-preserved g c =
@@ -73,13 +76,13 @@ loop-tenant-preserved g c =
     let more = e.cause.later in
     let grown = c.in_ok-push.ensures.items in
     record {
-      next = e.next ∙ i.next;
+      next = raised_twice c.args.shelf.now.next c.loop-tenant.shelf.next c.open_tenant.new.shelf.next i.next e.next.raised;
       later = omega (arith, before, more);
       count = one_more ps c.push.new.self.items p c.loop-tenant.tenant grown i.count;
       names = names_more c.args.names.now c.loop-tenant.tenant _ ps c.push.new.self.items p (omega arith) i.names grown e.name;
       sizes = all_more (λ (x : Parts SegmentLog). x.segment_bytes ≡ c.args.segment_bytes) ps c.push.new.self.items p i.sizes grown e.size;
-      restored = next_restored first c.args.directory.now ps mid c.args.shelf.now.next has c.requires.once i.restored p now left
-          (subst (λ n. IsSound segment_log p now.table n) (e.next ∙ i.next) e.sound)
+      restored = next_restored first c.args.directory.now ps mid c.loop-tenant.shelf.next has c.requires.once i.restored p now c.open_tenant.new.shelf.next left
+          e.next.raised.later (subst (λ n. AreNumberedBelow has n c.open_tenant.new.shelf.next) count e.next.above) e.sound
           (λ file own. subst (λ n. IsOfTenant has n file) count (e.owned file own))
           (λ h own. subst (λ n. IsTenantOf mid.files (owners_in has n) p now.files) count
           (e.opened h (subst (λ ns. AreOwnNamed ns c.args.segment_bytes c.loop-tenant.tenant mid.files has) e.name
@@ -96,9 +99,9 @@ loop-tenant-preserved g c =
           (subst (λ n. Clears (IsOfTenant has n) mid now) count e.others)
           e.exact e.accounted e.apart
           c.push.new.self.items grown;
-      headers = λ h own. headers_then first mid now (i.headers (e.others.honest h) own) (e.headers h (next_own first c.args.directory.now ps mid c.args.shelf.now.next has c.requires.once i.restored c.args.names.now c.args.segment_bytes c.loop-tenant.tenant _ i.count (omega arith) (e.others.honest h) own));
-      lost = λ h own. tenants_lost first c.args.directory.now ps mid c.args.shelf.now.next has c.requires i.restored now (subst (λ n. Clears (IsOfTenant has n) mid now) count e.others) (i.lost (e.others.honest h) own)
-          (subst (λ n. TenantLosesNothing (owners_in has n) mid now) count (e.lost_nothing h (next_own first c.args.directory.now ps mid c.args.shelf.now.next has c.requires.once i.restored c.args.names.now c.args.segment_bytes c.loop-tenant.tenant _ i.count (omega arith) (e.others.honest h) own))) h;
+      headers = λ h own. headers_then first mid now (i.headers (e.others.honest h) own) (e.headers h (next_own first c.args.directory.now ps mid c.loop-tenant.shelf.next has c.requires.once i.restored c.args.names.now c.args.segment_bytes c.loop-tenant.tenant _ i.count (omega arith) (e.others.honest h) own));
+      lost = λ h own. tenants_lost first c.args.directory.now ps mid c.loop-tenant.shelf.next has (listed_later c.args.directory.now first c.args.shelf.now.next c.loop-tenant.shelf.next c.requires i.next.later) i.restored now (subst (λ n. Clears (IsOfTenant has n) mid now) count e.others) (i.lost (e.others.honest h) own)
+          (subst (λ n. TenantLosesNothing (owners_in has n) mid now) count (e.lost_nothing h (next_own first c.args.directory.now ps mid c.loop-tenant.shelf.next has c.requires.once i.restored c.args.names.now c.args.segment_bytes c.loop-tenant.tenant _ i.count (omega arith) (e.others.honest h) own))) h;
     }
 
 pub returns-in_err-parts-clause-headers : goal.returns-in_err-parts-clause-headers
@@ -111,7 +114,7 @@ returns-in_err-parts-clause-headers g c = λ h own.
     let now = g.S.Store.disk c.open_tenant.new.shelf.store in
     let count = sym i.count in
     let e = c.in_err-parts.ensures in
-    headers_then first mid now (i.headers (e.others.honest h) own) (e.headers h (next_own first c.args.directory.now ps mid c.args.shelf.now.next has c.requires.once i.restored c.args.names.now c.args.segment_bytes c.loop-tenant.tenant _ i.count (omega arith) (e.others.honest h) own))
+    headers_then first mid now (i.headers (e.others.honest h) own) (e.headers h (next_own first c.args.directory.now ps mid c.loop-tenant.shelf.next has c.requires.once i.restored c.args.names.now c.args.segment_bytes c.loop-tenant.tenant _ i.count (omega arith) (e.others.honest h) own))
 
 pub returns-in_err-parts-clause-lost_nothing : goal.returns-in_err-parts-clause-lost_nothing
 returns-in_err-parts-clause-lost_nothing g c = λ h own.
@@ -123,8 +126,8 @@ returns-in_err-parts-clause-lost_nothing g c = λ h own.
     let now = g.S.Store.disk c.open_tenant.new.shelf.store in
     let count = sym i.count in
     let e = c.in_err-parts.ensures in
-    tenants_lost first c.args.directory.now ps mid c.args.shelf.now.next has c.requires i.restored now (subst (λ n. Clears (IsOfTenant has n) mid now) count e.others) (i.lost (e.others.honest h) own)
-    (subst (λ n. TenantLosesNothing (owners_in has n) mid now) count (e.lost_nothing h (next_own first c.args.directory.now ps mid c.args.shelf.now.next has c.requires.once i.restored c.args.names.now c.args.segment_bytes c.loop-tenant.tenant _ i.count (omega arith) (e.others.honest h) own))) h
+    tenants_lost first c.args.directory.now ps mid c.loop-tenant.shelf.next has (listed_later c.args.directory.now first c.args.shelf.now.next c.loop-tenant.shelf.next c.requires i.next.later) i.restored now (subst (λ n. Clears (IsOfTenant has n) mid now) count e.others) (i.lost (e.others.honest h) own)
+    (subst (λ n. TenantLosesNothing (owners_in has n) mid now) count (e.lost_nothing h (next_own first c.args.directory.now ps mid c.loop-tenant.shelf.next has c.requires.once i.restored c.args.names.now c.args.segment_bytes c.loop-tenant.tenant _ i.count (omega arith) (e.others.honest h) own))) h
 
 pub returns-in_err-push-clause-headers : goal.returns-in_err-push-clause-headers
 returns-in_err-push-clause-headers g c = λ h own.
@@ -136,7 +139,7 @@ returns-in_err-push-clause-headers g c = λ h own.
     let now = g.S.Store.disk c.open_tenant.new.shelf.store in
     let count = sym i.count in
     let e = c.in_ok-parts.ensures in
-    headers_then first mid now (i.headers (e.others.honest h) own) (e.headers h (next_own first c.args.directory.now ps mid c.args.shelf.now.next has c.requires.once i.restored c.args.names.now c.args.segment_bytes c.loop-tenant.tenant _ i.count (omega arith) (e.others.honest h) own))
+    headers_then first mid now (i.headers (e.others.honest h) own) (e.headers h (next_own first c.args.directory.now ps mid c.loop-tenant.shelf.next has c.requires.once i.restored c.args.names.now c.args.segment_bytes c.loop-tenant.tenant _ i.count (omega arith) (e.others.honest h) own))
 
 pub returns-in_err-push-clause-lost_nothing : goal.returns-in_err-push-clause-lost_nothing
 returns-in_err-push-clause-lost_nothing g c = λ h own.
@@ -148,8 +151,8 @@ returns-in_err-push-clause-lost_nothing g c = λ h own.
     let now = g.S.Store.disk c.open_tenant.new.shelf.store in
     let count = sym i.count in
     let e = c.in_ok-parts.ensures in
-    tenants_lost first c.args.directory.now ps mid c.args.shelf.now.next has c.requires i.restored now (subst (λ n. Clears (IsOfTenant has n) mid now) count e.others) (i.lost (e.others.honest h) own)
-    (subst (λ n. TenantLosesNothing (owners_in has n) mid now) count (e.lost_nothing h (next_own first c.args.directory.now ps mid c.args.shelf.now.next has c.requires.once i.restored c.args.names.now c.args.segment_bytes c.loop-tenant.tenant _ i.count (omega arith) (e.others.honest h) own))) h
+    tenants_lost first c.args.directory.now ps mid c.loop-tenant.shelf.next has (listed_later c.args.directory.now first c.args.shelf.now.next c.loop-tenant.shelf.next c.requires i.next.later) i.restored now (subst (λ n. Clears (IsOfTenant has n) mid now) count e.others) (i.lost (e.others.honest h) own)
+    (subst (λ n. TenantLosesNothing (owners_in has n) mid now) count (e.lost_nothing h (next_own first c.args.directory.now ps mid c.loop-tenant.shelf.next has c.requires.once i.restored c.args.names.now c.args.segment_bytes c.loop-tenant.tenant _ i.count (omega arith) (e.others.honest h) own))) h
 
 pub returns-in_err-tenants-clause-lost_nothing : goal.returns-in_err-tenants-clause-lost_nothing
 returns-in_err-tenants-clause-lost_nothing g c = λ h own. none_changed c.args.directory.now (g.S.Store.disk c.args.shelf.now.store) c.args.shelf.now.next c.requires
@@ -159,7 +162,7 @@ returns-in_err-tenants-clause-headers g c = λ h own file there. (there, refl)
 
 pub loop-tenant-init : goal.loop-tenant-init
 loop-tenant-init g c = record {
-  next = refl;
+  next = record { later = omega arith; room = omega arith };
   later = omega arith;
   count = ap length c.in_ok-tenants.ensures.items;
   names = ap names_in c.in_ok-tenants.ensures.items;
@@ -168,3 +171,14 @@ loop-tenant-init g c = record {
   headers = λ h own file there. (there, refl);
   lost = λ h own. none_changed c.args.directory.now (g.S.Store.disk c.args.shelf.now.store) c.args.shelf.now.next c.requires;
 }
+
+-- ---- the next number
+
+pub returns-in_err-parts-clause-next : goal.returns-in_err-parts-clause-next
+returns-in_err-parts-clause-next g c = raised_twice c.args.shelf.now.next c.loop-tenant.shelf.next c.open_tenant.new.shelf.next c.loop-tenant.invariant.next c.in_err-parts.ensures.next.raised
+
+pub returns-in_err-push-clause-next : goal.returns-in_err-push-clause-next
+returns-in_err-push-clause-next g c = raised_twice c.args.shelf.now.next c.loop-tenant.shelf.next c.open_tenant.new.shelf.next c.loop-tenant.invariant.next c.in_ok-parts.ensures.next.raised
+
+pub returns-in_err-tenants-clause-next : goal.returns-in_err-tenants-clause-next
+returns-in_err-tenants-clause-next g c = record { later = omega arith; room = omega arith }

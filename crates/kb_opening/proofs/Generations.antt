@@ -14,7 +14,7 @@ use Rattle.std.specs.declared.vec.Vec.{Vec}
 use Rattle.std.proofs.lemmas.List.Elements.{All-contains, All-contains_itself}
 use Rattle.std.proofs.lemmas.List.Sorted.{IsPermutation-refl, IsPermutation-trans, IsPermutation-append_right}
 use Rattle.std.proofs.lemmas.Option.{same_Some}
-use Rattle.kb_store.specs.Disk.{Disk, Files, IsThere, Keeps}
+use Rattle.kb_store.specs.Disk.{Disk, Files, IsThere}
 use Rattle.kb_segment.specs.Header.{header_in}
 use Rattle.kb_log.specs.OnShelf.{OnlyRemoves}
 use Rattle.kb_segment_log.specs.SegmentLog.{Clears}
@@ -24,20 +24,19 @@ use Rattle.kb_segment_log.proofs.Opened.{Removing}
 use Rattle.kb_segment_log.proofs.Unique.{one_chain}
 use Rattle.kb_topics.specs.Replay.{IsReady}
 use Rattle.kb_topics.specs.declared.command.Command.{Command}
-use Rattle.kb_topics.specs.declared.stage.Stage.{Stage}
 use Rattle.kb_topics.specs.declared.stage.Stage.TheVariants.{Fresh, Left}
-use Rattle.kb_topics.specs.Known.{Known, empty}
+use Rattle.kb_topics.specs.Known.{Known}
 use Rattle.kb_topics.specs.MetaLog.{SayEach}
 use Rattle.kb_topics.specs.Reading.{Reading, in_use, read_all, starting_at}
 use Rattle.kb_replay.specs.Shown.{HasRead, IsStopped}
 use Rattle.kb_opening.specs.Catalog.{IsGreatest, IsWhole}
 use Rattle.kb_opening.specs.Owners.{owner_cmp}
-use Rattle.kb_opening.specs.Directory.{all_files, files_at, items_of, NoneBetween, TakesOut}
+use Rattle.kb_opening.specs.Directory.{all_files, files_at, items_of, HasFiles, NoneBetween, TakesOut}
 use Rattle.kb_opening.specs.Opened.{ComesToKnown, EndsWith, IsLongest, NoneAbove}
 use Rattle.kb_opening.specs.Tenant.{owners_in, AreListed, IsOfOlder, TakesOlder, TakesSome}
 use Rattle.kb_opening.specs.declared.directory.Directory.{Directory}
 use Rattle.kb_opening.specs.declared.owner.Owner.{Owner}
-use Rattle.kb_opening.specs.declared.owner.Owner.TheVariants.{Catalog, Partition}
+use Rattle.kb_opening.specs.declared.owner.Owner.TheVariants.{Catalog}
 use Rattle.kb_opening.proofs.Catalogs.{ready_is}
 use Rattle.kb_opening.proofs.Entries.{same_files}
 use Rattle.kb_opening.proofs.Openings.{clears_then}
@@ -320,6 +319,28 @@ lt_catalogs u t g h most upper lt = by (nat_cmp u t) upper
     by Less e = refl
     by Equal e = lt_numbers g h lt
     by Greater e = absurd (false≢true (sym e))
+
+-- a catalog between two of a tenant is that tenant's
+same_tenant : (t u g most : ℕ) → is_gt (owner_cmp (Catalog t 0) (Catalog u g)) ≡ false → is_gt (owner_cmp (Catalog u g) (Catalog t most)) ≡ false → u ≡ t
+same_tenant t u g most lower upper = by (nat_cmp t u) (nat_cmp u t) refl refl lower upper
+  where
+    by : (o p : Ordering) → nat_cmp t u ≡ o → nat_cmp u t ≡ p → is_gt (ordering_then o (nat_cmp 0 g)) ≡ false → is_gt (ordering_then p (nat_cmp g most)) ≡ false → u ≡ t
+    by Greater p here there low up = absurd (false≢true (sym low))
+    by o Greater here there low up = absurd (false≢true (sym up))
+    by Equal p here there low up = let e : t ≡ u = rank t u Equal here in sym e
+    by o Equal here there low up = rank u t Equal there
+    by Less Less here there low up =
+        let l : t < u = rank t u Less here in
+        let m : u < t = rank u t Less there in
+        absurd (omega (arith, l, m))
+
+pub latest_there : (d : Directory) (t most u g : ℕ) (key : Owner) → key ≡ Catalog u g → is_gt (owner_cmp (Catalog t 0) key) ≡ false
+    → is_gt (owner_cmp key (Catalog t most)) ≡ false → IsSome (tree.get owner_cmp d.owned key) → HasFiles d (Catalog t g)
+latest_there d t most u g key is lower upper there =
+    let same = same_tenant t u g most
+    (subst (λ (k : Owner). is_gt (owner_cmp (Catalog t 0) k) ≡ false) is lower)
+    (subst (λ (k : Owner). is_gt (owner_cmp k (Catalog t most)) ≡ false) is upper) in
+    subst (λ (v : ℕ). HasFiles d (Catalog v g)) same (subst (λ (k : Owner). HasFiles d k) is there)
 
 -- the last of a range of catalogs is the latest
 pub latest_none : (d : Directory) (t most u g : ℕ) (key : Owner) → key ≡ Catalog u g → is_gt (owner_cmp key (Catalog t most)) ≡ false

@@ -1,6 +1,6 @@
 -- What a directory says of the files of a store.
 use Rattle.std.specs.Prelude.{◌≡◌, ◌≢◌, ◌≤◌, ◌<◌, ℕ, Bool, List, [], ◌∷◌, ◌++◌, map, Option, Some, None, is_none, IsPermutation, slice_get}
-use Rattle.std.specs.Prelude.{if◌then◌else◌}
+use Rattle.std.specs.Prelude.{if◌then◌else◌, IsSome}
 use Rattle.std.specs.BTreeMap as tree
 use Rattle.std.specs.List.{concat}
 use Rattle.std.specs.declared.alloc.Global.{Global}
@@ -46,6 +46,10 @@ pub record IsDirectory (files : Files) (names : List (List ℕ)) (numbers : List
 abbrev pub NoneBetween : Directory → ℕ → ℕ → ℕ → Type 0
 NoneBetween d tenant generation most =
     (above : ℕ) → generation < above → above ≤ most → files_at (Catalog tenant above) d ≡ []
+
+-- an owner has files
+abbrev pub HasFiles : Directory → Owner → Type 0
+HasFiles d owner = IsSome (tree.get owner_cmp d.owned owner)
 
 -- ---- changes
 

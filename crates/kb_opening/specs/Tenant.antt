@@ -1,5 +1,5 @@
 -- A tenant, opened from the files that a directory has of it.
-use Rattle.std.specs.Prelude.{◌≡◌, ◌≢◌, ◌≤◌, ◌<◌, ◌^◌, ◌⊎◌, ◌++◌, ℕ, max, pos, nat_eq, List, [], Some, None, IsSome, IsPermutation}
+use Rattle.std.specs.Prelude.{◌≡◌, ◌≢◌, ◌≤◌, ◌<◌, ◌+◌, ◌^◌, ◌⊎◌, ◌++◌, ℕ, max, pos, nat_eq, List, [], Some, None, IsSome, IsPermutation}
 use Rattle.std.specs.List.{All, Contains, IsDistinct}
 use Rattle.kb_store.specs.Disk.{Disk, Files, IsThere}
 use Rattle.kb_batch.specs.Batch.{natural}
@@ -13,7 +13,7 @@ use Rattle.kb_tenant_state.specs.Partitions.{logs_of, partition_identity}
 use Rattle.kb_tenant_state.specs.Parts.{Agrees, entries, meta}
 use Rattle.kb_tenant_state.specs.declared.parts.Parts.{Parts}
 use Rattle.kb_opening.specs.Opened.{Owners, ComesToKnown, HasLogs, IsOpened}
-use Rattle.kb_opening.specs.Directory.{all_files, files_at}
+use Rattle.kb_opening.specs.Directory.{all_files, files_at, HasFiles}
 use Rattle.kb_opening.specs.declared.owner.Owner.{Owner}
 use Rattle.kb_opening.specs.declared.owner.Owner.TheVariants.{Catalog, Partition}
 use Rattle.kb_opening.specs.declared.directory.Directory.{Directory}
@@ -68,10 +68,11 @@ pub record RaisesNext (old new : ℕ) : Type 0 where
   pub later : old ≤ new
   pub room : new ≤ max old (2 ^ 63)
 
--- It was raised above each generation above 0 of a tenant's catalog that has files, where it was not above them.
+-- It was raised above each generation above 0 of a tenant's catalog that has files, where it was not above them, and no further.
 pub record RaisesAbove (d : Directory) (t old new : ℕ) : Type 0 where
   pub raised : RaisesNext old new
   pub above : AreNumberedBelow d t new
+  pub least : (new ≡ old) ⊎ ((g : ℕ) × (new ≡ g + 1) × HasFiles d (Catalog t g))
 
 -- A generation that a header may say, and that was begun.
 pub record MayBeOpened (generation next : ℕ) : Type 0 where

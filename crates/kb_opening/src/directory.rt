@@ -6,7 +6,7 @@ ghost use Rattle.std.specs.Ordering.{nat_cmp};
 ghost use Rattle.std.specs.Cmp.Lexicographic.{slice_cmp};
 ghost use Rattle.kb_store.specs.Disk.{IsThere, Keeps};
 ghost use Rattle.kb_opening.specs.Owners.{HasFault, owner_by};
-ghost use Rattle.kb_opening.specs.Directory.{all_files, files_at, IsDirectory, IsEmpty, Assigns, NoneBetween, TakesOut};
+ghost use Rattle.kb_opening.specs.Directory.{all_files, files_at, HasFiles, IsDirectory, IsEmpty, Assigns, NoneBetween, TakesOut};
 ghost use Rattle.kb_opening.specs.declared.owner.Owner.{Owner};
 ghost use Rattle.kb_opening.specs.declared.owner.Owner.TheVariants as owners;
 ghost use Rattle.kb_opening.specs.declared.directory.Directory.{Directory};
@@ -73,6 +73,7 @@ impl Directory {
         ensures none { result ≡ None → (g : ℕ) → g ≤ most → files_at (owners.Catalog tenant g) self.now ≡ [] }
         ensures up_to { IfSome result (λ generation. generation ≤ most) }
         ensures greatest { IfSome result (λ generation. NoneBetween self.now tenant generation most) }
+        ensures there { IfSome result (λ generation. HasFiles self.now (owners.Catalog tenant generation)) }
     {
         let first = Owner::Catalog {
             tenant,

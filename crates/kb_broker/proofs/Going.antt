@@ -28,6 +28,7 @@ use Rattle.kb_isolation_spec.specs.Broker.{BrokerState, IsSound, IsUnready, AreU
 use Rattle.kb_isolation_spec.specs.declared.whom.Whom.TheVariants as whoms
 use Rattle.kb_isolation_spec.specs.Turned.{Scope, Everybody, AreStill, IsGoing, IsLookedFor, SameOthers, Served, Turned, Waked}
 use Rattle.kb_isolation_spec.proofs.Sets.{IsAt, all-map, none-able, find-at}
+use Rattle.kb_isolation_spec.proofs.Feeds.{still-settled}
 use Rattle.kb_isolation_spec.proofs.Parts.{each-tenant, eqb_same, eqb_other}
 use Rattle.kb_isolation_spec.proofs.Owned.{found as found-all}
 use Rattle.kb_isolation_spec.proofs.Quiet.{first-silent, own-turn}
@@ -35,13 +36,14 @@ use Rattle.kb_isolation_spec.proofs.Turns.{free-unready, going-same, going-then,
 use Rattle.kb_isolation_spec.proofs.Wakes.{turned-quiet, turned-served}
 use Rattle.kb_isolation_spec.specs.Stranded.{NoneStranded}
 use Rattle.kb_broker.specs.Hosts.{OnStore, is_honest, IsLater, IsLaterBy, IsReadyOn, NoneReady, StepsTo}
-use Rattle.kb_broker.specs.Truth.{Begins, SpeaksAt, SpeaksTruth}
+use Rattle.kb_broker.specs.Truth.{PassesAt, SpeaksAt, SpeaksFor, SpeaksIn, SpeaksTruth}
 use Rattle.kb_broker.specs.Places.{numbers, waits_in, AreIdle, IsNext, IsScoped, IsMemberTurnAt, IsServedAt, IsTakenAt, IsTurnAt}
 use Rattle.kb_broker.specs.Parked.{deadline_at, deadline_in, until_of, AreAllOf, AreAnswered, IsKeyedAt, IsKeyedIn, IsOwnedAt, IsOwnedIn, IsQueueOf, IsAskedOnAt, IsPassedOn, IsWhose, IsLeftAmong, IsLeftBy, IsQuietAt, IsUnreadyAt, IsUnreadyIn, IsSoughtAt, IsSoughtIn, IsMinded, AreMinded, SameBut, IsServedFor, IsOwnTo, IsAllOf, IsLeftTo, IsReadyAmong, can_in, AreAmong}
 use Rattle.kb_broker.specs.declared.serving.Concerned.{Concerned}
 use Rattle.kb_broker.specs.declared.serving.Concerned.TheVariants as concerned
 use Rattle.kb_broker.proofs.Honest.{later-after, later-same, later-then, ready-of}
 use Rattle.kb_broker.proofs.Handled.{HasBegun, IsMoved, IsTaken, idle-none, moved-going, moved-held, moved-others, moved-step, moved-unready, put_with, unready-over, waked-still, scoped-turned, served-for, served-taken}
+use Rattle.kb_broker.proofs.Truth.{in_then, moment_then}
 use Rattle.kb_broker.proofs.Parked.{IsCarried, among, among-same, among-settled, at-unready, carried-same, carried-turn, deadline-free, each-find, find-set, first-least, minded-all, queue-put, unready-at, waiting-on}
 
 -- 1. Numbers that are put in
@@ -410,10 +412,10 @@ confined-these ns n a b c own first then k apart = then k apart ∙ first k (λ 
 -- what the tenants' own parts, and then looks, left of the broker on its store, before the turns
 pub record IsAwake {S : Type 0} (disk : S → Disk) (now : ℕ) (answered : Option (Vec ℕ Global)) (a s b : OnStore S) : Type 0 where
   pub ready : IsReadyOn disk a
-  pub first : IsLaterBy disk (Begins (Moment now)) a s
+  pub first : IsLaterBy disk (PassesAt now) a s
   pub begun : HasBegun (is_honest disk s) now answered a.state s.state
   pub going : IsGoing s.state b.state
-  pub later : IsLater disk s b
+  pub later : IsLaterBy disk (SpeaksFor whoms.All) s b
   pub waked : is_honest disk b → Waked whoms.All s.state b.state
   pub rest : is_honest disk b → IsReadyAmong answered s.state → AreUnready AnyWait b.state
 
@@ -444,8 +446,11 @@ pub moved-on : {S : Type 0} (disk : S → Disk) (now : ℕ) (answered : Option (
     → (is_honest disk d → (scope : Scope) → AreStill scope b.state → Turned scope b.state d.state) → first_able d.state.lines ≡ None → IsMovedOn disk now a d
 moved-on disk now answered a s b d h going later turned settled =
     let H = is_honest disk s in
-    let after = later-then disk s b d h.later later in
-    let whole = later-after disk (Begins (Moment now)) SpeaksTruth (SpeaksAt (Moment now)) a s d h.first after (λ begins spoken. record { begun = s.state; begins = begins; spoken = spoken }) in
+    let still = still-settled Everybody s.state (idle-none H now answered a.state s.state s.state h.ready.settled h.begun refl) in
+    let after = later-after disk (SpeaksFor whoms.All) SpeaksTruth (SpeaksIn Everybody) s b d h.later later (λ looked spoken.
+    let first = looked Everybody (λ t c. tt) still in
+    in_then Everybody s.state b.state d.state first (spoken Everybody first.still)) in
+    let whole = later-after disk (PassesAt now) (SpeaksIn Everybody) (SpeaksAt (Moment now)) a s d h.first after (moment_then now a.state s.state d.state) in
     let gone = moved-going H now answered a.state s.state b.state h.ready.settled h.begun d.state h.going going in
     let moved : is_honest disk d → IsMoved H now answered a.state s.state b.state d.state = λ honest. record {
       ready = ready-of disk a h.ready (whole.honest honest);

@@ -1,16 +1,18 @@
 -- What may be said where a store has told the truth.
-use Rattle.std.proofs.Common.{◌≡◌, ◌≤◌, ◌∙◌, ℕ, List, [], Option, Contains, refl, ap, sym, subst, arith, unwrap_or}
+use Rattle.std.proofs.Common.{◌≡◌, ◌≤◌, ◌∙◌, ℕ, List, [], Option, None, Contains, refl, ap, sym, subst, arith, unwrap_or}
 use Rattle.std.specs.Prelude.{max}
 use Rattle.kb_store.specs.Disk.{Disk}
 use Rattle.kb_tenant_api.specs.Hosted.{TenantState, names_of, refusals_of}
 use Rattle.kb_tenants.specs.declared.counts.Counts.{Counts}
 use Rattle.kb_tenants.proofs.Passed.{length_named}
 use Rattle.kb_tenants.proofs.Shares.{shares_rise, shares_same, shares_then}
-use Rattle.kb_isolation_spec.specs.Machine.{Happening, Comes, Moment}
-use Rattle.kb_isolation_spec.specs.Broker.{BrokerState, IsReady, IsUntaken}
+use Rattle.kb_isolation_spec.specs.Machine.{Comes, first_able}
+use Rattle.kb_isolation_spec.specs.Broker.{BrokerState, IsReady, IsSound, IsUntaken}
+use Rattle.kb_isolation_spec.specs.Turned.{Of, AreStill}
+use Rattle.kb_isolation_spec.specs.declared.whom.Whom.{Whom}
 use Rattle.kb_broker.specs.Hosts.{OnStore, is_honest, IsLater, IsLaterBy, IsLaterWith, IsReadyOn}
-use Rattle.kb_broker.specs.Truth.{Begins, IsTrueMoment, SpeaksAt, SpeaksTruth}
-use Rattle.kb_broker.proofs.Truth.{at_then, at_untaken, speaks_same, speaks_then}
+use Rattle.kb_broker.specs.Truth.{IsTrueMoment, PassesAt, SpeaksAt, SpeaksFor, SpeaksTruth}
+use Rattle.kb_broker.proofs.Truth.{at_untaken, comes_then, looks_same, speaks_same, speaks_then}
 
 -- a broker that is ready on its store is ready
 pub ready-of : {S : Type 0} (disk : S → Disk) (b : OnStore S) → IsReadyOn disk b → is_honest disk b → IsReady b.state
@@ -90,26 +92,35 @@ later-with disk Goes a b h = record {
 }
 
 pub later-same : {S : Type 0} (disk : S → Disk) (a : OnStore S) → IsLater disk a a
-later-same disk a = later-from disk SpeaksTruth a a (later-none (disk a.store) a.strays a.state.tenants a.counts) (λ honest. speaks_same a.state a.state refl)
+later-same disk a = later-from disk SpeaksTruth a a (later-none (disk a.store) a.strays a.state.tenants a.counts) (λ honest. speaks_same a.state)
+
+-- of the store and the tenants alone
+pub later-both : {S : Type 0} (disk : S → Disk) (P Q : BrokerState → BrokerState → Type 0) (a b c : OnStore S) → IsLaterBy disk P a b → IsLaterBy disk Q b c
+    → IsLaterWith (disk a.store) (disk c.store) a.strays c.strays a.state.tenants c.state.tenants a.counts c.counts
+later-both disk P Q a b c p q =
+    later-by (disk a.store) (disk b.store) (disk c.store) a.strays b.strays c.strays a.state.tenants b.state.tenants c.state.tenants a.counts b.counts c.counts
+    (later-with disk P a b p) (later-with disk Q b c q)
+
+-- no wait was looked at
+pub looks-same : {S : Type 0} (disk : S → Disk) (whom : Whom) (a : OnStore S) → IsLaterBy disk (SpeaksFor whom) a a
+looks-same disk whom a = later-from disk (SpeaksFor whom) a a (later-none (disk a.store) a.strays a.state.tenants a.counts) (λ honest. looks_same whom a.state)
 
 -- a broker at a later moment, and then at a later one
 pub later-after : {S : Type 0} (disk : S → Disk) (P Q R : BrokerState → BrokerState → Type 0) (a b c : OnStore S) → IsLaterBy disk P a b → IsLaterBy disk Q b c
     → (P a.state b.state → Q b.state c.state → R a.state c.state) → IsLaterBy disk R a c
-later-after disk P Q R a b c p q both = later-from disk R a c
-    (later-by (disk a.store) (disk b.store) (disk c.store) a.strays b.strays c.strays a.state.tenants b.state.tenants c.state.tenants a.counts b.counts c.counts
-    (later-with disk P a b p) (later-with disk Q b c q))
-    (λ honest. both (p.spoken (q.honest honest)) (q.spoken honest))
+later-after disk P Q R a b c p q both = later-from disk R a c (later-both disk P Q a b c p q) (λ honest. both (p.spoken (q.honest honest)) (q.spoken honest))
 
 pub later-then : {S : Type 0} (disk : S → Disk) (a b c : OnStore S) → IsLater disk a b → IsLater disk b c → IsLater disk a c
 later-then disk a b c p q = later-after disk SpeaksTruth SpeaksTruth SpeaksTruth a b c p q (speaks_then a.state b.state c.state)
 
 -- where nobody takes what came nothing changes
-pub later-untaken : {S : Type 0} (disk : S → Disk) (a : OnStore S) (n : ℕ) (piece : List ℕ) → IsUntaken n piece a.state → IsLaterBy disk (SpeaksAt (Comes n piece)) a a
-later-untaken disk a n piece untaken = later-from disk (SpeaksAt (Comes n piece)) a a (later-none (disk a.store) a.strays a.state.tenants a.counts) (λ honest. at_untaken n piece a.state untaken)
+pub later-untaken : {S : Type 0} (disk : S → Disk) (a : OnStore S) (n : ℕ) (piece : List ℕ) → IsSound a.state → first_able a.state.lines ≡ None → IsUntaken n piece a.state → IsLaterBy disk (SpeaksAt (Comes n piece)) a a
+later-untaken disk a n piece sound settled untaken = later-from disk (SpeaksAt (Comes n piece)) a a (later-none (disk a.store) a.strays a.state.tenants a.counts) (λ honest. at_untaken n piece a.state sound settled untaken)
 
 -- in an event
-pub later-at : {S : Type 0} (disk : S → Disk) (e : Happening) (a b c : OnStore S) → IsLaterBy disk (SpeaksAt e) a b → IsLater disk b c → IsLaterBy disk (SpeaksAt e) a c
-later-at disk e a b c p q = later-after disk (SpeaksAt e) SpeaksTruth (SpeaksAt e) a b c p q (at_then e a.state b.state c.state)
+pub later-at : {S : Type 0} (disk : S → Disk) (n : ℕ) (piece : List ℕ) (a b c : OnStore S) → AreStill (Of n) b.state → IsLaterBy disk (SpeaksAt (Comes n piece)) a b → IsLater disk b c
+    → IsLaterBy disk (SpeaksAt (Comes n piece)) a c
+later-at disk n piece a b c still p q = later-after disk (SpeaksAt (Comes n piece)) SpeaksTruth (SpeaksAt (Comes n piece)) a b c p q (comes_then n piece a.state b.state c.state still)
 
 -- the store, the files that are left alone and the store's share are the same, and no count is smaller
 pub later-still : {S : Type 0} (disk : S → Disk) (Goes : BrokerState → BrokerState → Type 0) (a b : OnStore S) → b.store ≡ a.store → b.strays ≡ a.strays → b.counts ≡ a.counts
@@ -131,8 +142,8 @@ later-seen disk Goes a b c e h = subst (λ x. IsLaterBy disk Goes x c) e h
 
 -- once the clock is set
 pub later-begun : {S : Type 0} (disk : S → Disk) (a : OnStore S) (clock now : ℕ) (b : OnStore S) → clock ≡ max a.state.clock now
-    → IsLaterBy disk IsTrueMoment (record a { state = record a.state { clock = clock } }) b → IsLaterBy disk (Begins (Moment now)) a b
-later-begun disk a clock now b e h = later-from disk (Begins (Moment now)) a b
+    → IsLaterBy disk IsTrueMoment (record a { state = record a.state { clock = clock } }) b → IsLaterBy disk (PassesAt now) a b
+later-begun disk a clock now b e h = later-from disk (PassesAt now) a b
     (later-with disk IsTrueMoment (record a { state = record a.state { clock = clock } }) b h)
     (λ honest. subst (λ n. IsTrueMoment (record a.state { clock = n }) b.state) e (h.spoken honest))
 

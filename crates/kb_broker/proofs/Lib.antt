@@ -24,6 +24,7 @@ pub mod RequestLimits
 pub mod RunDrain
 pub mod RunEvents
 pub mod RunHistory
+pub mod OwnRuns
 pub mod RunLast
 pub mod RunOrder
 pub mod Alone

@@ -21,12 +21,12 @@ use Rattle.kb_broker.proofs.Handled.{put_with, length-numbers, others-put}
 -- 1. One look
 
 -- whose waits are looked for is concerned
-concerned : (whom : Whom) (clock t : ℕ) (w : Wait) → IsLookedFor whom clock t w → Concerns whom t
+pub concerned : (whom : Whom) (clock t : ℕ) (w : Wait) → IsLookedFor whom clock t w → Concerns whom t
 concerned (whoms.Tenant u) clock t w e = eqb_same t u e
 concerned whoms.Due clock t w e = tt
 concerned whoms.All clock t w e = tt
 
-passed-same : (b : BrokerState) (i : ℕ) (l m : Line) (us : List TenantState) → IsAt b.lines i l → IsPassedBy b.tenants us l m → put_with b i m us ≡ b
+pub passed-same : (b : BrokerState) (i : ℕ) (l m : Line) (us : List TenantState) → IsAt b.lines i l → IsPassedBy b.tenants us l m → put_with b i m us ≡ b
 passed-same b i l m us at p = ap (λ x. put_with b i x us) p.1 ∙ (ap (put_with b i l) p.0 ∙ ap (λ ls. record b { lines = ls }) (ap (set b.lines i) at.here ∙ set-get_or b.lines i l))
 
 passed-waked : (whom : Whom) (b : BrokerState) (i : ℕ) (l m : Line) (us : List TenantState) → IsSound b → IsAt b.lines i l → IsPassedBy b.tenants us l m → Waked whom b (put_with b i m us)

@@ -50,7 +50,7 @@ module _ (failed : Type 0) (full : ℕ → Type 0) (setup : Setup) (clock n t : 
   pub told-asked : (us : List TenantState) (s r : Session) (key version : ℤ) (head : Head) (body : List ℕ) (touched : List TopicPartition)
       (answer : Answer) → IsAsked setup s key version head body
       → IsTrueAnswer failed (full t) (node_of setup t) clock n key version head.correlation_id body (kept_of ts t) (kept_of us t) touched answer
-      → IsPutOut head version body answer s r → IsToldAt failed full setup clock n (BoundTo t None) ts us s r
+      → IsPutOut head answer s r → IsToldAt failed full setup clock n (BoundTo t None) ts us s r
   told-asked us s r key version head body touched answer asked is_true put_out = record {
     asked = λ key' version' head' body' asks.
         let both : Some (head, key, version, body) ≡ Some (head', key', version', body') = sym asked.asked ∙ asks.asked in

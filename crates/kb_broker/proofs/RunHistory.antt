@@ -152,7 +152,7 @@ Continues {S = S} disk all left first now ended =
     → PassesEvents (disk last).honest left now.state new got → PassesEvents (disk last).honest all first.state new (ended ++ got)
 
 pub passed-weaker : (honest later : Type 0) (e : Happening) (old new : BrokerState) (ended : List Sent) → (later → honest) → IsPassed honest e old new ended → IsPassed later e old new ended
-passed-weaker honest later e old new ended h p = record { step = λ k. p.step (h k); leads = p.leads }
+passed-weaker honest later e old new ended h p = record { step = λ k. p.step (h k); spoken = λ k. p.spoken (h k); ready = λ k. p.ready (h k); leads = p.leads }
 
 pub continues-next : {S : Type 0} (disk : S → Disk) (all left : List Happening) (e : Happening) (first now next : OnStore S) (before ended after : List Sent)
     → (is_honest disk next → is_honest disk now) → after ≡ before ++ ended → IsPassed (is_honest disk next) e now.state next.state ended

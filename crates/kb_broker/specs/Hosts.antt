@@ -65,6 +65,11 @@ pub record IsLaterBy {S : Type 0} (disk : S → Disk) (Goes : BrokerState → Br
   pub left_alone : AreLeftAlone (unwrap_or old.strays []) (disk old.store) (disk new.store)
   pub spoken : is_honest disk new → Goes old.state new.state
 
+-- so it is of a broker, of what it said nothing
+abbrev pub IsLaterOn : {S : Type 0} → (S → Disk) → OnStore S → OnStore S → Type 0
+IsLaterOn disk old new = IsLaterWith (disk old.store) (disk new.store) old.strays new.strays old.state.tenants new.state.tenants old.counts
+    new.counts
+
 -- what it said meanwhile to its tenants is the truth, whatever was refused, while nothing came
 abbrev pub IsLater : {S : Type 0} → (S → Disk) → OnStore S → OnStore S → Type 0
 IsLater disk old new = IsLaterBy disk SpeaksTruth old new

@@ -199,10 +199,10 @@ pub record IsOneMore (i : ℕ) (old new : BrokerState) : Type 0 where
 abbrev pub IsDoneOrShut : Session → Session → Session → Type 0
 IsDoneOrShut defined s r = (r ≡ defined) ⊎ (r ≡ shut_down causes.Memory s)
 
--- The request of that head, version and body, which stood in front of a connection, was answered so: it is gone, what was answered stands
--- behind the output, and the connection waits where the answer says so; or the connection was shut.
-abbrev pub IsPutOut : Head → ℤ → List ℕ → AnyAnswer → Session → Session → Type 0
-IsPutOut head version body answer s r = IsDoneOrShut (with_answer head answer (without_front s)) s r
+-- The request of that head, which stood in front of a connection, was answered so: it is gone, what was answered stands behind the output,
+-- and the connection waits where the answer says so; or the connection was shut.
+abbrev pub IsPutOut : Head → AnyAnswer → Session → Session → Type 0
+IsPutOut head answer s r = IsDoneOrShut (with_answer head answer (without_front s)) s r
 
 -- The answer to a request of a tenant, which had kept k and keeps l, is the truth of its topics; and its groups are those that the request
 -- makes, or those of before without the last replies, and then the connection is shut. Where groups are deleted some of these may be gone.
@@ -217,7 +217,7 @@ pub record IsToldTruth (failed full : Type 0) (node : Node) (clock n : ℕ) (key
   pub answer : AnyAnswer
   pub touched : List TopicPartition
   pub is_true : IsTrueAnswer failed full node clock n key version head.correlation_id body k l touched answer
-  pub put_out : IsPutOut head version body answer s r
+  pub put_out : IsPutOut head answer s r
 
 -- nothing was asked, as memory to read the request was refused: the tenant keeps what it kept, and the connection was shut
 abbrev pub IsUnasked : Kept → Kept → Session → Session → Type 0
@@ -243,9 +243,13 @@ TellsMember clock n kept w a = is_members w.awaited ≡ true → IsAnswer w.head
 
 -- A look at what waits on the connection of number n, whatever was refused in it: it waits on; or what it was answered has of each partition
 -- what is defined, or the code of what refused it, and a member is told what its group told it.
+abbrev pub HearsOf : Type 0 → ℕ → ℕ → Kept → Wait → Session → Session → Type 0
+HearsOf failed clock n kept w s r = (r ≡ s) ⊎ ((answer : Answer)
+    × (TellsAwaited failed w.head.correlation_id clock kept w.awaited answer
+    × (TellsMember clock n kept w answer × IsDoneOrShut (answered_again w.head answer s) s r)))
+
+-- so it is of a connection at that stage
 abbrev pub IsToldAgain : Type 0 → ℕ → ℕ → Stage → List TenantState → Session → Session → Type 0
 IsToldAgain failed clock n (Greets handshaken) old s r = r ≡ s
 IsToldAgain failed clock n (BoundTo tenant None) old s r = r ≡ s
-IsToldAgain failed clock n (BoundTo tenant (Some w)) old s r = (r ≡ s) ⊎ ((answer : Answer)
-    × (TellsAwaited failed w.head.correlation_id clock (hosted.kept_of old tenant) w.awaited answer
-    × (TellsMember clock n (hosted.kept_of old tenant) w answer × IsDoneOrShut (answered_again w.head answer s) s r)))
+IsToldAgain failed clock n (BoundTo tenant (Some w)) old s r = HearsOf failed clock n (hosted.kept_of old tenant) w s r

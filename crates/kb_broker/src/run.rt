@@ -2,19 +2,19 @@
 
 ghost use Rattle.std.specs.Prelude.{◌≡◌, ◌+◌, ◌≤◌, ℕ, List, [], ◌∷◌, ◌++◌, map, length, count_by, IfOk, OnErr};
 ghost use Rattle.std.specs.Vec.{vec_len, vec_capacity};
-ghost use Rattle.kb_isolation_spec.specs.Machine.{Closes, Sent, those_sent, by_number, sent, leaving};
+ghost use Rattle.kb_isolation_spec.specs.Machine.{Closes, Sent, by_number, sent, leaving};
 ghost use Rattle.kb_isolation_spec.specs.Calls.{closed};
 ghost use Rattle.kb_isolation_spec.specs.Stranded.{NoneStranded};
 ghost use Rattle.kb_tenant_state.specs.Counts.{IsCalm};
-ghost use Rattle.kb_isolation_spec.specs.Broker.{IsCalmFor, IsEventRun, IsUnowned, alone_unowned, last_after, only, owned_by, view_of};
+ghost use Rattle.kb_isolation_spec.specs.Broker.{IsCalmFor, IsEventRun, IsUnowned, last_after, owned_by, view_of};
 ghost use Rattle.kb_isolation_spec.specs.Fetches.{FetchesGetBatches};
 ghost use Rattle.kb_isolation_spec.specs.Isolation.{IsIsolated, AreAlike, own_events, own_sent};
 ghost use Rattle.kb_isolation_spec.specs.Left.{LeavesWorlds};
 ghost use Rattle.kb_isolation_spec.specs.Alone.{HasToItself};
-ghost use Rattle.kb_isolation_spec.specs.Greetings.{greeted_alone};
-ghost use Rattle.kb_broker.specs.Hosts.{is_honest, IsInFiles, IsLaterBy, IsReadyOn, StepsTo};
-ghost use Rattle.kb_broker.specs.Truth.{SpeaksAt, SpeaksThrough};
-ghost use Rattle.kb_broker.specs.Runs.{happening_of, happenings, sent_of, is_opening, connections_of, emptied, IsPassed, PassesEvents};
+ghost use Rattle.kb_broker.specs.Hosts.{is_honest, IsInFiles, IsLaterBy, IsLaterOn, IsReadyOn, StepsTo};
+ghost use Rattle.kb_broker.specs.Truth.{SpeaksAt};
+ghost use Rattle.kb_broker.specs.Runs.{happening_of, happenings, sent_of, is_opening, connections_of, emptied};
+ghost use Rattle.kb_broker.specs.Runs.{AreOwnRuns, IsPassed, IsStrangersRun, PassesEvents};
 
 use crate::broker::Broker;
 use kb_isolation_spec::Shut;
@@ -57,6 +57,9 @@ impl<S: Store, L: PartitionLog + Drop> Broker<S, L> {
     /// without an error, as the partition is at that moment, one after the other, from the one that holds the asked offset. The
     /// tenant's logs are within their limits before the run, as they are when a broker opens, and then they are so after it.
     ///
+    /// Whatever was refused, to whomever, what a tenant's connections got is what the machine of that tenant alone may write that may be
+    /// refused something at each step (`own`): given the tenant's events and the moments, and nothing of others.
+    ///
     /// The entry of a connection that could not be kept is empty and shut. In the end the output of the open ones is taken.
     ///
     /// An `Err`, for want of memory, comes before the first event and changes nothing.
@@ -66,12 +69,8 @@ impl<S: Store, L: PartitionLog + Drop> Broker<S, L> {
             is_honest S.disk self.new → IsIsolated (happenings events.now) self.old.state self.new.state (map sent_of written.items)) }
         ensures unowned { IfOk result (λ written.
             is_honest S.disk self.new → (n : ℕ) → IsUnowned n (happenings events.now) self.old.state
-            → IsCalm self.old.state.unbound_refusals self.new.state.unbound_refusals →
-            those_sent (only n) (map sent_of written.items) ≡ by_number (alone_unowned n (happenings events.now) self.old.state)) }
-        ensures greeted { IfOk result (λ written.
-            is_honest S.disk self.new → (n : ℕ) → IsUnowned n (happenings events.now) self.old.state
-            → IsCalm self.old.state.unbound_refusals self.new.state.unbound_refusals →
-            those_sent (only n) (map sent_of written.items) ≡ greeted_alone n (happenings events.now) self.old.state) }
+            → IsCalm self.old.state.unbound_refusals self.new.state.unbound_refusals
+            → IsStrangersRun n (happenings events.now) self.old.state (map sent_of written.items)) }
         ensures fetches { is_honest S.disk self.old → (t : ℕ) →
             FetchesGetBatches (own_events t (happenings events.now) self.old.state)
             (view_of t (owned_by t (happenings events.now) self.old.state) self.old.state) }
@@ -82,9 +81,10 @@ impl<S: Store, L: PartitionLog + Drop> Broker<S, L> {
         ensures history { IfOk result (λ written.
             (got : List Sent) × (map sent_of written.items ≡ by_number got)
             × PassesEvents (is_honest S.disk self.new) (happenings events.now) self.old.state self.new.state got) }
-        // Whatever was refused, what is answered with no error is done, unless the store lied (`spoken`): in each event, in order, the
-        // broker did what the event brings, and then only steps in each of which what it said to a tenant's request is the truth.
-        ensures later { IfOk result (λ written. IsLaterBy S.disk (SpeaksThrough (happenings events.now)) self.old self.new) }
+        // Whatever was refused, to the tenant too.
+        ensures own { IfOk result (λ written. is_honest S.disk self.new
+            → AreOwnRuns (happenings events.now) self.old.state self.new.state (map sent_of written.items)) }
+        ensures later { IfOk result (λ written. IsLaterOn S.disk self.old self.new) }
         ensures in_files { IsInFiles L.log S.disk self.new }
         ensures memory { OnErr result (self.new ≡ self.old) }
         ensures held { is_honest S.disk self.new → NoneStranded self.old.state → NoneStranded self.new.state }

@@ -301,7 +301,7 @@ fn hand_over(
         → IsAsked setup.now connection.old.session key version head body → IsAnswer head.correlation_id reaction answer → OnOk result
         (connection.new ≡ with_session connection.old (after_reaction reaction head (without_front connection.old.session))) }
     ensures output { (key version : ℤ) (head : Head) (body : List ℕ) → IsAsked setup.now connection.old.session key version head body
-        → IsPutOut head version body answer connection.old.session connection.new.session }
+        → IsPutOut head answer connection.old.session connection.new.session }
     ensures dated { (key version : ℤ) (head : Head) (body : List ℕ) → IsAsked setup.now connection.old.session key version head body
         → until_of (fin.get parking.new connection.old.number) ≡ deadline_at connection.new.session.stage }
     ensures owned { IsOwnedAt connection.new.session.stage (fin.get parking.new connection.old.number) }

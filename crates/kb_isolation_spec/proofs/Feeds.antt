@@ -38,7 +38,7 @@ comes-above setup t low last n mine piece es (l ∷ ls) r h o =
     let ne : eqb n l.number ≡ false = (let lt = r.0 in grind (arith, nat_tests)) in
     (subst (Fits t (mine l.number)) (ap (λ (b : Bool). cond b (destiny setup l.number (greeted_so_far setup (fed piece (greeted_so_far setup l.session))) es) (destiny setup l.number (greeted_so_far setup l.session) es)) ne) o.0, comes-above setup t l.number last n mine piece es ls r.1 (let lt = r.0 in omega arith) o.1)
 
-comes-set : (setup : Setup) (t low last : ℕ) (mine : ℕ → Bool) (piece : List ℕ) (es : List Happening) (ls : List Line) (i : ℕ) (l m : Line) → Rising low last ls → IsAt ls i l → m.number ≡ l.number →
+pub comes-set : (setup : Setup) (t low last : ℕ) (mine : ℕ → Bool) (piece : List ℕ) (es : List Happening) (ls : List Line) (i : ℕ) (l m : Line) → Rising low last ls → IsAt ls i l → m.number ≡ l.number →
     (IsMine setup t mine (Comes l.number piece ∷ es) l → IsMine setup t mine es m) → AllByRecursion (IsMine setup t mine (Comes l.number piece ∷ es)) ls → AllByRecursion (IsMine setup t mine es) (set ls i m)
 comes-set setup t low last mine piece es [] i l m r a e f o = no-at i l a
 comes-set setup t low last mine piece es (k ∷ ls) zero l m r a e f o =
@@ -49,7 +49,7 @@ comes-set setup t low last mine piece es (k ∷ ls) (suc i) l m r a e f o =
     let ne : eqb l.number k.number ≡ false = grind (arith, nat_tests) in
     (subst (Fits t (mine k.number)) (ap (λ (b : Bool). cond b (destiny setup k.number (greeted_so_far setup (fed piece (greeted_so_far setup k.session))) es) (destiny setup k.number (greeted_so_far setup k.session) es)) ne) o.0, comes-set setup t k.number last mine piece es ls i l m r.1 (tail-at k ls i l a) e f o.1)
 
-comes-none : (setup : Setup) (t n : ℕ) (mine : ℕ → Bool) (piece : List ℕ) (es : List Happening) (ls : List Line) → AllByRecursion (λ l. l.number ≢ n) ls → AllByRecursion (IsMine setup t mine (Comes n piece ∷ es)) ls → AllByRecursion (IsMine setup t mine es) ls
+pub comes-none : (setup : Setup) (t n : ℕ) (mine : ℕ → Bool) (piece : List ℕ) (es : List Happening) (ls : List Line) → AllByRecursion (λ l. l.number ≢ n) ls → AllByRecursion (IsMine setup t mine (Comes n piece ∷ es)) ls → AllByRecursion (IsMine setup t mine es) ls
 comes-none setup t n mine piece es [] h o = tt
 comes-none setup t n mine piece es (l ∷ ls) h o =
     let no = h.0 in
@@ -66,7 +66,7 @@ comes-fed setup t mine piece es l m c n e h =
     subst (λ x. Fits t (mine x) (destiny setup x (greeted_so_far setup m.session) es)) (sym n) k
 
 -- a bound connection, whatever it is left as
-comes-bound : (setup : Setup) (t u : ℕ) (mine : ℕ → Bool) (piece : List ℕ) (es : List Happening) (l m : Line) → IsBound u l.session → IsBound u m.session → m.number ≡ l.number → IsMine setup t mine (Comes l.number piece ∷ es) l → IsMine setup t mine es m
+pub comes-bound : (setup : Setup) (t u : ℕ) (mine : ℕ → Bool) (piece : List ℕ) (es : List Happening) (l m : Line) → IsBound u l.session → IsBound u m.session → m.number ≡ l.number → IsMine setup t mine (Comes l.number piece ∷ es) l → IsMine setup t mine es m
 comes-bound setup t u mine piece es l m p q n h =
     let g : Fits t (mine l.number) (Some u) = subst (Fits t (mine l.number)) (fate-bound setup l.number l.session (Comes l.number piece ∷ es) u p) h in
     let k : Fits t (mine l.number) (destiny setup m.number (greeted_so_far setup m.session) es) = subst (Fits t (mine l.number)) (sym (fate-bound setup m.number m.session es u q)) g in
@@ -243,7 +243,7 @@ step-not_open b n piece r none = record {
         ∙ (ap (λ x. turns (with_lines v x)) (each-on_none n (fed piece) (those mine b.lines) gone) ∙ settled-turns t mine b r.settled))
     by t mine false = refl
 
-fed-nothing : (s : Session) → fed [] s ≡ s
+pub fed-nothing : (s : Session) → fed [] s ≡ s
 unfolding fed
 fed-nothing s = by s s.shut refl
   where
@@ -251,7 +251,7 @@ fed-nothing s = by s s.shut refl
     by s true e = grind (arith, nat_tests, e)
     by s false e = let f = append-nil s.unread in let no : nat_lt (room s) 0 ≡ false = grind (arith, nat_tests) in rw (e, no) (ap (λ u. record s { unread = u; shut = false }) f)
 
-fed-shut : (piece : List ℕ) (s : Session) → s.shut ≡ true → fed piece s ≡ s
+pub fed-shut : (piece : List ℕ) (s : Session) → s.shut ≡ true → fed piece s ≡ s
 unfolding fed
 fed-shut piece s e = grind (arith, e)
 

@@ -22,13 +22,13 @@ those-not mine n [] h = refl
 those-not mine n (l ∷ ls) h = let rest = those-not mine n ls h in grind (arith, nat_tests, rest)
 
 -- what the tenant is left by an event
-leaving-those : (mine : ℕ → Bool) (e : Happening) (ls : List Line) → those_sent mine (leaving e ls) ≡ leaving e (those mine ls)
+pub leaving-those : (mine : ℕ → Bool) (e : Happening) (ls : List Line) → those_sent mine (leaving e ls) ≡ leaving e (those mine ls)
 leaving-those mine (Opens n) ls = refl
 leaving-those mine (Comes n piece) ls = refl
 leaving-those mine (Closes n) ls = those_sent-map mine (those (λ k. eqb k n) ls) ∙ ap (map sent) (those-swap mine (λ k. eqb k n) ls)
 leaving-those mine (Moment now) ls = refl
 
-leaving-not : (mine : ℕ → Bool) (e : Happening) (ls : List Line) → concerns mine e ≡ false → those_sent mine (leaving e ls) ≡ []
+pub leaving-not : (mine : ℕ → Bool) (e : Happening) (ls : List Line) → concerns mine e ≡ false → those_sent mine (leaving e ls) ≡ []
 leaving-not mine (Opens n) ls h = refl
 leaving-not mine (Comes n piece) ls h = refl
 leaving-not mine (Closes n) ls h = those_sent-map mine (those (λ k. eqb k n) ls) ∙ ap (map sent) (those-not mine n ls h)

@@ -40,7 +40,7 @@ with_lines w ls = record w { lines = ls }
 
 -- 1. A new connection
 
-lines-push : (ls : List Line) (x : Line) (mine : ℕ → Bool) → those mine (ls ++ x ∷ []) ≡ those mine ls ++ those mine (x ∷ [])
+pub lines-push : (ls : List Line) (x : Line) (mine : ℕ → Bool) → those mine (ls ++ x ∷ []) ≡ those mine ls ++ those mine (x ∷ [])
 lines-push [] x mine = refl
 lines-push (l ∷ ls) x mine = let rest = lines-push ls x mine in grind (arith, rest)
 
@@ -84,7 +84,7 @@ settled-opened b n settled = first-push b.lines (record { number = n; session = 
 pub unready-opened : (b : BrokerState) (n : ℕ) → AreUnready AnyWait b → AreUnready AnyWait (opened b n)
 unready-opened b n unready = all-push (λ l. IsUnready AnyWait b l.number l.session.stage) b.lines (record { number = n; session = new_session b.setup.request_bytes }) unready tt
 
-view-opened : (w : View) (n : ℕ) (mine : ℕ → Bool) (yes : Bool) → mine n ≡ yes → with_lines w (w.lines ++ those mine (record { number = n; session = new_session w.setup.request_bytes } ∷ [])) ≡ stepped yes (Opens n) w
+pub view-opened : (w : View) (n : ℕ) (mine : ℕ → Bool) (yes : Bool) → mine n ≡ yes → with_lines w (w.lines ++ those mine (record { number = n; session = new_session w.setup.request_bytes } ∷ [])) ≡ stepped yes (Opens n) w
 view-opened w n mine true e = ap (λ (x : List Line). with_lines w (w.lines ++ x)) (grind (arith, e))
 view-opened w n mine false e =
     let none : those mine (record { number = n; session = new_session w.setup.request_bytes } ∷ []) ≡ [] = grind (arith, e) in
@@ -159,7 +159,7 @@ closes-others setup t n mine es (l ∷ ls) h = closes-others_by setup t n mine e
     closes-others_by setup t n mine es l ls true e p h = rw e h
     closes-others_by setup t n mine es l ls false e p h = let ne : eqb n l.number ≡ false = grind (arith, nat_tests) in rw e (subst (Fits t (mine l.number)) (ap (λ (b : Bool). cond b (whose (greeted_so_far setup l.session).stage) (destiny setup l.number (greeted_so_far setup l.session) es)) ne) p, h)
 
-view-closed : (w : View) (n : ℕ) (mine : ℕ → Bool) (ls : List Line) (kept : Kept) (yes : Bool) → w.lines ≡ those mine ls → mine n ≡ yes → (yes ≡ true → kept ≡ kept_closed w.clock n (find_line n w.lines) w.kept) → (yes ≡ false → kept ≡ w.kept)
+pub view-closed : (w : View) (n : ℕ) (mine : ℕ → Bool) (ls : List Line) (kept : Kept) (yes : Bool) → w.lines ≡ those mine ls → mine n ≡ yes → (yes ≡ true → kept ≡ kept_closed w.clock n (find_line n w.lines) w.kept) → (yes ≡ false → kept ≡ w.kept)
     → record w { kept = kept; lines = those mine (those (other_than n) ls) } ≡ stepped yes (Closes n) w
 view-closed w n mine ls kept true f e own other =
     ap (λ k. record w { kept = k; lines = those mine (those (other_than n) ls) }) (own refl)

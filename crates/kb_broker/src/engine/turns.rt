@@ -15,7 +15,7 @@ ghost use Rattle.kb_isolation_spec.specs.Owners.{whose};
 ghost use Rattle.kb_connection.specs.View.{stage_of};
 ghost use Rattle.kb_tenant_api.specs.Turns.{HavePassed};
 ghost use Rattle.kb_broker.specs.Hosts.{is_honest, IsLater, IsLaterBy, NoneReady};
-ghost use Rattle.kb_broker.specs.Truth.{IsTrueMoment, SpeaksAt};
+ghost use Rattle.kb_broker.specs.Truth.{IsTrueMoment, SpeaksAt, SpeaksFor};
 ghost use Rattle.kb_broker.specs.Places.{numbers, number_at, any_waits, AreIdle, IsNext, IsScoped, IsCountedAt, AreWaked};
 ghost use Rattle.kb_broker.specs.Places.{IsOneMore, LeavesQuietBut};
 ghost use Rattle.kb_broker.specs.Parked.{can_in, AreAmong, AreMinded, AreWaitingOn, IsAllOf, IsConfined, IsReadyAmong, IsLeftTo, IsOwnTo};
@@ -302,7 +302,7 @@ impl<L: PartitionLog + Drop, S: Store> Engine<L, S> {
     pub(super) fn wake(&mut self, alloc: Global, answered: Option<Vec<u64>>) -> Option<Vec<u64>>
         requires { IsSound self.old.state }
         ensures continues { IsGoing self.old.state self.new.state }
-        ensures later { IsLater S.disk self.old self.new }
+        ensures later { IsLaterBy S.disk (SpeaksFor whoms.All) self.old self.new }
         ensures waked { is_honest S.disk self.new → Waked whoms.All self.old.state self.new.state }
         ensures unready { is_honest S.disk self.new → IsReadyAmong answered self.old.state → AreUnready AnyWait self.new.state }
         ensures known { IfSome result (λ ns. SameBut ns.items self.old.state self.new.state) }
@@ -323,7 +323,7 @@ impl<L: PartitionLog + Drop, S: Store> Engine<L, S> {
     fn wake_each(&mut self, alloc: Global, whom: Whom, numbers: &[u64])
         requires { IsSound self.old.state }
         ensures continues { IsGoing self.old.state self.new.state }
-        ensures later { IsLater S.disk self.old self.new }
+        ensures later { IsLaterBy S.disk (SpeaksFor whom) self.old self.new }
         ensures minded { is_honest S.disk self.new → AreMinded whom self.old.state self.new.state numbers.now }
         ensures same { SameBut numbers.now self.old.state self.new.state }
         ensures work { work self.new.state.lines ≤ work self.old.state.lines }
@@ -339,7 +339,7 @@ impl<L: PartitionLog + Drop, S: Store> Engine<L, S> {
     fn wake_all(&mut self, alloc: Global, whom: Whom)
         requires { IsSound self.old.state }
         ensures continues { IsGoing self.old.state self.new.state }
-        ensures later { IsLater S.disk self.old self.new }
+        ensures later { IsLaterBy S.disk (SpeaksFor whom) self.old self.new }
         ensures waked { is_honest S.disk self.new → Waked whom self.old.state self.new.state }
         ensures looked { is_honest S.disk self.new → AreUnready (IsLookedFor whom self.old.state.clock) self.new.state }
         ensures unready { is_honest S.disk self.new → AreUnready (IsPassedOver whom self.old.state.clock) self.old.state
@@ -359,7 +359,7 @@ impl<L: PartitionLog + Drop, S: Store> Engine<L, S> {
         requires sound { IsSound self.old.state }
         requires within { i < length self.old.state.lines }
         ensures more { IsOneMore i self.old.state self.new.state }
-        ensures later { IsLater S.disk self.old self.new }
+        ensures later { IsLaterBy S.disk (SpeaksFor whom) self.old self.new }
         ensures waked { is_honest S.disk self.new → (first : BrokerState) → AreWaked whom first self.old.state i
             → AreWaked whom first self.new.state (i + 1) }
         ensures minded { is_honest S.disk self.new → (first : BrokerState) (ns : List ℕ) → AreMinded whom first self.old.state ns

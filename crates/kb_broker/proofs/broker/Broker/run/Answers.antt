@@ -1,4 +1,4 @@
-use Rattle.std.proofs.Common.{◌≡◌, ◌+◌, ◌<◌, ◌^◌, ◌∷◌, [], ℕ, suc, length, drop, refl, sym, ◌∙◌, ap, subst, arith, add-one, length-append, rules}
+use Rattle.std.proofs.Common.{◌≡◌, ◌+◌, ◌<◌, ◌^◌, ◌∷◌, [], ℕ, List, Bool, suc, length, drop, refl, sym, ◌∙◌, ap, subst, arith, add-one, length-append, rules}
 use Rattle.std.specs.Prelude.{map}
 use Rattle.std.specs.Option.{SomeIff}
 use Rattle.std.specs.List.Sorted.{IsNonDecreasingBy}
@@ -6,19 +6,21 @@ use Rattle.std.proofs.lemmas.List.{drop_all, length-map}
 use Rattle.std.proofs.lemmas.Simd.{map-map}
 use Rattle.std.proofs.lemmas.List.Sorted.{IsPermutation-map, IsNonDecreasingBy-from_sort_by_key}
 use Rattle.kb_isolation_spec.specs.Machine.{Sent, sent, those_sent, by_number}
-use Rattle.kb_isolation_spec.specs.Broker.{BrokerState, owned_by, only, view_of}
+use Rattle.kb_isolation_spec.specs.Broker.{BrokerState, Mine, owned_by, only, view_of}
 use Rattle.kb_isolation_spec.specs.Isolation.{own_events}
 use Rattle.kb_isolation_spec.proofs.FetchRuns.{run-gives}
 use Rattle.kb_isolation_spec.proofs.Runs.{those-by_number}
 use Rattle.kb_isolation_spec.proofs.Owned.{owned-mine, run-after, run-first, unowned-mine, calm-nobody}
+use Rattle.kb_tenant_api.specs.Hosted.{TenantState, names_of, refusals_of}
 use Rattle.kb_isolation_spec.specs.Stranded.{NoneStranded}
 use Rattle.kb_isolation_spec.proofs.Stranded.{stranded-emptied}
 use Rattle.kb_broker.specs.declared.run.Written.{Written}
-use Rattle.kb_broker.specs.Hosts.{is_honest, IsLaterBy}
-use Rattle.kb_broker.specs.Truth.{SpeaksAt, SpeaksThrough}
-use Rattle.kb_broker.specs.Runs.{happening_of, happenings, sent_of, connections_of, PassesEvents}
-use Rattle.kb_broker.proofs.Honest.{counts-is, later-after, later-is, ready-of, state-is, store-is, strays-is}
+use Rattle.kb_broker.specs.Hosts.{is_honest, IsLaterOn}
+use Rattle.kb_broker.specs.Truth.{SpeaksAt}
+use Rattle.kb_broker.specs.Runs.{happening_of, happenings, sent_of, connections_of, IsOwnRun, PassesEvents}
+use Rattle.kb_broker.proofs.Honest.{counts-is, later-by, later-none, later-on, later-with, ready-of, state-is, store-is, strays-is}
 use Rattle.kb_isolation_spec.proofs.Greetings.{unowned-greets}
+use Rattle.kb_broker.proofs.OwnRuns.{own-passes}
 use Rattle.kb_broker.proofs.RunLast.{told-passes}
 use Rattle.kb_broker.proofs.RunHistory.{happenings-next, length-connections, connections-first, room-leads, grows-passes, run-passes, numbers-passes, rising-connections, continues-next}
 use Rattle.kb_broker.proofs.RunOrder.{IsOrdered, ordered, up-sorted, AreUp, numbered}
@@ -33,8 +35,7 @@ loop-event-init g c =
     let sum = subst (λ o. SomeIff o (length c.connections-open.result.now + c.openings.result < 2 ^ 64) (length c.connections-open.result.now + c.openings.result)) c.in_ok-room.ensures.ok_part c.checked_add.ensures in
     record {
       ready = c.connections-open.ensures.ready;
-      honest = λ h. h;
-      later = λ end h. h;
+      later = later-none (g.S.Store.disk c.args.self.now.store) c.args.self.now.strays b.tenants c.args.self.now.counts;
       held = λ honest held. held;
       rises = c.requires;
       room = omega (arith, lines, sum, c.openings.ensures, length-connections es b, c.in_ok-written.ensures.len, c.in_ok-written.ensures.capacity);
@@ -65,6 +66,7 @@ happen-requires-clause-room g c =
 pub loop-event-preserved : goal.loop-event-preserved
 loop-event-preserved g c =
     let disk = g.S.Store.disk in
+    let a = c.args.self.now in
     let before = c.loop-event.self in
     let after = c.happen.new.self in
     let b = before.state in
@@ -85,9 +87,8 @@ loop-event-preserved g c =
     sym (length-map vs.items sent_of) ∙ (ap length added ∙ (length-append (map sent_of ws.items) ended ∙ ap (λ n. n + length ended) (length-map ws.items sent_of))) in
     record {
       ready = c.happen.ensures.ready;
-      honest = λ h. v.honest (c.happen.ensures.later.honest h);
-      later = rw add-one (λ end h. v.later end (subst (λ es. IsLaterBy disk (SpeaksThrough es) before end) (sym next)
-          (later-after disk (SpeaksAt e) (SpeaksThrough hs) (SpeaksThrough (e ∷ hs)) before after end c.happen.ensures.later h (λ first then. (after.state, first, then)))));
+      later = later-by (disk a.store) (disk before.store) (disk after.store) a.strays before.strays after.strays a.state.tenants b.tenants d.tenants a.counts before.counts after.counts
+          v.later (later-with disk (SpeaksAt e) before after c.happen.ensures.later);
       held = λ honest held. c.happen.ensures.held honest (v.held (c.happen.ensures.later.honest honest) held);
       rises = rw add-one (run-after d.last b.last e hs c.happen.ensures.last (rw next at v.rises));
       room = rw add-one (omega (arith, v.room, ap (λ es. length (connections_of es b)) next, room-leads e hs b d ended passed.leads, longer, ws.ok.0, vs.ok.0, c.happen.ensures.capacity));
@@ -95,9 +96,14 @@ loop-event-preserved g c =
     }
 
 -- the last output is taken of the store as it is
-drained-later : (g : given.Over) (c : goal.After-sort_unstable_by_key g) → IsLaterBy g.S.Store.disk (SpeaksThrough []) c.loop-event.self c.drain.new.self
-drained-later g c = later-is g.S.Store.disk (SpeaksThrough []) c.loop-event.self c.drain.new.self (store-is _ _ c.drain.ensures.state) (strays-is _ _ c.drain.ensures.state) (counts-is _ _ c.drain.ensures.state) (ap (λ (x : BrokerState). x.tenants) (state-is _ _ c.drain.ensures.state))
-    (state-is _ _ c.drain.ensures.state)
+drained-later : (g : given.Over) (c : goal.After-sort_unstable_by_key g) → IsLaterOn g.S.Store.disk c.loop-event.self c.drain.new.self
+drained-later g c =
+    let here = c.loop-event.self in
+    let end = c.drain.new.self in
+    let tenants = ap (λ (x : BrokerState). x.tenants) (state-is _ _ c.drain.ensures.state) in
+    later-on g.S.Store.disk here.store end.store here.strays end.strays here.state.tenants end.state.tenants here.counts end.counts
+    (store-is _ _ c.drain.ensures.state) (strays-is _ _ c.drain.ensures.state) (counts-is _ _ c.drain.ensures.state) (ap names_of tenants)
+    (λ t. (let same = ap (λ (ts : List TenantState). refusals_of ts t) tenants in omega (arith, same)))
 
 -- the whole history, and the order of its list
 whole : (g : given.Over) (c : goal.After-sort_unstable_by_key g) → PassesEvents (is_honest g.S.Store.disk c.drain.new.self) (happenings c.args.events.now) c.args.self.now.state c.drain.new.self.state (map sent_of c.drain.new.written.items)
@@ -134,20 +140,17 @@ returns-clause-headline g c = λ honest t q.
 
 pub returns-clause-unowned : goal.returns-clause-unowned
 returns-clause-unowned g c = λ honest n h q.
+    let disk = g.S.Store.disk in
     let a = c.args.self.now.state in
     let new = c.drain.new.self.state in
-    let truthful = is_honest g.S.Store.disk c.drain.new.self in
+    let truthful = is_honest disk c.drain.new.self in
     let hs = happenings c.args.events.now in
     let got = map sent_of c.drain.new.written.items in
-    let calm = calm-nobody a new (grows-passes truthful hs a new got honest (whole g c)) q in
-    ap (those_sent (only n)) (in_order g c).ordered ∙ (those-by_number (only n) got ∙ ap by_number (run-passes truthful (length a.tenants) (only n) hs a new got honest (whole g c) (unowned-mine n hs a c.connections-open.ensures.ready.sound h) calm))
-
-pub returns-clause-greeted : goal.returns-clause-greeted
-returns-clause-greeted g c = λ honest n h q.
-    let disk = g.S.Store.disk in
     let ready = c.connections-open.ensures.ready in
-    let before = c.loop-event.invariant.honest ((drained-later g c).honest honest) in
-    returns-clause-unowned g c honest n h q ∙ unowned-greets n (happenings c.args.events.now) c.args.self.now.state (ready-of disk c.args.self.now ready before) c.requires h
+    let before = c.loop-event.invariant.later.honest ((drained-later g c).honest honest) in
+    let calm = calm-nobody a new (grows-passes truthful hs a new got honest (whole g c)) q in
+    let alone = ap (those_sent (only n)) (in_order g c).ordered ∙ (those-by_number (only n) got ∙ ap by_number (run-passes truthful (length a.tenants) (only n) hs a new got honest (whole g c) (unowned-mine n hs a ready.sound h) calm)) in
+    record { alone = alone; greeted = alone ∙ unowned-greets n hs a (ready-of disk c.args.self.now ready before) c.requires h }
 
 pub returns-clause-worlds : goal.returns-clause-worlds
 returns-clause-worlds g c = λ honest t mine later m q.
@@ -168,14 +171,37 @@ returns-clause-connections g c =
 pub returns-clause-history : goal.returns-clause-history
 returns-clause-history g c = (map sent_of c.drain.new.written.items, (in_order g c).ordered, whole g c)
 
+-- what some connections got, which are a tenant's own
+own-run : (g : given.Over) (c : goal.After-sort_unstable_by_key g) → is_honest g.S.Store.disk c.drain.new.self → (t : ℕ) (mine : ℕ → Bool) → Mine t mine (happenings c.args.events.now) c.args.self.now.state
+    → IsOwnRun t mine (happenings c.args.events.now) c.args.self.now.state c.drain.new.self.state (map sent_of c.sort_unstable_by_key.new.self.items)
+own-run g c honest t mine m =
+    let a = c.args.self.now.state in
+    let hs = happenings c.args.events.now in
+    let got = map sent_of c.drain.new.written.items in
+    record {
+      got = those_sent mine got;
+      run = own-passes (is_honest g.S.Store.disk c.drain.new.self) t mine hs a c.drain.new.self.state got honest (whole g c) m c.requires;
+      sent = ap (those_sent mine) (in_order g c).ordered ∙ those-by_number mine got;
+    }
+
+pub returns-clause-own : goal.returns-clause-own
+returns-clause-own g c = λ honest.
+    let a = c.args.self.now.state in
+    let hs = happenings c.args.events.now in
+    let sound = c.connections-open.ensures.ready.sound in
+    record {
+      tenants = λ t. own-run g c honest t (owned_by t hs a) (owned-mine t hs a sound.rising);
+      strangers = λ n h. own-run g c honest (length a.tenants) (only n) (unowned-mine n hs a sound h);
+    }
+
 pub returns-clause-later : goal.returns-clause-later
 returns-clause-later g c =
     let disk = g.S.Store.disk in
+    let a = c.args.self.now in
     let here = c.loop-event.self in
     let end = c.drain.new.self in
-    let all = c.args.events.now in
-    let none : happenings (drop c.loop-event.event-index all) ≡ [] = ap happenings (drop_all c.loop-event.event-index all (omega arith)) in
-    c.loop-event.invariant.later end (subst (λ es. IsLaterBy disk (SpeaksThrough es) here end) (sym none) (drained-later g c))
+    later-by (disk a.store) (disk here.store) (disk end.store) a.strays here.strays end.strays a.state.tenants here.state.tenants end.state.tenants a.counts here.counts end.counts
+    c.loop-event.invariant.later (drained-later g c)
 
 pub returns-in_err-written-clause-fetches : goal.returns-in_err-written-clause-fetches
 returns-in_err-written-clause-fetches g c =

@@ -2,8 +2,7 @@ use Rattle.std.proofs.Common.{◌+◌, ◌≤◌, length, drop, vec_len, vec_cap
 use Rattle.std.specs.Prelude.{map}
 use Rattle.kb_isolation_spec.specs.Broker.{IsEventRun}
 use Rattle.kb_isolation_spec.specs.Stranded.{NoneStranded}
-use Rattle.kb_broker.specs.Hosts.{OnStore, is_honest, IsLaterBy, IsReadyOn}
-use Rattle.kb_broker.specs.Truth.{SpeaksThrough}
+use Rattle.kb_broker.specs.Hosts.{is_honest, IsLaterOn, IsReadyOn}
 use Rattle.kb_broker.specs.Runs.{happenings, sent_of, connections_of}
 use Rattle.kb_broker.proofs.RunHistory.{Continues}
 use Rattle.kb_broker.proofs.broker.Broker.run.Given as goal
@@ -11,9 +10,7 @@ use Rattle.kb_broker.proofs.broker.Broker.run.Given as goal
 abbrev pub invariant-loop-event : goal.invariant-loop-event
 invariant-loop-event g l = record {
   ready : IsReadyOn g.S.Store.disk l.self;
-  honest : is_honest g.S.Store.disk l.self → is_honest g.S.Store.disk l.fn.self;
-  later : (end : OnStore g.row.S.Denot) → IsLaterBy g.S.Store.disk (SpeaksThrough (happenings (drop l.event-index l.events))) l.self end
-      → IsLaterBy g.S.Store.disk (SpeaksThrough (happenings l.events)) l.fn.self end;
+  later : IsLaterOn g.S.Store.disk l.fn.self l.self;
   held : is_honest g.S.Store.disk l.self → NoneStranded l.fn.self.state → NoneStranded l.self.state;
   rises : IsEventRun l.self.state.last (happenings (drop l.event-index l.events));
   room : vec_len l.written + length (connections_of (happenings (drop l.event-index l.events)) l.self.state) ≤ vec_capacity l.written;

@@ -1,5 +1,5 @@
 use Rattle.std.proofs.Common.{◌≡◌, ◌∙◌, ap, inl, inr, subst, sym}
-use Rattle.kb_isolation_spec.specs.Turned.{Of}
+use Rattle.kb_isolation_spec.specs.Turned.{Of, AreStill}
 use Rattle.kb_isolation_spec.proofs.Turns.{going-then}
 use Rattle.kb_broker.specs.Hosts.{is_honest}
 use Rattle.kb_broker.specs.Places.{AreIdle, number_at}
@@ -22,7 +22,7 @@ returns-in_default-clause-later g c =
     let n = c.args.number in
     let piece = c.args.piece.now in
     let b = c.args.self.now.state in
-    later-untaken g.S.Store.disk c.args.self.now n piece (inr (ap is_deaf (find-none n b.lines c.in_default.ensures.none)))
+    later-untaken g.S.Store.disk c.args.self.now n piece c.requires.sound c.requires.settled (inr (ap is_deaf (find-none n b.lines c.in_default.ensures.none)))
 
 pub returns-then-is_empty-clause-later : goal.returns-then-is_empty-clause-later
 returns-then-is_empty-clause-later g c =
@@ -31,7 +31,7 @@ returns-then-is_empty-clause-later g c =
     let n = c.args.number in
     let e = c.in-Some.ensures in
     let piece = c.args.piece.now in
-    later-untaken g.S.Store.disk c.args.self.now n piece (elim c.then-is_empty.branch [
+    later-untaken g.S.Store.disk c.args.self.now n piece c.requires.sound c.requires.settled (elim c.then-is_empty.branch [
       | then-is_empty-via-then-is_empty w ↦ inl (empty-is piece c.is_empty.result c.is_empty.ensures w.if-is_empty.true)
       | then-is_empty-via-else-is_empty+then-is_shut w ↦
           inr (ap is_deaf (find-found b i n w.index.result.now c.requires.sound.rising (found _ b i n w.index.result.now (state-is _ _ c.self.view_is) e.within e.some w.index.ensures)) ∙ (sym w.is_shut.ensures ∙ w.if-is_shut.true))
@@ -81,7 +81,7 @@ returns g c =
     let before : is_honest disk c.run_turns.new.self → is_honest disk c.args.self.now = λ honest. kept.honest (c.run_turns.ensures.later.honest honest) in
     record {
       ready = record { sound = going.sound; settled = c.run_turns.ensures.settled; unready = λ honest. (turned honest (Of (number_at i a)) given.still).unready (given.unready (c.requires.unready (before honest))) };
-      later = later-at disk e c.args.self.now c.take_piece.new.self c.run_turns.new.self kept c.run_turns.ensures.later;
+      later = later-at disk n c.args.piece.now c.args.self.now c.take_piece.new.self c.run_turns.new.self (subst (λ k. AreStill (Of k) b) number given.still) kept c.run_turns.ensures.later;
       step = λ honest. step-taken a b d i n l c.args.piece.now (ready-of disk c.args.self.now c.requires (before honest)) f given (turned honest) c.run_turns.ensures.settled (full-is c.args.piece.now c.is_empty.result c.is_empty.ensures c.if-is_empty.false) (sym c.is_shut.ensures ∙ c.if-is_shut.false);
       last = going.last;
       numbers = going.numbers;

@@ -1,10 +1,9 @@
 use Rattle.std.proofs.Common.{◌≤◌, ◌^◌, ◌∙◌, ap, subst, sym}
 use Rattle.std.specs.Prelude.{max}
-use Rattle.kb_isolation_spec.specs.Machine.{Moment}
 use Rattle.kb_isolation_spec.specs.Broker.{BrokerState}
 use Rattle.kb_broker.specs.Hosts.{is_honest}
 use Rattle.kb_broker.specs.Parked.{AreAmong, AreWaitingOn}
-use Rattle.kb_broker.specs.Truth.{Begins}
+use Rattle.kb_broker.specs.Truth.{PassesAt}
 use Rattle.kb_broker.proofs.Honest.{later-begun, later-seen, state-is, store-is}
 use Rattle.kb_broker.proofs.Handled.{has-begun, in-time, sound-after}
 use Rattle.kb_broker.proofs.Parked.{waiting-on}
@@ -39,7 +38,7 @@ run_among-requires g c =
     let b = c.wake.new.self in
     let awake : IsAwake disk now answered a s b = record {
       ready = c.requires.ready;
-      first = later-seen disk (Begins (Moment now)) _ a s c.self.view_is (later-begun disk _ c.max-self-inside.result now s c.max-self-inside.ensures r.later);
+      first = later-seen disk (PassesAt now) _ a s c.self.view_is (later-begun disk _ c.max-self-inside.result now s c.max-self-inside.ensures r.later);
       begun = has-begun (is_honest disk s) now c.max-self-inside.result answered _ a.state s.state (state-is _ _ c.self.view_is) c.max-self-inside.ensures r.passed r.only_tenants r.leaves;
       going = w.continues;
       later = w.later;
@@ -65,7 +64,7 @@ run_all_turns-requires g c =
     let b = c.wake.new.self in
     let awake : IsAwake disk now answered a s b = record {
       ready = c.requires.ready;
-      first = later-seen disk (Begins (Moment now)) _ a s c.self.view_is (later-begun disk _ c.max-self-inside.result now s c.max-self-inside.ensures r.later);
+      first = later-seen disk (PassesAt now) _ a s c.self.view_is (later-begun disk _ c.max-self-inside.result now s c.max-self-inside.ensures r.later);
       begun = has-begun (is_honest disk s) now c.max-self-inside.result answered _ a.state s.state (state-is _ _ c.self.view_is) c.max-self-inside.ensures r.passed r.only_tenants r.leaves;
       going = w.continues;
       later = w.later;
@@ -90,7 +89,7 @@ returns-in-Some g c =
     let b = c.wake.new.self in
     let awake : IsAwake disk now answered a s b = record {
       ready = c.requires.ready;
-      first = later-seen disk (Begins (Moment now)) _ a s c.self.view_is (later-begun disk _ c.max-self-inside.result now s c.max-self-inside.ensures r.later);
+      first = later-seen disk (PassesAt now) _ a s c.self.view_is (later-begun disk _ c.max-self-inside.result now s c.max-self-inside.ensures r.later);
       begun = has-begun (is_honest disk s) now c.max-self-inside.result answered _ a.state s.state (state-is _ _ c.self.view_is) c.max-self-inside.ensures r.passed r.only_tenants r.leaves;
       going = w.continues;
       later = w.later;
@@ -113,7 +112,7 @@ returns-in-None g c =
     let b = c.wake.new.self in
     let awake : IsAwake disk now answered a s b = record {
       ready = c.requires.ready;
-      first = later-seen disk (Begins (Moment now)) _ a s c.self.view_is (later-begun disk _ c.max-self-inside.result now s c.max-self-inside.ensures r.later);
+      first = later-seen disk (PassesAt now) _ a s c.self.view_is (later-begun disk _ c.max-self-inside.result now s c.max-self-inside.ensures r.later);
       begun = has-begun (is_honest disk s) now c.max-self-inside.result answered _ a.state s.state (state-is _ _ c.self.view_is) c.max-self-inside.ensures r.passed r.only_tenants r.leaves;
       going = w.continues;
       later = w.later;

@@ -2,8 +2,10 @@ use Rattle.std.proofs.Common.{◌≡◌, ◌<◌, ℕ, Some, ◌∙◌, refl, ap
 use Rattle.kb_isolation_spec.specs.declared.shut.Shut.TheVariants as causes
 use Rattle.kb_isolation_spec.specs.Machine.{Line, work}
 use Rattle.kb_isolation_spec.specs.Session.{shut_down}
-use Rattle.kb_isolation_spec.specs.Broker.{BrokerState}
-use Rattle.kb_isolation_spec.specs.Turned.{IsGoing}
+use Rattle.kb_isolation_spec.specs.Broker.{AnyWait, AreUnready, BrokerState}
+use Rattle.kb_isolation_spec.specs.Turned.{Scope, AreStill, IsGoing}
+use Rattle.kb_broker.specs.declared.serving.Concerned.{Concerned}
+use Rattle.kb_broker.specs.declared.serving.Concerned.TheVariants as concerned
 use Rattle.kb_connection.specs.View.{stage_of}
 use Rattle.kb_tenant.specs.Told.{FailedBy}
 use Rattle.kb_tenants.specs.Counts.{all_counts}
@@ -19,7 +21,7 @@ use Rattle.kb_broker.proofs.Going.{left-by, not-parked, queue-turn, refused-left
 use Rattle.kb_broker.proofs.Fields.{rising-inside}
 use Rattle.kb_broker.proofs.Heard.{heard-set, roomy}
 use Rattle.kb_broker.proofs.Honest.{later-by, later-from, later-on, state-is, store-is}
-use Rattle.kb_broker.proofs.Truth.{refused_turn, true_turn}
+use Rattle.kb_broker.proofs.Truth.{refused_turn, true_turn, turn_on}
 use Rattle.kb_broker.proofs.RequestLimits.{limit-put}
 use Rattle.kb_broker.proofs.engine.Engine.serve.Given as given
 use Rattle.kb_broker.proofs.engine.Engine.serve.Goals as goal
@@ -80,24 +82,39 @@ invariant_of-self-in-Err g c =
           (at-inside _ c.args.self.now.state c.args.i c.index_mut-connection.result.now (state-is _ _ c.self.view_is) (at-read _ c.args.self.now.state c.args.i c.index_mut-connection.result.now (state-is _ _ c.self.view_is) c.requires.next.within c.index_mut-connection.ensures.value)) t.spent.limit c.self.invariant.3,
     )
 
+-- after it connections may take turns where they might
+served-still : (who : Concerned) (scope : Scope) (a b : BrokerState) → IsServedFor who scope a b → AreStill scope b
+served-still concerned.Nobody scope a b served = served.still
+served-still (concerned.These t ns) scope a b served = served.still
+served-still (concerned.All t) scope a b served = served.still
+
 -- what was said in it is the truth, whether it was refused or not
 turn-told : (g : given.Over) (old : g.row.S.Denot) (new : Tenants g.row.L.Denot g.row.S.Denot) (a b : BrokerState) (i : ℕ) (l m : Line) → let us = tenants_in g.L.PartitionLog.log g.S.Store.disk new in
     a ≡ b → shelf_is_honest g.S.Store.disk new → IsTaken (shelf_is_honest g.S.Store.disk new) b i l m us
     → IsToldAt (FailedBy (g.S.Store.disk old).failures (g.S.Store.disk new.shelf.store).failures new.shelf.next) (IsCatalogFull g.L.PartitionLog.log new) a.setup a.clock l.number l.session.stage a.tenants us l.session m.session
-    → SpeaksTruth b (put_with a i m us)
-turn-told g old new a b i l m here honest taken told =
-    true_turn (shelf_is_honest g.S.Store.disk new) honest (g.S.Store.disk old).failures (g.S.Store.disk new.shelf.store).failures new.shelf.next (commands_of g.L.PartitionLog.log new) a b i l m (tenants_in g.L.PartitionLog.log g.S.Store.disk new)
-    here taken.next.sound taken.at taken.number (taken.next.first l ∙ ap Some (sym taken.at.here)) taken.turn told
+    → IsTakenAt (shelf_is_honest g.S.Store.disk new) b.setup b.clock l.number l.session.stage b.tenants us l.session m.session
+    → AreUnready AnyWait b → ((scope : Scope) → AreStill scope b → AreStill scope (put_with a i m us)) → SpeaksTruth b (put_with a i m us)
+turn-told g old new a b i l m here honest taken told defined unready stills =
+    let disk = g.S.Store.disk in
+    let us = tenants_in g.L.PartitionLog.log disk new in
+    let same = subst (λ (x : BrokerState). IsToldAt (FailedBy (disk old).failures (disk new.shelf.store).failures new.shelf.next) (IsCatalogFull g.L.PartitionLog.log new) x.setup x.clock l.number l.session.stage x.tenants us l.session m.session) here told in
+    subst (λ (x : BrokerState). ((scope : Scope) → AreStill scope b → AreStill scope (put_with x i m us)) → SpeaksTruth b (put_with x i m us)) (sym here)
+    (true_turn (disk old).failures (disk new.shelf.store).failures new.shelf.next (commands_of g.L.PartitionLog.log new) b i l m us
+    taken.next.sound unready taken.at taken.number (taken.next.first l ∙ ap Some (sym taken.at.here)) (shelf_is_honest disk new) honest defined taken.spent (turn_on (shelf_is_honest disk new) honest l.session.stage b.tenants us taken.turn) same)
+    stills
 
 -- so it is of one that was refused, and then that was counted
 turn-refused : (g : given.Over) (old : g.row.S.Denot) (new : Tenants g.row.L.Denot g.row.S.Denot) (a b c : BrokerState) (i : ℕ) (l m : Line) → let us = tenants_in g.L.PartitionLog.log g.S.Store.disk new in
     a ≡ b → shelf_is_honest g.S.Store.disk new → IsTaken (shelf_is_honest g.S.Store.disk new) b i l m us
     → IsToldAt (FailedBy (g.S.Store.disk old).failures (g.S.Store.disk new.shelf.store).failures new.shelf.next) (IsCatalogFull g.L.PartitionLog.log new) a.setup a.clock l.number l.session.stage a.tenants us l.session m.session
     → m.session ≡ shut_down causes.Memory l.session → IsCountedAt l.number l.session.stage (put_with b i m us) c
-    → SpeaksTruth b c
-turn-refused g old new a b c i l m here honest taken told shut counted =
-    refused_turn (shelf_is_honest g.S.Store.disk new) honest (g.S.Store.disk old).failures (g.S.Store.disk new.shelf.store).failures new.shelf.next (commands_of g.L.PartitionLog.log new) a b c i l m (tenants_in g.L.PartitionLog.log g.S.Store.disk new)
-    here taken.next.sound taken.at taken.number (taken.next.first l ∙ ap Some (sym taken.at.here)) taken.turn told shut counted
+    → AreUnready AnyWait b → ((scope : Scope) → AreStill scope b → AreStill scope c) → SpeaksTruth b c
+turn-refused g old new a b c i l m here honest taken told shut counted unready stills =
+    let disk = g.S.Store.disk in
+    let us = tenants_in g.L.PartitionLog.log disk new in
+    let same = subst (λ (x : BrokerState). IsToldAt (FailedBy (disk old).failures (disk new.shelf.store).failures new.shelf.next) (IsCatalogFull g.L.PartitionLog.log new) x.setup x.clock l.number l.session.stage x.tenants us l.session m.session) here told in
+    refused_turn (disk old).failures (disk new.shelf.store).failures new.shelf.next (commands_of g.L.PartitionLog.log new) b i l m us
+    taken.next.sound unready taken.at taken.number (taken.next.first l ∙ ap Some (sym taken.at.here)) c taken.spent (turn_on (shelf_is_honest disk new) honest l.session.stage b.tenants us taken.turn) same shut counted stills
 
 pub returns-in-Ok : goal.returns-in-Ok
 returns-in-Ok g c =
@@ -112,7 +129,15 @@ returns-in-Ok g c =
     let G = shelf_is_honest disk c.self.inside.tenants in
     let q = c.self.inside.parking in
     let who = c.in-Ok.concerned in
-    let here = state-is _ _ c.self.view_is in
+    let a : BrokerState = record {
+      setup = c.self.inside.setup;
+      tenants = tenants_in g.L.PartitionLog.log disk c.self.inside.tenants;
+      unbound_refusals = c.self.inside.unbound_refusals;
+      clock = c.self.inside.clock;
+      last = c.self.inside.last;
+      lines = c.self.inside.connections.items;
+    } in
+    let here : a ≡ b = state-is _ _ c.self.view_is in
     let earlier = subst (λ (x : OnStore g.row.S.Denot). IsLaterWith (disk x.store) (disk c.take_turn-taken.new.tenants.shelf.store) x.strays (numbers_in c.take_turn-taken.new.tenants.strays) x.state.tenants us x.counts (all_counts c.take_turn-taken.new.tenants)) c.self.view_is t.later in
     let taken = taken-ok g c in
     let is : IsTakenAt H b.setup b.clock l.number l.session.stage b.tenants us l.session m.session =
@@ -122,10 +147,13 @@ returns-in-Ok g c =
     let left : H → IsLeftBy who b.setup b.clock l.session.stage l.number q b.tenants us l.session m.session = λ honest.
     subst (λ (x : BrokerState). IsLeftBy who x.setup x.clock l.session.stage l.number q x.tenants us l.session m.session) here (c.in-Ok.ensures.remaining honest) in
     let queue : IsQueueOf G q b.tenants b.lines = subst (λ (x : BrokerState). IsQueueOf G q x.tenants x.lines) here c.self.invariant.1 in
+    let served : H → (scope : Scope) → AreStill scope b → IsServedFor who scope b (put_with a i m us) = λ honest scope still.
+    subst (λ (x : BrokerState). IsServedFor who scope b (put_with x i m us)) (sym here) (served-by H honest G (t.later.honest honest) who scope b i l m us q still (c.requires.unready (earlier.honest honest)) taken is member c.in-Ok.ensures.tenant queue (left honest)) in
     record {
       continues = subst (λ (x : BrokerState). IsGoing b (put_with x i m us)) (sym here) (taken-going H b i l m us l.session.stage taken refl taken.turn is);
-      later = later-from disk SpeaksTruth c.args.self.now _ earlier (λ honest. turn-told g c.self.inside.tenants.shelf.store c.take_turn-taken.new.tenants _ b i l m here honest taken (t.told honest));
-      served = λ honest scope still. subst (λ (x : BrokerState). IsServedFor who scope b (put_with x i m us)) (sym here) (served-by H honest G (t.later.honest honest) who scope b i l m us q still (c.requires.unready (earlier.honest honest)) taken is member c.in-Ok.ensures.tenant queue (left honest));
+      later = later-from disk SpeaksTruth c.args.self.now _ earlier (λ honest. turn-told g c.self.inside.tenants.shelf.store c.take_turn-taken.new.tenants a b i l m here honest taken (t.told honest) is (c.requires.unready (earlier.honest honest))
+          (λ scope still. served-still who scope b (put_with a i m us) (served honest scope still)));
+      served = served;
       remaining = λ honest. subst (λ (x : BrokerState). IsLeftTo who (put_with x i m us)) (sym here)
           (left-by H honest G (t.later.honest honest) who b i l m us q (c.requires.unready (earlier.honest honest)) taken c.in-Ok.ensures.tenant queue (left honest));
       includes_itself = subst (IsOwnTo who) (sym (number_at-is b i l taken.at)) c.in-Ok.ensures.includes_itself;
@@ -159,12 +187,15 @@ returns-in-Err g c =
     let shares = all_counts c.take_turn-taken.new.tenants in
     let earlier = subst (λ (x : OnStore g.row.S.Denot). IsLaterWith (disk x.store) (disk store) x.strays strays x.state.tenants us x.counts shares) c.self.view_is t.later in
     let same = later-on disk store c.refuse.new.self.store strays c.refuse.new.self.strays us end.tenants shares c.refuse.new.self.counts c.refuse.ensures.store c.refuse.ensures.strays c.refuse.ensures.counts (names-counted l.number l.session.stage (put_with b i m us) end counted) (counts-counted l.number l.session.stage (put_with b i m us) end counted) in
+    let served : H → (scope : Scope) → AreStill scope b → IsServedFor who scope b end = λ honest scope still.
+    refused-for who l.session.stage scope b end all (served-refused H honest scope b end i l m us l.session.stage still taken refl shut taken.turn counted) in
     record {
       continues = refused-taken H b end i l m us l.session.stage taken refl shut taken.turn counted;
       later = later-from disk SpeaksTruth c.args.self.now c.refuse.new.self
           (later-by (disk c.args.self.now.store) (disk store) (disk c.refuse.new.self.store) c.args.self.now.strays strays c.refuse.new.self.strays b.tenants us end.tenants c.args.self.now.counts shares c.refuse.new.self.counts earlier same)
-          (λ honest. turn-refused g c.self.inside.tenants.shelf.store c.take_turn-taken.new.tenants _ b end i l m here (same.honest honest) taken (t.told (same.honest honest)) shut counted);
-      served = λ honest scope still. refused-for who l.session.stage scope b end all (served-refused H (same.honest honest) scope b end i l m us l.session.stage still taken refl shut taken.turn counted);
+          (λ honest. turn-refused g c.self.inside.tenants.shelf.store c.take_turn-taken.new.tenants _ b end i l m here (same.honest honest) taken (t.told (same.honest honest)) shut counted (c.requires.unready (earlier.honest (same.honest honest)))
+          (λ scope still. served-still who scope b end (served (same.honest honest) scope still)));
+      served = λ honest. served (same.honest honest);
       remaining = λ honest. refused-left who l.session.stage end all;
       includes_itself = refused-own who l.session.stage _ all;
       others = others-put b i l m end.lines taken.at taken.number (lines-counted l.number l.session.stage (put_with b i m us) end counted);

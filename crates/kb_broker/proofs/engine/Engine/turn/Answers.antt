@@ -5,7 +5,10 @@ use Rattle.kb_isolation_spec.proofs.Wakes.{turned-served}
 use Rattle.kb_broker.specs.Places.{number_at}
 use Rattle.kb_broker.specs.Parked.{AreMinded, IsConfined, IsLeftTo, IsOwnTo, IsServedFor, SameBut}
 use Rattle.kb_broker.proofs.Going.{confined-these, turned-these}
-use Rattle.kb_broker.proofs.Honest.{later-then}
+use Rattle.kb_isolation_spec.specs.Turned.{HasTenant}
+use Rattle.kb_broker.specs.Truth.{SpeaksFor, SpeaksTruth}
+use Rattle.kb_broker.proofs.Honest.{later-both, later-from}
+use Rattle.kb_broker.proofs.Truth.{turn_then}
 use Rattle.kb_broker.proofs.engine.Engine.turn.Goals as goal
 
 pub serve-concerned-requires : goal.serve-concerned-requires
@@ -44,7 +47,9 @@ returns-in-These g c =
     let same : SameBut ns b d = subst (λ ks. SameBut ks b d) c.deref.ensures.value w.same in
     record {
       continues = going-then a b d s.continues w.continues;
-      later = later-then g.S.Store.disk c.args.self.now c.serve-concerned.new.self c.wake_each.new.self s.later w.later;
+      later = later-from g.S.Store.disk SpeaksTruth c.args.self.now c.wake_each.new.self (later-both g.S.Store.disk SpeaksTruth (SpeaksFor (whoms.Tenant t)) c.args.self.now c.serve-concerned.new.self c.wake_each.new.self s.later w.later)
+          (λ honest. turn_then (whoms.Tenant t) a b d (s.later.spoken (w.later.honest honest)) (w.later.spoken honest)
+          (λ scope still u same. subst (HasTenant scope b) (sym same) (subst (λ r. IsServedFor r scope a b) c.in-These.is (s.served (w.later.honest honest) scope still)).tenants));
       turned = λ honest scope still.
           let before = w.later.honest honest in
           turned-these t ns scope a b d (subst (λ r. IsServedFor r scope a b) c.in-These.is (s.served before scope still))
@@ -62,7 +67,9 @@ returns-in-All g c =
     let w = c.wake_all.ensures in
     record {
       continues = going-then a b d s.continues w.continues;
-      later = later-then g.S.Store.disk c.args.self.now c.serve-concerned.new.self c.wake_all.new.self s.later w.later;
+      later = later-from g.S.Store.disk SpeaksTruth c.args.self.now c.wake_all.new.self (later-both g.S.Store.disk SpeaksTruth (SpeaksFor (whoms.Tenant c.in-All.tenant)) c.args.self.now c.serve-concerned.new.self c.wake_all.new.self s.later w.later)
+          (λ honest. turn_then (whoms.Tenant c.in-All.tenant) a b d (s.later.spoken (w.later.honest honest)) (w.later.spoken honest)
+          (λ scope still u same. subst (HasTenant scope b) (sym same) (subst (λ r. IsServedFor r scope a b) c.in-All.is (s.served (w.later.honest honest) scope still)).tenants));
       turned = λ honest scope still. turned-served c.in-All.tenant scope a b d (subst (λ r. IsServedFor r scope a b) c.in-All.is (s.served (w.later.honest honest) scope still)) (w.waked honest) (w.looked honest) (w.unready honest);
       confined = subst (λ r. IsConfined r (number_at c.args.i a) a d) (sym c.in-All.is) tt;
       shrinks = (let first = s.shrinks in let then = w.work in omega (arith, first, then));

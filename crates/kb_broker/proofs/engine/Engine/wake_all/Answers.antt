@@ -1,7 +1,9 @@
 use Rattle.std.proofs.Common.{◌≤◌, ◌∙◌, arith, length, rules, sym}
 use Rattle.kb_isolation_spec.proofs.Turns.{going-then}
 use Rattle.kb_broker.proofs.Fields.{all-free, none-passed}
-use Rattle.kb_broker.proofs.Honest.{later-then}
+use Rattle.kb_broker.specs.Truth.{SpeaksFor}
+use Rattle.kb_broker.proofs.Honest.{later-after}
+use Rattle.kb_broker.proofs.Truth.{looks_then}
 use Rattle.kb_broker.proofs.Looked.{passed-looked-all, passed-rest-all, waked-all}
 use Rattle.kb_broker.proofs.engine.Engine.wake_all.Goals as goal
 
@@ -15,7 +17,7 @@ loop-i-preserved g c =
     record {
       end = v.end;
       going = going-then c.args.self.now.state old new v.going t.more.going;
-      later = later-then g.S.Store.disk c.args.self.now c.loop-i.self c.look_at.new.self v.later t.later;
+      later = later-after g.S.Store.disk (SpeaksFor c.args.whom) (SpeaksFor c.args.whom) (SpeaksFor c.args.whom) c.args.self.now c.loop-i.self c.look_at.new.self v.later t.later (looks_then c.args.whom c.args.self.now.state old new v.going);
       work = (let before = v.work in omega (arith, before, size));
       waked = λ honest. t.waked honest c.args.self.now.state (v.waked (t.later.honest honest));
     }

@@ -1,7 +1,8 @@
 use Rattle.std.proofs.Common.{◌≡◌, ◌≤◌, length}
 use Rattle.kb_isolation_spec.specs.Machine.{work}
 use Rattle.kb_isolation_spec.specs.Turned.{IsGoing}
-use Rattle.kb_broker.specs.Hosts.{is_honest, IsLater}
+use Rattle.kb_broker.specs.Hosts.{is_honest, IsLaterBy}
+use Rattle.kb_broker.specs.Truth.{SpeaksFor}
 use Rattle.kb_broker.specs.Places.{AreWaked}
 use Rattle.kb_broker.proofs.engine.Engine.wake_all.Given as goal
 
@@ -11,7 +12,7 @@ invariant-loop-i g l =
     record {
       end : l.i-end ≡ length l.fn.self.state.lines;
       going : IsGoing l.fn.self.state l.self.state;
-      later : IsLater disk l.fn.self l.self;
+      later : IsLaterBy disk (SpeaksFor l.whom) l.fn.self l.self;
       work : work l.self.state.lines ≤ work l.fn.self.state.lines;
       waked : is_honest disk l.self → AreWaked l.whom l.fn.self.state l.self.state l.i;
     }

@@ -4,11 +4,13 @@ use Rattle.kb_isolation_spec.specs.Machine.{work}
 use Rattle.kb_isolation_spec.specs.Turned.{IsGoing, SameOthers}
 use Rattle.kb_isolation_spec.proofs.Sets.{find-none}
 use Rattle.kb_isolation_spec.proofs.Turns.{going-then}
-use Rattle.kb_broker.specs.Hosts.{OnStore, is_honest, IsLater}
+use Rattle.kb_broker.specs.Hosts.{OnStore, is_honest, IsLaterBy}
 use Rattle.kb_broker.specs.Parked.{AreMinded, SameBut}
 use Rattle.kb_broker.specs.Places.{number_at}
 use Rattle.kb_broker.proofs.Fields.{minded-take, number-some, same-more}
-use Rattle.kb_broker.proofs.Honest.{later-then}
+use Rattle.kb_broker.specs.Truth.{SpeaksFor}
+use Rattle.kb_broker.proofs.Honest.{later-after}
+use Rattle.kb_broker.proofs.Truth.{looks_then}
 use Rattle.kb_broker.proofs.Parked.{minded-absent}
 use Rattle.kb_broker.proofs.engine.Engine.wake_each.Goals as goal
 use Rattle.kb_broker.proofs.engine.Engine.wake_each.Goals.{in-Some, in_default}
@@ -27,7 +29,7 @@ loop-number-preserved g c =
     let Then : OnStore g.row.S.Denot → Type 0 = λ x. record {
       end : length ns ≡ length ns;
       going : IsGoing a.state x.state;
-      later : IsLater disk a x;
+      later : IsLaterBy disk (SpeaksFor whom) a x;
       minded : is_honest disk x → AreMinded whom a.state x.state (take (j + 1) ns);
       same : SameBut ns a.state x.state;
       work : work x.state.lines ≤ work a.state.lines;
@@ -44,7 +46,7 @@ loop-number-preserved g c =
           (record {
             end = refl;
             going = going-then a.state old.state new.state v.going t.more.going;
-            later = later-then disk a old new v.later t.later;
+            later = later-after disk (SpeaksFor whom) (SpeaksFor whom) (SpeaksFor whom) a old new v.later t.later (looks_then whom a.state old.state new.state v.going);
             minded = λ honest. minded-take whom a.state new.state ns j (number_at i old.state) lt at (t.minded honest a.state (take j ns) (v.minded (t.later.honest honest)));
             same = same-more ns n a.state old.state new.state (Contains-get_or ns j 0 lt) v.same (subst (λ m. SameOthers m old.state new.state) at t.more.others);
             work = omega (arith, size, before);

@@ -1,7 +1,8 @@
 use Rattle.std.proofs.Common.{◌≡◌, ◌≤◌, length, take}
 use Rattle.kb_isolation_spec.specs.Machine.{work}
 use Rattle.kb_isolation_spec.specs.Turned.{IsGoing}
-use Rattle.kb_broker.specs.Hosts.{is_honest, IsLater}
+use Rattle.kb_broker.specs.Hosts.{is_honest, IsLaterBy}
+use Rattle.kb_broker.specs.Truth.{SpeaksFor}
 use Rattle.kb_broker.specs.Parked.{AreMinded, SameBut}
 use Rattle.kb_broker.proofs.engine.Engine.wake_each.Given as goal
 
@@ -11,7 +12,7 @@ invariant-loop-number g l =
     record {
       end : l.number-index-end ≡ length l.numbers;
       going : IsGoing l.fn.self.state l.self.state;
-      later : IsLater disk l.fn.self l.self;
+      later : IsLaterBy disk (SpeaksFor l.whom) l.fn.self l.self;
       minded : is_honest disk l.self → AreMinded l.whom l.fn.self.state l.self.state (take l.number-index l.numbers);
       same : SameBut l.numbers l.fn.self.state l.self.state;
       work : work l.self.state.lines ≤ work l.fn.self.state.lines;

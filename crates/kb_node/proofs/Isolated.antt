@@ -7,17 +7,20 @@ use Rattle.kb_isolation_spec.specs.Session.{Session, new_session}
 use Rattle.kb_isolation_spec.specs.Greeting.{Setup}
 use Rattle.kb_isolation_spec.specs.Machine.{Happening, Opens, Comes, Closes, Moment, Line, Sent, View, each_line, find_line, leaving, on, run, sent, stepped, those, those_sent}
 use Rattle.kb_isolation_spec.specs.Owners.{Pairwise, concerns, greeted_so_far, destiny, purge}
-use Rattle.kb_isolation_spec.specs.Broker.{BrokerState, Grows, IsCalmFor, IsEventRun, IsStep, Mine, Rising, last_after, only, owned_by, view_of}
+use Rattle.kb_isolation_spec.specs.Broker.{AnyWait, BrokerState, Grows, IsCalmFor, IsEventRun, IsReady, IsStep, Mine, Rising, last_after, only, owned_by, view_of}
 use Rattle.kb_isolation_spec.specs.Calls.{closed, is_open, open_in, opened, other_than, output_in, output_of, output_taken, without_output}
-use Rattle.kb_isolation_spec.proofs.Laws.{those-each}
-use Rattle.kb_isolation_spec.proofs.Owned.{calm-nobody, found, not-found, owned-mine, unowned-mine}
-use Rattle.kb_isolation_spec.proofs.Owners.{SameFate, owns-fates}
+use Rattle.kb_isolation_spec.proofs.Laws.{none-those, those-each}
+use Rattle.kb_isolation_spec.proofs.Leaving.{find-those}
+use Rattle.kb_isolation_spec.proofs.Owned.{calm-nobody, found, not-found, owned-mine, run-after, run-lower, unowned-mine}
+use Rattle.kb_isolation_spec.proofs.Owners.{SameFate, owns-fates, those-on_other}
 use Rattle.kb_isolation_spec.proofs.Parts.{calm-first, calm-then, grows-same, grows-then}
 use Rattle.kb_isolation_spec.proofs.Runs.{run-step, those_sent-append}
+use Rattle.kb_isolation_spec.proofs.Wakes.{unready-view}
 use Rattle.kb_broker.specs.Hosts.{OnStore, is_honest}
 use Rattle.kb_broker.specs.Runs.{Leads, numbers_of_lines}
+use Rattle.kb_broker.specs.Truth.{ActsOn, IsSettled, Own, own_of}
 use Rattle.kb_node.specs.Traffic.{Along, AreDone, Commit, Deed, Event, Fail, IsDone, Take, events_of}
-use Rattle.kb_node.specs.Got.{AreIsolated, HasGot, taken_of}
+use Rattle.kb_node.specs.Got.{AreIsolated, GoAlone, HasGot, MayDo, is_own, own_deeds, taken_of}
 use Rattle.kb_node.proofs.PutBack.{IsNew, all_back, back-destiny, back-heard, back-stepped, put_back, view_back}
 
 -- 1. What deeds are on an honest store
@@ -550,7 +553,65 @@ module _ (t n : ℕ) (mine : ℕ → Bool) (own : mine n ≡ true) where
       clear j true e closed = refl
       clear j false e closed = none j (ap open_in (sym (closed_other j k x.lines e)) ∙ closed)
 
--- 6. From the beginning
+-- 6. Whatever was refused
+
+own_ready : (t : ℕ) (mine : ℕ → Bool) (es : List Happening) (b : BrokerState) → IsReady b → Mine t mine es b → IsSettled (own_of t mine b)
+own_ready t mine es b ready m = record { turns = none-those mine b.lines ready.settled; waits = unready-view AnyWait b t mine es ready.unready (λ w. tt) m }
+
+-- what is taken of the tenant's own connection, and of another's
+own_taken : (t n : ℕ) (mine : ℕ → Bool) (x : BrokerState)
+    → own_of t mine (output_taken x n) ≡ (let o = own_of t mine x in record o { view = record o.view { lines = each_line (on n without_output) o.view.lines } })
+own_taken t n mine x = ap (λ ls. let o : Own = record (own_of t mine x) { view = record (view_of t mine x) { lines = ls } } in o) (those-each mine (on n without_output) x.lines)
+
+others_taken : (t n : ℕ) (mine : ℕ → Bool) (x : BrokerState) → mine n ≡ false → own_of t mine (output_taken x n) ≡ own_of t mine x
+others_taken t n mine x other = ap (λ ls. let o : Own = record (own_of t mine x) { view = record (view_of t mine x) { lines = ls } } in o) (those-on_other mine n without_output x.lines other)
+
+module _ {S : Type 0} (disk : S → Disk) (known : Deed → S → Type 0) (t : ℕ) (mine : ℕ → Bool) where
+  -- a deed that is not the tenant's leaves what it has
+  other_first : (d : Deed) (ds : List Deed) (a next b : BrokerState) → is_own mine d ≡ false → own_of t mine next ≡ own_of t mine a → GoAlone t mine ds next b → GoAlone t mine (d ∷ ds) a b
+  other_first d ds a next b other same rest =
+      subst (λ (x : Bool). Along (MayDo t) (cond x (d ∷ own_deeds mine ds) (own_deeds mine ds)) (own_of t mine a) (own_of t mine b)) (sym other)
+      (subst (λ o. Along (MayDo t) (own_deeds mine ds) o (own_of t mine b)) same rest)
+
+  own_first : (d : Deed) (ds : List Deed) (a next b : BrokerState) → is_own mine d ≡ true → MayDo t d (own_of t mine a) (own_of t mine next) → GoAlone t mine ds next b → GoAlone t mine (d ∷ ds) a b
+  own_first d ds a next b ours does rest =
+      subst (λ (x : Bool). Along (MayDo t) (cond x (d ∷ own_deeds mine ds) (own_deeds mine ds)) (own_of t mine a) (own_of t mine b)) (sym ours) (own_of t mine next, does, rest)
+
+  happens : (x : Bool) (e : Happening) → concerns mine e ≡ x → (ds : List Deed) (a next b : BrokerState) → ActsOn t mine e (events_of ds) a next → IsSettled (own_of t mine next)
+      → GoAlone t mine ds next b → GoAlone t mine (Event e ∷ ds) a b
+  happens true e ours ds a next b acts settled rest = own_first (Event e) ds a next b ours (acts.own ours, settled) rest
+  happens false e other ds a next b acts settled rest = other_first (Event e) ds a next b other (acts.apart other) rest
+
+  takes : (x : Bool) (n : ℕ) → mine n ≡ x → (bytes : List ℕ) (ds : List Deed) (a next b : BrokerState) → next ≡ output_taken a n → bytes ≡ output_of n a
+      → GoAlone t mine ds next b → GoAlone t mine (Take n bytes ∷ ds) a b
+  takes true n ours bytes ds a next b is taken rest =
+      own_first (Take n bytes) ds a next b ours (taken ∙ ap output_in (sym (find-those mine n a.lines ours)), ap (own_of t mine) is ∙ own_taken t n mine a) rest
+  takes false n other bytes ds a next b is taken rest = other_first (Take n bytes) ds a next b other (ap (own_of t mine) is ∙ others_taken t n mine a other) rest
+
+  go_alone : (ds : List Deed) (a b : OnStore S) → AreDone disk known ds a b → is_honest disk b → IsEventRun a.state.last (events_of ds) → Mine t mine (events_of ds) a.state
+      → GoAlone t mine ds a.state b.state
+  go_alone [] a b done honest run m = ap (λ x. own_of t mine x.state) done
+  go_alone (Event e ∷ ds) a b done honest run m =
+      let told = honest_all disk known ds done.0 b done.2 honest in
+      let acts = done.1.spoken told t mine (events_of ds) run m in
+      let settled = own_ready t mine (events_of ds) done.0.state (done.1.ready told) acts.stays in
+      let rest = go_alone ds done.0 b done.2 honest (run-after done.0.state.last a.state.last e (events_of ds) (done.1.step told).last run) acts.stays in
+      happens (concerns mine e) e refl ds a.state done.0.state b.state acts settled rest
+  go_alone (Take n bytes ∷ ds) a b done honest run m =
+      let is : done.0.state ≡ output_taken a.state n = ap (λ x. x.state) done.1.0 in
+      let rest = go_alone ds done.0 b done.2 honest (subst (λ (x : BrokerState). IsEventRun x.last (events_of ds)) (sym is) run) (subst (Mine t mine (events_of ds)) (sym is) (mine_taken t n mine (events_of ds) a.state m)) in
+      takes (mine n) n refl bytes ds a.state done.0.state b.state is done.1.1 rest
+  -- a commit changes nothing of what the broker has
+  go_alone (Commit ∷ ds) a b done honest run m =
+      let is = done.1.0.state (honest_all disk known ds done.0 b done.2 honest) in
+      subst (λ x. GoAlone t mine ds x b.state) is
+      (go_alone ds done.0 b done.2 honest (subst (λ (x : BrokerState). IsEventRun x.last (events_of ds)) (sym is) run) (subst (Mine t mine (events_of ds)) (sym is) m))
+  go_alone (Fail ∷ ds) a b done honest run m =
+      let is = done.1.0.state (honest_all disk known ds done.0 b done.2 honest) in
+      subst (λ x. GoAlone t mine ds x b.state) is
+      (go_alone ds done.0 b done.2 honest (subst (λ (x : BrokerState). IsEventRun x.last (events_of ds)) (sym is) run) (subst (Mine t mine (events_of ds)) (sym is) m))
+
+-- 7. From the beginning
 
 none_back : (ls : List Line) → all_back (λ n. []) ls ≡ ls
 none_back [] = refl
@@ -563,10 +624,15 @@ isolated disk known tried deeds a b done in_order rises le honest = record {
   owned = λ t calm n own. got t n (owned_by t (events_of deeds) a.state) own (owned-mine t (events_of deeds) a.state rises) calm;
   unowned = λ sound n none calm. got (length a.state.tenants) n (only n) (its n) (unowned-mine n (events_of deeds) a.state sound none)
       (calm-nobody a.state b.state (grows_all deeds a.state b.state made) calm);
+  own = λ t. go_alone disk known t (owned_by t (events_of deeds) a.state) deeds a b done honest events (owned-mine t (events_of deeds) a.state rises);
+  stranger = λ sound n none. go_alone disk known (length a.state.tenants) (only n) deeds a b done honest events (unowned-mine n (events_of deeds) a.state sound none);
 }
   where
     made : Along IsMade deeds a.state b.state
     made = made_all disk known deeds a b done honest
+
+    events : IsEventRun a.state.last (events_of deeds)
+    events = run-lower a.state.last tried (events_of deeds) le in_order
 
     its : (n : ℕ) → only n n ≡ true
     its n = grind (arith, nat_tests)

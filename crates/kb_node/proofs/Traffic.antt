@@ -6,8 +6,10 @@ use Rattle.std.specs.Io.KnownBytes.{Appends, Consumes}
 use Rattle.kb_store.specs.Disk.{Disk}
 use Rattle.kb_isolation_spec.specs.Machine.{Opens}
 use Rattle.kb_isolation_spec.specs.Calls.{opened, IsRefusedUnbound}
-use Rattle.kb_broker.specs.Hosts.{OnStore, StepsTo}
+use Rattle.kb_broker.specs.Hosts.{OnStore, IsReadyOn, StepsTo}
+use Rattle.kb_broker.specs.Truth.{SpeaksAt}
 use Rattle.kb_broker.specs.Runs.{unkept}
+use Rattle.kb_broker.proofs.Honest.{ready-of}
 use Rattle.kb_node.specs.Traffic.{Along, AreDone, Commit, Deed, Event, Fail, Happens, IsDone, Take}
 
 pub along_then : {D X : Type 0} (Does : D → X → X → Type 0) (ds es : List D) (a b c : X) → Along Does ds a b → Along Does es b c → Along Does (ds ++ es) a c
@@ -69,15 +71,19 @@ consumes_none (Some xs) = refl
 
 -- a connection that opens, or could not be kept
 pub opens : {S A E : Type 0} (disk : S → Disk) (n : ℕ) (a b : OnStore S) (r : Result A E) → b.store ≡ a.store → StepsTo disk (Opens n) a b
-    → a.state.last < n → OnOk r (b.state ≡ opened a.state n) → OnErr r (IsRefusedUnbound a.state b.state) → Happens disk (Opens n) a b
-opens disk n a b (Ok done) store step rises is refused = record {
+    → SpeaksAt (Opens n) a.state b.state → IsReadyOn disk b → a.state.last < n → OnOk r (b.state ≡ opened a.state n) → OnErr r (IsRefusedUnbound a.state b.state) → Happens disk (Opens n) a b
+opens disk n a b (Ok done) store step spoken ready rises is refused = record {
   step = step;
+  spoken = λ honest. spoken;
+  ready = ready-of disk b ready;
   honest = λ honest. subst (λ s. (disk s).honest) store honest;
   within = (rises, tt);
   leads = ([], inl (is, refl));
 }
-opens disk n a b (Err fault) store step rises is refused = record {
+opens disk n a b (Err fault) store step spoken ready rises is refused = record {
   step = step;
+  spoken = λ honest. spoken;
+  ready = ready-of disk b ready;
   honest = λ honest. subst (λ s. (disk s).honest) store honest;
   within = (rises, tt);
   leads = (unkept n ∷ [], inr (refused, refl));

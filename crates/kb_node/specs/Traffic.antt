@@ -4,10 +4,11 @@ use Rattle.std.specs.List.{AllByRecursion}
 use Rattle.std.specs.Io.KnownBytes.{Appends, Consumes}
 use Rattle.kb_store.specs.Disk.{Disk}
 use Rattle.kb_isolation_spec.specs.Machine.{Happening, Opens, Comes, Closes, Moment, Sent}
-use Rattle.kb_isolation_spec.specs.Broker.{IsEventRun, last_after}
+use Rattle.kb_isolation_spec.specs.Broker.{IsEventRun, IsReady, last_after}
 use Rattle.kb_isolation_spec.specs.Calls.{output_taken, output_of}
 use Rattle.kb_broker.specs.Hosts.{OnStore, is_honest, StepsTo}
 use Rattle.kb_broker.specs.Runs.{Leads}
+use Rattle.kb_broker.specs.Truth.{SpeaksAt}
 
 -- 1. One thing after another
 
@@ -25,10 +26,12 @@ pub data Deed : Type 0 where
   Commit : Deed
   Fail : Deed
 
--- An event: a step, unless the store lied, and it had told the truth before if it still does. The number of a connection that opens is
--- above all before, and no moment is after MAX_CLOCK.
+-- An event: a step, in which each tenant is told the truth, up to its end, unless the store lied; and it had told the truth before if it
+-- still does. The number of a connection that opens is above all before, and no moment is after MAX_CLOCK.
 pub record Happens {S : Type 0} (disk : S → Disk) (e : Happening) (old new : OnStore S) : Type 0 where
   pub step : StepsTo disk e old new
+  pub spoken : is_honest disk new → SpeaksAt e old.state new.state
+  pub ready : is_honest disk new → IsReady new.state
   pub honest : is_honest disk new → is_honest disk old
   pub within : IsEventRun old.state.last (e ∷ [])
   pub leads : (ended : List Sent) × Leads e old.state new.state ended

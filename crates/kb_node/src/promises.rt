@@ -51,6 +51,8 @@ pub fn sockets_stand_by_number<S: Store, T: Read + Write>()
 /// Turns keep tenants apart, as a run of the broker does (`Broker::run`): what was taken of a tenant's connections in them is what the
 /// machine of that tenant alone writes to them, given the tenant's events and the moments, up to what was not taken. That is so where the
 /// store is honest to the end, for a tenant to which nothing was refused, and nothing to a connection that was not bound.
+///
+/// Whatever was refused, it is what that machine may have had to say that may be refused something at each step (`own`).
 pub fn turns_keep_tenants_apart<S: Store>()
     ensures { (commits : Commits) (nows : List ℕ) → (from to : Host S)
         → (run : IsRunThrough S.disk (lasting S.settled S.disk S.loss commits) nows from to)

@@ -12,4 +12,5 @@ returns-clause-happens g c =
     let same = ap (λ (h : Host g.row.S.Denot). h.broker) c.self.view_is in
     subst (λ (b : OnStore g.row.S.Denot). Happens disk (Opens c.args.number) b c.connect.new.self) same
     (opens disk c.args.number c.self.inside.broker c.connect.new.self c.connect.result c.connect.ensures.store c.connect.ensures.step
+    c.connect.ensures.spoken c.connect.ensures.ready
     (subst (λ (b : OnStore g.row.S.Denot). b.state.last < c.args.number) (sym same) c.requires.last) c.connect.ensures.ok c.connect.ensures.err)
